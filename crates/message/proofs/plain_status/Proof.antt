@@ -1,0 +1,14 @@
+use mathlib.Core.Path.{refl}
+use Rattle.message.specs.Kinds.{kindAt, plainStatus, refusalStatus, markedStatus}
+use Rattle.message.proofs.plain_status.Statement.{statement}
+use Rattle.message.proofs.plain_status.Tie as tie
+use Rattle.message.proofs.plain_status.Reads as reads
+use Rattle.message.proofs.plain_status.Lts as lts
+
+-- src/lib.rt:184:1
+returns : tie.Need-returns
+unfolding plainStatus
+returns c = refl
+
+pub plain-status-spec : {M : Type 1} → statement M
+plain-status-spec = tie.close (tie.spec returns)

@@ -1,0 +1,24 @@
+use Rattle.message.specs.Kinds.{kindAt, plainStatus, refusalStatus, markedStatus}
+use borrow.Author.Tests.{lt-ltb, le-ltb, le-leb, lt-leb, eq-eqb, ne-eqb}
+use Rattle.message.proofs.refusal_status.Statement.{statement}
+use Rattle.message.proofs.refusal_status.Tie as tie
+use Rattle.message.proofs.refusal_status.Reads as reads
+use Rattle.message.proofs.refusal_status.Lts as lts
+
+-- src/lib.rt:195:9
+returns : tie.Need-returns
+unfolding refusalStatus
+returns c = rw (c .if1 .taken)
+
+-- src/lib.rt:198:9
+returns-2 : tie.Need-returns-2
+unfolding refusalStatus
+returns-2 c = simp (ne-eqb _ _ (c .before .if1 .left), lt-leb _ _ (c .if2 .taken))
+
+-- src/lib.rt:191:1
+returns-3 : tie.Need-returns-3
+unfolding refusalStatus
+returns-3 c = simp (ne-eqb _ _ (c .before .if1 .left), le-leb _ _ (c .if2 .left))
+
+pub refusal-status-spec : {M : Type 1} → statement M
+refusal-status-spec = tie.close (tie.spec returns returns-2 returns-3)

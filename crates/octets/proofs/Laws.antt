@@ -1,0 +1,208 @@
+-- Laws of octets laid over a buffer, and of the one's complement sum. Assumes nothing.
+use Prim.Native.Nat.{ℕ, zero, suc, _+_, _-_, _*_, _/_, _%_, _≤_, _<_}
+use native.Mathlib.Nat.{le-refl, add-zero, zero-add}
+use native.Mathlib.Omega.{arith}
+use borrow.Author.Tests.{lt-ltb, le-ltb, ltb-true, ltb-false}
+use mathlib.Core.Path.{_≡_, refl, sym, ap, _∙_}
+use mathlib.Core.Bool.{Bool, true, false, cond}
+use mathlib.Core.List.{List, [], _∷_, _++_, append-assoc}
+use lib.ListN.{length, take, drop, getD, set, length-drop, length-append, length-set}
+use lib.Seq.{take-all, set-out, set-set, set-comm, set-getD, getD-set-same, getD-set-other, take-length, drop-drop, drop-append-add, sets, sets-eq}
+use lib.Dec.{ltb}
+use Rattle.octets.specs.Numbers.{pairOf, Octets}
+use Rattle.octets.specs.Buffer.{over}
+use Rattle.octets.specs.Checksum.{onesAdd, onesSum, blanked, checksumOf, sealed, wordTotal, folded, FoldLaws}
+
+-- a part to the end
+pub part-from : (a : ℕ) (t : List ℕ) → take (length t - a) (drop a t) ≡ drop a t
+part-from a t = take-all (length t - a) (drop a t) (simp length-drop (le-refl (length t - a)))
+
+-- ---- octets over a buffer
+
+-- what bytes::copy leaves
+pub over-copied : (octets buffer : List ℕ) → take (length octets) octets ++ drop (length octets) buffer ≡ over octets buffer
+unfolding over
+over-copied octets buffer = rw take-length
+
+pub over-length : (octets buffer : List ℕ) → length octets ≤ length buffer → length (over octets buffer) ≡ length buffer
+unfolding over
+over-length octets buffer h = simp (length-append, length-drop) (omega arith)
+
+pub over-nothing : (buffer : List ℕ) → over [] buffer ≡ buffer
+unfolding over
+over-nothing buffer = refl
+
+-- ---- the one's complement sum, along a loop over tails
+
+pub sum-turn : (s : ℕ) (l : List ℕ) → 1 < length l
+    → onesSum s l ≡ onesSum (onesAdd s (pairOf (getD l 0 0) (getD l 1 0))) (take (length l - 2) (drop 2 l))
+unfolding onesSum
+sum-turn s [] h = absurd (omega arith)
+sum-turn s (a ∷ []) h = absurd (omega arith)
+sum-turn s (a ∷ b ∷ rest) h = rw (part-from 2 (a ∷ b ∷ rest))
+
+pub sum-odd : (s : ℕ) (l : List ℕ) → length l ≡ 1 → onesSum s l ≡ onesAdd s (pairOf (getD l 0 0) 0)
+unfolding onesSum
+sum-odd s [] e = absurd (omega arith)
+sum-odd s (a ∷ []) e = refl
+sum-odd s (a ∷ b ∷ rest) e = absurd (omega arith)
+
+pub sum-done : (s : ℕ) (l : List ℕ) → length l ≤ 1 → (length l ≡ 1 → ⊥) → onesSum s l ≡ s
+unfolding onesSum
+sum-done s [] h n = refl
+sum-done s (a ∷ []) h n = absurd (n refl)
+sum-done s (a ∷ b ∷ rest) h n = absurd (omega arith)
+
+-- ---- the checksum's field taken as 0
+
+-- a word of 0 adds nothing to a 16-bit sum
+pub add-zero-word : (x : ℕ) → x < 65536 → onesAdd x 0 ≡ x
+unfolding onesAdd
+add-zero-word x h = rw add-zero (simp (lt-ltb x 65536 h))
+
+pub blanked-short : (m : List ℕ) → length m < 5 → onesSum 0 m ≡ onesSum 0 (blanked m)
+blanked-short m h =
+    let p : length m ≤ 4 = omega arith in
+    let q : length m ≤ 5 = omega arith in
+    rw (set-out m 4 0 p, set-out m 5 0 q)
+
+pub blanked-front : (m : List ℕ) → 5 ≤ length m → length m < 7 → onesSum 0 (take 4 m) < 65536 → onesSum 0 (take 4 m) ≡ onesSum 0 (blanked m)
+unfolding onesSum
+blanked-front [] p q h = absurd (omega arith)
+blanked-front (a ∷ []) p q h = absurd (omega arith)
+blanked-front (a ∷ b ∷ []) p q h = absurd (omega arith)
+blanked-front (a ∷ b ∷ c ∷ []) p q h = absurd (omega arith)
+blanked-front (a ∷ b ∷ c ∷ d ∷ []) p q h = absurd (omega arith)
+blanked-front (a ∷ b ∷ c ∷ d ∷ e ∷ []) p q h = sym (add-zero-word (onesAdd (onesAdd 0 (pairOf a b)) (pairOf c d)) h)
+blanked-front (a ∷ b ∷ c ∷ d ∷ e ∷ f ∷ []) p q h = sym (add-zero-word (onesAdd (onesAdd 0 (pairOf a b)) (pairOf c d)) h)
+blanked-front (a ∷ b ∷ c ∷ d ∷ e ∷ f ∷ g ∷ m) p q h = absurd (omega arith)
+
+-- a list of six or more, written out
+pub six-or-more : (P : List ℕ → Type 0) → ((a b c d e f : ℕ) (rest : List ℕ) → P (a ∷ b ∷ c ∷ d ∷ e ∷ f ∷ rest)) → (m : List ℕ) → 6 ≤ length m → P m
+six-or-more P p [] h = absurd (omega arith)
+six-or-more P p (a ∷ []) h = absurd (omega arith)
+six-or-more P p (a ∷ b ∷ []) h = absurd (omega arith)
+six-or-more P p (a ∷ b ∷ c ∷ []) h = absurd (omega arith)
+six-or-more P p (a ∷ b ∷ c ∷ d ∷ []) h = absurd (omega arith)
+six-or-more P p (a ∷ b ∷ c ∷ d ∷ e ∷ []) h = absurd (omega arith)
+six-or-more P p (a ∷ b ∷ c ∷ d ∷ e ∷ f ∷ rest) h = p a b c d e f rest
+
+pub blanked-rest : (m : List ℕ) → 6 ≤ length m → onesSum 0 (take 4 m) < 65536 → onesSum (onesSum 0 (take 4 m)) (drop 6 m) ≡ onesSum 0 (blanked m)
+unfolding onesSum
+blanked-rest m p =
+    six-or-more (λ m. onesSum 0 (take 4 m) < 65536 → onesSum (onesSum 0 (take 4 m)) (drop 6 m) ≡ onesSum 0 (blanked m))
+    (λ a b c d e f rest h. ap (λ (x : ℕ). onesSum x rest) (sym (add-zero-word (onesAdd (onesAdd 0 (pairOf a b)) (pairOf c d)) h))) m p
+
+-- ---- a message with its checksum put in
+
+pub sealed-none : (m : List ℕ) → length m < 5 → m ≡ sealed m
+unfolding sealed
+sealed-none m h =
+    let p : length m ≤ 4 = omega arith in
+    let q : length m ≤ 5 = omega arith in
+    rw (set-out m 4 (checksumOf m / 256 % 256) p, set-out m 5 (checksumOf m % 256) q)
+
+pub sealed-half : (m : List ℕ) (x : ℕ) → x ≡ checksumOf m → length m < 6 → set m 4 (x / 256 % 256) ≡ sealed m
+unfolding sealed
+sealed-half m x e h =
+    rw (← e) (sym (set-out (set m 4 (x / 256 % 256)) 5 (x % 256) (rw length-set (omega arith))))
+
+pub sealed-length : (m : List ℕ) → length (sealed m) ≡ length m
+unfolding sealed
+sealed-length m = rw (length-set, length-set)
+
+-- the field does not count
+pub blanked-sealed : (m : List ℕ) → blanked (sealed m) ≡ blanked m
+unfolding sealed
+blanked-sealed [] = refl
+blanked-sealed (a ∷ []) = refl
+blanked-sealed (a ∷ b ∷ []) = refl
+blanked-sealed (a ∷ b ∷ c ∷ []) = refl
+blanked-sealed (a ∷ b ∷ c ∷ d ∷ []) = refl
+blanked-sealed (a ∷ b ∷ c ∷ d ∷ e ∷ []) = refl
+blanked-sealed (a ∷ b ∷ c ∷ d ∷ e ∷ f ∷ m) = refl
+
+pub checksum-sealed : (m : List ℕ) → checksumOf (sealed m) ≡ checksumOf m
+unfolding checksumOf
+checksum-sealed m = ap (λ (l : List ℕ). 65535 - onesSum 0 l) (blanked-sealed m)
+
+pub checksum-below : (m : List ℕ) → checksumOf m < 65536
+unfolding checksumOf
+checksum-below m = omega arith
+
+-- 01: "The field must equal that number": it does in a message that was sealed
+pub field-sealed : (m : List ℕ) → 6 ≤ length m → pairOf (getD (sealed m) 4 0) (getD (sealed m) 5 0) ≡ checksumOf (sealed m)
+unfolding sealed
+field-sealed m h =
+    six-or-more (λ m. pairOf (getD (sealed m) 4 0) (getD (sealed m) 5 0) ≡ checksumOf m)
+    (λ a b c d e f rest. omega (arith, checksum-below (a ∷ b ∷ c ∷ d ∷ e ∷ f ∷ rest))) m h
+    ∙ sym (checksum-sealed m)
+
+-- a message whose field is right is what sealing makes of it
+pub sealed-right : (o : List ℕ) → 6 ≤ length o → getD o 4 0 < 256 → getD o 5 0 < 256
+    → pairOf (getD o 4 0) (getD o 5 0) ≡ checksumOf o → sealed o ≡ o
+unfolding sealed
+sealed-right o h =
+    six-or-more (λ o. getD o 4 0 < 256 → getD o 5 0 < 256 → pairOf (getD o 4 0) (getD o 5 0) ≡ checksumOf o → sealed o ≡ o)
+    (λ a b c d e f rest p q r.
+    let x : checksumOf (a ∷ b ∷ c ∷ d ∷ e ∷ f ∷ rest) / 256 % 256 ≡ e = omega arith in
+    let y : checksumOf (a ∷ b ∷ c ∷ d ∷ e ∷ f ∷ rest) % 256 ≡ f = omega arith in
+    rw (x, y)) o h
+
+-- sealing sees nothing of the field
+pub sealed-blanked : (o : List ℕ) → 6 ≤ length o → sealed (blanked o) ≡ sealed o
+unfolding sealed checksumOf
+sealed-blanked o h = six-or-more (λ o. sealed (blanked o) ≡ sealed o) (λ a b c d e f rest. refl) o h
+
+-- ---- folding once, at the end
+
+fold-positive : (n : ℕ) → 0 < n → folded n ≡ (n - 1) % 65535 + 1
+unfolding folded
+fold-positive zero h = absurd (omega arith)
+fold-positive (suc n) h = omega arith
+
+fold-sum : (s : ℕ) → s < 65536 → s ≡ folded s
+unfolding folded
+fold-sum zero h = refl
+fold-sum (suc n) h = omega arith
+
+-- a word taken into the sum, with the carry brought round
+fold-word : (s w t : ℕ) → s < 65536 → w < 65536 → folded (onesAdd s w + t) ≡ folded (s + (w + t))
+unfolding onesAdd
+fold-word s w t p q = go (ltb (s + w) 65536) refl
+  where
+    go : (b : Bool) → ltb (s + w) 65536 ≡ b → folded (cond (ltb (s + w) 65536) (s + w) (s + w - 65535) + t) ≡ folded (s + (w + t))
+    go true e = let k : s + w + t ≡ s + (w + t) = omega arith in rw e (ap folded k)
+    go false e =
+        let h = ltb-false (s + w) 65536 e in
+        let k : 0 < s + w - 65535 + t = omega arith in
+        let l : 0 < s + (w + t) = omega arith in
+        rw (e, fold-positive (s + w - 65535 + t) k, fold-positive (s + (w + t)) l) (omega arith)
+
+add-below : (s w : ℕ) → s < 65536 → w < 65536 → onesAdd s w < 65536
+unfolding onesAdd
+add-below s w p q = go (ltb (s + w) 65536) refl
+  where
+    go : (b : Bool) → ltb (s + w) 65536 ≡ b → cond (ltb (s + w) 65536) (s + w) (s + w - 65535) < 65536
+    go true e = rw e (ltb-true (s + w) 65536 e)
+    go false e = let h = ltb-false (s + w) 65536 e in rw e (omega arith)
+
+-- the sum from any 16-bit start
+sum-folds : (s : ℕ) (l : List ℕ) → s < 65536 → Octets l → onesSum s l ≡ folded (s + wordTotal l)
+unfolding onesSum wordTotal
+sum-folds s [] p o = rw add-zero (fold-sum s p)
+sum-folds s (a ∷ []) p o =
+    let w : pairOf a 0 < 65536 = omega (arith, o 0) in
+    fold-sum (onesAdd s (pairOf a 0)) (add-below s (pairOf a 0) p w)
+    ∙ ap folded (sym (add-zero (onesAdd s (pairOf a 0))))
+    ∙ fold-word s (pairOf a 0) 0 p w
+    ∙ ap (λ (x : ℕ). folded (s + x)) (add-zero (pairOf a 0))
+sum-folds s (a ∷ b ∷ rest) p o =
+    let w : pairOf a b < 65536 = omega (arith, o 0, o 1) in
+    sum-folds (onesAdd s (pairOf a b)) rest (add-below s (pairOf a b) p w) (λ i. o (suc (suc i)))
+    ∙ fold-word s (pairOf a b) (wordTotal rest) p w
+
+pub folds : FoldLaws
+unfolding folded
+folds =
+    record { once = λ l o. sum-folds 0 l (omega arith) o ∙ ap folded (zero-add (wordTotal l)); modulo = λ m n e. omega arith }

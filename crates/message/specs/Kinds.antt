@@ -41,9 +41,13 @@ abbrev pub among : List Kind → ℕ → ℕ → Known
 among [] number code = Unknown
 among (k ∷ rest) number code = cond (eqb number (typeOf k) && eqb code (codeOf k)) (Is k) (among rest number code)
 
--- 01: "one of ten kinds"; any other pair is unknown
+-- 01: "one of ten kinds"
+abbrev pub allKinds : List Kind
+allKinds = Request ∷ Confirm ∷ Refuse ∷ Cease ∷ CeaseAck ∷ Hello ∷ IHeardYou ∷ Poll ∷ Update ∷ Error ∷ []
+
+-- the kind that a type and a code name; any other pair is unknown
 unfoldable pub kindAt : ℕ → ℕ → Known
-kindAt number code = among (Request ∷ Confirm ∷ Refuse ∷ Cease ∷ CeaseAck ∷ Hello ∷ IHeardYou ∷ Poll ∷ Update ∷ Error ∷ []) number code
+kindAt number code = among allKinds number code
 
 -- 01: "0 to 2"
 unfoldable pub plainStatus : ℕ → Bool

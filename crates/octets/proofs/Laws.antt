@@ -111,6 +111,11 @@ pub sealed-length : (m : List ℕ) → length (sealed m) ≡ length m
 unfolding sealed
 sealed-length m = rw (length-set, length-set)
 
+-- the first octet is none of the field's
+pub sealed-first : (m : List ℕ) → 6 ≤ length m → getD (sealed m) 0 0 ≡ getD m 0 0
+unfolding sealed
+sealed-first m h = six-or-more (λ m. getD (sealed m) 0 0 ≡ getD m 0 0) (λ a b c d e f rest. refl) m h
+
 -- the field does not count
 pub blanked-sealed : (m : List ℕ) → blanked (sealed m) ≡ blanked m
 unfolding sealed

@@ -1,0 +1,4 @@
+pub mod Blocks
+pub mod Writable
+pub mod Claims
+pub mod Steps

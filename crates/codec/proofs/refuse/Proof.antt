@@ -1,0 +1,15 @@
+use mathlib.Core.Path.{_≡_, refl, _∙_, sym, ap}
+use Rattle.rows.specs.Storing.{zeros}
+use Rattle.codec.specs.Reading.{refusal, rowless, updateReading, meaningReading, readOf}
+use Rattle.codec.proofs.refuse.Statement.{statement}
+use Rattle.codec.proofs.refuse.Tie as tie
+use Rattle.codec.proofs.refuse.Reads as reads
+use Rattle.codec.proofs.refuse.Lts as lts
+
+-- src/lib.rt:139:1
+returns : tie.Need-returns
+unfolding refusal zeros
+returns c = refl
+
+pub refuse-spec : {M : Type 1} → statement M
+refuse-spec = tie.close (tie.spec returns)

@@ -1,0 +1,209 @@
+// The codec of all ten kinds: reading alone, and writing.
+use message::Message;
+use walk::Walked;
+use wire::Decoded;
+ghost use mathlib.Core.Path.{_≡_};
+ghost use mathlib.Core.Bool.{true};
+ghost use Prim.Native.Nat.{_≤_};
+ghost use lib.ListN.{length};
+ghost use Rattle.octets.specs.Buffer.{over};
+ghost use Rattle.nets.specs.Classes.{goodNet};
+ghost use Rattle.nets.specs.Rows.{rowsOf};
+ghost use Rattle.blocks.specs.Writable.{writableNumbers};
+ghost use Rattle.walk.specs.Body.{updateOf};
+ghost use Rattle.walk.specs.Walked.{walkedNumber};
+ghost use Rattle.codec.specs.Reading.{most, refusal, updateReading, meaningReading, readOf};
+ghost use Rattle.codec.specs.Octets.{updateOctets, octetsOf};
+ghost use Rattle.codec.specs.Writing.{rowsFit, roomFor, rowsAllowed, writable, writeOf, writeOctets};
+
+// What reading alone finds: the message, or 01's number.
+pub enum Meaning {
+    Good(Message),
+    Refused(u8),
+}
+
+// The meaning, and an Update's rows: how many, and their numbers, three a row, zeros after them.
+pub struct Reading {
+    pub meaning: Meaning,
+    pub count: u16,
+    pub rows: [u32; 384],
+}
+
+// The writer's answer, and how many octets it wrote.
+pub struct Written {
+    pub answer: u8,
+    pub length: u16,
+}
+
+// Writes an Update at the front of the buffer, its rows given as numbers, three a row, and says how long it is.
+fn write_update(
+    buffer: &mut [u8],
+    asn: u16,
+    sequence: u16,
+    status: u8,
+    net: u32,
+    rows: &[u32],
+) -> usize
+    requires { ⌜ (goodNet net ≡ true) × (writableNumbers net (now rows) ≡ true) ⌝ }
+    requires { ⌜ 1168 ≤ length (now buffer) ⌝ }
+    ensures { λ r. ⌜ r ≡ length (updateOctets asn sequence status net (rowsOf (now (rows .entry)))) ⌝ }
+    ensures { λ _. ⌜ now (buffer .exit) ≡ over (updateOctets asn sequence status net (rowsOf (now (rows .entry)))) (now (buffer .entry)) ⌝ }
+{
+    let blocks = blocks::write_blocks(buffer, 16, net, rows);
+    wire::store_head(
+        buffer,
+        blocks.internal,
+        blocks.external,
+        asn,
+        sequence,
+        status,
+        net,
+    );
+    let end = blocks.end;
+    octets::seal(&mut buffer[..end]);
+    end
+}
+
+// Writes a message that the reader can give at the front of the buffer, and says how long it is.
+pub fn write_message(buffer: &mut [u8], message: Message, rows: &[u32]) -> usize
+    requires { ⌜ rowsFit message (now rows) ≡ true ⌝ }
+    requires { ⌜ roomFor message ≤ length (now buffer) ⌝ }
+    ensures { λ r. ⌜ r ≡ length (octetsOf message (rowsOf (now (rows .entry)))) ⌝ }
+    ensures { λ _. ⌜ now (buffer .exit) ≡ over (octetsOf message (rowsOf (now (rows .entry)))) (now (buffer .entry)) ⌝ }
+{
+    if let Message::Update {
+        asn,
+        sequence,
+        status,
+        net,
+    } = message {
+        write_update(buffer, asn, sequence, status, net, rows)
+    } else {
+        wire::write_fixed(buffer, message)
+    }
+}
+
+// Whether these rows may stand beside a message.
+fn rows_allowed(message: Message, rows: &[u32]) -> bool
+    ensures { λ r. ⌜ r ≡ rowsAllowed message (now (rows .entry)) ⌝ }
+{
+    if let Message::Update {
+        asn: _,
+        sequence: _,
+        status: _,
+        net,
+    } = message {
+        if nets::good_net(net) {
+            return blocks::writable(net, rows);
+        }
+        return false;
+    }
+    rows.len() == 0
+}
+
+// Whether the reader can give this message with these rows.
+fn is_writable(message: Message, rows: &[u32]) -> bool
+    ensures { λ r. ⌜ r ≡ writable message (now (rows .entry)) ⌝ }
+{
+    if message::status_allowed(message::kind_of(message), message::status_of(message)) {
+        return rows_allowed(message, rows);
+    }
+    false
+}
+
+// Writes a message of any kind: 3 for a short buffer, 16 for what the reader never gives.
+pub fn write(buffer: &mut [u8], message: Message, rows: &[u32]) -> Written
+    ensures { λ r. ⌜ r ≡ writeOf message (now (rows .entry)) (now (buffer .entry)) ⌝ }
+    ensures { λ _. ⌜ now (buffer .exit) ≡ over (writeOctets message (now (rows .entry)) (now (buffer .entry))) (now (buffer .entry)) ⌝ }
+{
+    if buffer.len() < 2048 {
+        return Written {
+            answer: 3,
+            length: 0,
+        };
+    }
+    if !is_writable(message, rows) {
+        return Written {
+            answer: 16,
+            length: 0,
+        };
+    }
+    let length = write_message(buffer, message, rows);
+    Written {
+        answer: 0,
+        length: length as u16,
+    }
+}
+
+// A refused reading.
+fn refuse(number: u8) -> Reading
+    ensures { λ r. ⌜ r ≡ refusal number ⌝ }
+{
+    Reading {
+        meaning: Meaning::Refused(number),
+        count: 0,
+        rows: [0; 384],
+    }
+}
+
+// 01's number for what the walk over an Update's blocks found.
+fn body_number(walked: Walked) -> u8
+    ensures { λ r. ⌜ r ≡ walkedNumber walked ⌝ }
+{
+    match walked {
+        Walked::Rows(_) => 0,
+        Walked::Broken(_) => 14,
+        Walked::TooMany => 15,
+    }
+}
+
+// Reads an Update's rows: the message m is that Update's own meaning.
+fn read_update(net: u32, m: Message, message: &[u8]) -> Reading
+    ensures { λ r. ⌜ r ≡ updateReading m (updateOf most net (now (message .entry))) ⌝ }
+{
+    let walked = walk::walk(net, message, 128);
+    let Walked::Rows(count) = walked else {
+        return refuse(body_number(walked));
+    };
+    let mut rows = [0u32; 384];
+    rows::store_rows(&mut rows, net, message);
+    Reading {
+        meaning: Meaning::Good(m),
+        count: count as u16,
+        rows,
+    }
+}
+
+// A message's meaning with its rows, if it has any.
+fn read_rows(net: u32, m: Message, message: &[u8]) -> Reading
+    ensures { λ r. ⌜ r ≡ meaningReading net (now (message .entry)) m ⌝ }
+{
+    if let Message::Update {
+        asn: _,
+        sequence: _,
+        status: _,
+        net: _,
+    } = m {
+        return read_update(net, m, message);
+    }
+    Reading {
+        meaning: Meaning::Good(m),
+        count: 0,
+        rows: [0; 384],
+    }
+}
+
+// Reads a message alone, given the common net: 6 to 8, 10 to 12, 14 and 15, or the meaning and exactly the rows.
+pub fn read(net: u32, message: &[u8]) -> Reading
+    ensures { λ r. ⌜ r ≡ readOf net (now (message .entry)) ⌝ }
+{
+    let header = wire::read_header(message);
+    if header != 0 {
+        return refuse(header);
+    }
+    let decoded = wire::decode(message);
+    let Decoded::Good(m) = decoded else {
+        return refuse(wire::number_of(decoded));
+    };
+    read_rows(net, m, message)
+}

@@ -1,0 +1,96 @@
+use Rattle.machine.specs.Table.{onConfirm}
+use mathlib.Core.Path.{sym, _∙_}
+use Rattle.neighbour.proofs.Laws.{at-idle, at-acquisition, at-down, at-up, at-cease}
+use borrow.Author.Needs.{needs}
+use Rattle.machine.proofs.on_confirm.Statement.{statement}
+use Rattle.machine.proofs.on_confirm.Tie as tie
+use Rattle.machine.proofs.on_confirm.Reads as reads
+use Rattle.machine.proofs.on_confirm.Lts as lts
+use Rattle.machine.proofs.ignore.Reads as ignore-reads
+use Rattle.machine.proofs.keep.Reads as keep-reads
+use Rattle.machine.proofs.settle.Reads as settle-reads
+
+-- src/lib.rt:180:24
+enum-told : tie.Need-enum-told
+enum-told c = search needs
+
+-- src/lib.rt:180:24
+ignore-requires : tie.Need-ignore-requires
+ignore-requires c κs = search needs
+
+-- src/lib.rt:181:31
+enum-told-2 : tie.Need-enum-told-2
+enum-told-2 c = search needs
+
+-- src/lib.rt:181:31
+settle-requires : tie.Need-settle-requires
+settle-requires c κs = search needs
+
+-- src/lib.rt:182:24
+enum-told-3 : tie.Need-enum-told-3
+enum-told-3 c = search needs
+
+-- src/lib.rt:182:24
+keep-requires : tie.Need-keep-requires
+keep-requires c κs = search needs
+
+-- src/lib.rt:183:22
+enum-told-4 : tie.Need-enum-told-4
+enum-told-4 c = search needs
+
+-- src/lib.rt:183:22
+keep-requires-2 : tie.Need-keep-requires-2
+keep-requires-2 c κs = search needs
+
+-- src/lib.rt:184:25
+enum-told-5 : tie.Need-enum-told-5
+enum-told-5 c = search needs
+
+-- src/lib.rt:184:25
+keep-requires-3 : tie.Need-keep-requires-3
+keep-requires-3 c κs = search needs
+
+-- src/lib.rt:175:1
+returns : tie.Need-returns
+unfolding onConfirm
+returns c = c .ignore .ensures ∙ sym (at-idle _ _ _ _ _ _ (c .before .enum-told .given .1))
+
+-- src/lib.rt:175:1
+returns-2 : tie.Need-returns-2
+unfolding onConfirm
+returns-2 c = c .settle .ensures ∙ sym (at-acquisition _ _ _ _ _ _ (c .before .enum-told2 .given .1))
+
+-- src/lib.rt:175:1
+returns-3 : tie.Need-returns-3
+unfolding onConfirm
+returns-3 c = c .keep .ensures ∙ sym (at-down _ _ _ _ _ _ (c .before .enum-told3 .given .1))
+
+-- src/lib.rt:175:1
+returns-4 : tie.Need-returns-4
+unfolding onConfirm
+returns-4 c = c .keep2 .ensures ∙ sym (at-up _ _ _ _ _ _ (c .before .enum-told4 .given .1))
+
+-- src/lib.rt:175:1
+returns-5 : tie.Need-returns-5
+unfolding onConfirm
+returns-5 c = c .keep3 .ensures ∙ sym (at-cease _ _ _ _ _ _ (c .before .enum-told5 .given .1))
+
+pub on-confirm-spec : {M : Type 1} → statement M
+on-confirm-spec =
+    tie.close
+    (tie.spec
+    enum-told
+    ignore-requires
+    enum-told-2
+    settle-requires
+    enum-told-3
+    keep-requires
+    enum-told-4
+    keep-requires-2
+    enum-told-5
+    keep-requires-3
+    returns
+    returns-2
+    returns-3
+    returns-4
+    returns-5)

@@ -1,0 +1,96 @@
+use Rattle.machine.specs.Table.{onPoll}
+use mathlib.Core.Path.{sym, _∙_}
+use Rattle.neighbour.proofs.Laws.{at-idle, at-acquisition, at-down, at-up, at-cease}
+use borrow.Author.Needs.{needs}
+use Rattle.machine.proofs.on_poll.Statement.{statement}
+use Rattle.machine.proofs.on_poll.Tie as tie
+use Rattle.machine.proofs.on_poll.Reads as reads
+use Rattle.machine.proofs.on_poll.Lts as lts
+use Rattle.machine.proofs.answer_poll.Reads as answer-poll-reads
+use Rattle.machine.proofs.ignore.Reads as ignore-reads
+use Rattle.machine.proofs.keep.Reads as keep-reads
+
+-- src/lib.rt:263:24
+enum-told : tie.Need-enum-told
+enum-told c = search needs
+
+-- src/lib.rt:263:24
+ignore-requires : tie.Need-ignore-requires
+ignore-requires c κs = search needs
+
+-- src/lib.rt:264:31
+enum-told-2 : tie.Need-enum-told-2
+enum-told-2 c = search needs
+
+-- src/lib.rt:264:31
+keep-requires : tie.Need-keep-requires
+keep-requires c κs = search needs
+
+-- src/lib.rt:265:24
+enum-told-3 : tie.Need-enum-told-3
+enum-told-3 c = search needs
+
+-- src/lib.rt:265:24
+keep-requires-2 : tie.Need-keep-requires-2
+keep-requires-2 c κs = search needs
+
+-- src/lib.rt:266:22
+enum-told-4 : tie.Need-enum-told-4
+enum-told-4 c = search needs
+
+-- src/lib.rt:266:22
+answer-poll-requires : tie.Need-answer-poll-requires
+answer-poll-requires c κs = search needs
+
+-- src/lib.rt:267:25
+enum-told-5 : tie.Need-enum-told-5
+enum-told-5 c = search needs
+
+-- src/lib.rt:267:25
+keep-requires-3 : tie.Need-keep-requires-3
+keep-requires-3 c κs = search needs
+
+-- src/lib.rt:258:1
+returns : tie.Need-returns
+unfolding onPoll
+returns c = c .ignore .ensures ∙ sym (at-idle _ _ _ _ _ _ (c .before .enum-told .given .1))
+
+-- src/lib.rt:258:1
+returns-2 : tie.Need-returns-2
+unfolding onPoll
+returns-2 c = c .keep .ensures ∙ sym (at-acquisition _ _ _ _ _ _ (c .before .enum-told2 .given .1))
+
+-- src/lib.rt:258:1
+returns-3 : tie.Need-returns-3
+unfolding onPoll
+returns-3 c = c .keep2 .ensures ∙ sym (at-down _ _ _ _ _ _ (c .before .enum-told3 .given .1))
+
+-- src/lib.rt:258:1
+returns-4 : tie.Need-returns-4
+unfolding onPoll
+returns-4 c = c .answer-poll .ensures ∙ sym (at-up _ _ _ _ _ _ (c .before .enum-told4 .given .1))
+
+-- src/lib.rt:258:1
+returns-5 : tie.Need-returns-5
+unfolding onPoll
+returns-5 c = c .keep3 .ensures ∙ sym (at-cease _ _ _ _ _ _ (c .before .enum-told5 .given .1))
+
+pub on-poll-spec : {M : Type 1} → statement M
+on-poll-spec =
+    tie.close
+    (tie.spec
+    enum-told
+    ignore-requires
+    enum-told-2
+    keep-requires
+    enum-told-3
+    keep-requires-2
+    enum-told-4
+    answer-poll-requires
+    enum-told-5
+    keep-requires-3
+    returns
+    returns-2
+    returns-3
+    returns-4
+    returns-5)

@@ -1,0 +1,4 @@
+pub mod Table
+pub mod Tick
+pub mod Step
+pub mod Laws

@@ -1,0 +1,5 @@
+pub mod Lists
+pub mod Slots
+pub mod Formed
+pub mod Outcomes
+pub mod Claims

@@ -1,0 +1,57 @@
+-- What the functions of the walk answer, in numbers: rows counted, octets left, offsets.
+use Prim.Native.Nat.{ℕ, _-_, _≤_}
+use mathlib.Core.Bool.{cond}
+use mathlib.Core.List.{List}
+use lib.Dec.{ltb, leb, eqb}
+use lib.ListN.{length, take, drop, getD}
+use Rattle.nets.specs.Classes.{netWidth}
+use Rattle.nets.specs.Rows.{Row}
+use Rattle.walk.specs.Body.{Got, got, stop, groupRows, UpdateRead, accepted, brokenAt, tooMany}
+use Rattle.walk.specs.declared.Skip.{Skip}
+use Rattle.walk.specs.declared.Skip.the-variants.{Past, Stop}
+use Rattle.walk.specs.declared.Walked.{Walked}
+use Rattle.walk.specs.declared.Walked.the-variants.{Rows, Broken, TooMany}
+
+-- how many rows were read, and how many octets are left
+unfoldable pub skipOf : Got (List Row) → Skip
+skipOf (got rs t) = Past (length rs) (length t)
+skipOf (stop left) = Stop left
+
+-- how many octets the net at the front takes; 0: no class; 4: octets are missing
+unfoldable pub netStep : List ℕ → ℕ
+netStep t = cond (eqb (length t) 0) 4 (cond (ltb (length t) (netWidth (getD t 0 0))) 4 (netWidth (getD t 0 0)))
+
+-- how many octets of t a reading took, 0 where it is bad
+unfoldable pub taken : {A : Type 0} → List ℕ → Got A → ℕ
+taken t (got a rest) = length t - length rest
+taken t (stop left) = 0
+
+-- where the distance group at the front ends, 0 where it is bad
+unfoldable pub groupEnd : List ℕ → ℕ
+groupEnd t = taken t (groupRows 0 0 t)
+
+-- 01: "The nets of one distance are handed back as a part of the received octets"; none where the group is bad
+unfoldable pub groupNets : List ℕ → List ℕ
+groupNets t = take (groupEnd t - 2) (drop 2 t)
+
+-- how many rows an Update has, or the offset where it breaks
+unfoldable pub walkedOf : UpdateRead → Walked
+walkedOf (accepted rs) = Rows (length rs)
+walkedOf (brokenAt offset) = Broken offset
+walkedOf tooMany = TooMany
+
+-- the same from what the walk counted, the message's end and the room for rows
+unfoldable pub verdict : ℕ → ℕ → Skip → Walked
+verdict end room (Past count left) = cond (eqb left 0) (cond (leb count room) (Rows count) TooMany) (Broken (end - left))
+verdict end room (Stop left) = Broken (end - left)
+
+-- 01's answer numbers 0, 14 and 15
+unfoldable pub walkedNumber : Walked → ℕ
+walkedNumber (Rows count) = 0
+walkedNumber (Broken offset) = 14
+walkedNumber TooMany = 15
+
+-- the octets that are left stand before the end
+abbrev pub WithinEnd : ℕ → Skip → Type 0
+WithinEnd end (Past count left) = left ≤ end
+WithinEnd end (Stop left) = left ≤ end

@@ -26,6 +26,10 @@ width-most first = go (ltb first 128) (ltb first 192) (ltb first 224)
     go false false true = omega arith
     go false false false = omega arith
 
+-- a width that was computed
+pub width-fits : (width first : ℕ) → width ≡ netWidth first → width ≤ 3
+width-fits width first e = rw e (width-most first)
+
 pub width-least : (net : ℕ) → goodNet net ≡ true → 0 < widthOf net
 unfolding goodNet
 width-least net g = go (widthOf net) (and-left (not (eqb (widthOf net) 0)) (eqb (net % hostSpan (widthOf net)) 0) g)

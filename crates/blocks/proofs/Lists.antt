@@ -99,7 +99,7 @@ rows-short (a ∷ b ∷ c ∷ u) h = absurd (omega arith)
 pub rows-drop : (k : ℕ) (u : List ℕ) → rowsOf (drop (3 * k) u) ≡ drop k (rowsOf u)
 unfolding rowsOf
 rows-drop zero u = refl
-rows-drop (suc k) [] = rw drop-nil
+rows-drop (suc k) [] = rw (drop-nil {A = ℕ} (3 * suc k))
 rows-drop (suc k) (a ∷ []) = let e : 3 * suc k ≡ suc (suc (suc (3 * k))) = omega arith in rw e
 rows-drop (suc k) (a ∷ b ∷ []) = let e : 3 * suc k ≡ suc (suc (suc (3 * k))) = omega arith in rw e
 rows-drop (suc k) (a ∷ b ∷ c ∷ u) = let e : 3 * suc k ≡ suc (suc (suc (3 * k))) = omega arith in rw e (rows-drop k u)
@@ -107,7 +107,7 @@ rows-drop (suc k) (a ∷ b ∷ c ∷ u) = let e : 3 * suc k ≡ suc (suc (suc (3
 pub rows-take : (k : ℕ) (u : List ℕ) → rowsOf (take (3 * k) u) ≡ take k (rowsOf u)
 unfolding rowsOf
 rows-take zero u = refl
-rows-take (suc k) [] = rw take-nil
+rows-take (suc k) [] = rw (take-nil {A = ℕ} (3 * suc k))
 rows-take (suc k) (a ∷ []) = let e : 3 * suc k ≡ suc (suc (suc (3 * k))) = omega arith in rw e
 rows-take (suc k) (a ∷ b ∷ []) = let e : 3 * suc k ≡ suc (suc (suc (3 * k))) = omega arith in rw e
 rows-take (suc k) (a ∷ b ∷ c ∷ u) =

@@ -1,10 +1,10 @@
 -- The laws of specs/Laws.antt. Assumes nothing.
-use Prim.Native.Nat.{ℕ, _+_, _-_, _%_, _≤_, _<_}
+use Prim.Native.Nat.{ℕ, _-_, _≤_}
 use native.Mathlib.Omega.{arith}
 use mathlib.Core.Path.{_≡_, refl, sym, subst, ap, _∙_}
 use mathlib.Core.Bool.{Bool, true, false, cond, not, _&&_, _||_, and-false}
 use lib.Dec.{eqb}
-use borrow.Author.Tests.{eqb-true, eqb-false}
+use borrow.Author.Tests.{eqb-false}
 use Rattle.message.specs.Kinds.{kindOf, sequenceOf, statusOf}
 use Rattle.message.specs.declared.Message.{Message}
 use Rattle.message.specs.declared.Message.the-variants as M
@@ -16,8 +16,6 @@ use Rattle.neighbour.specs.declared.Mode.the-variants.{Unset, Active, Passive}
 use Rattle.neighbour.specs.declared.Settings.{Settings}
 use Rattle.neighbour.specs.declared.Neighbour.{Neighbour}
 use Rattle.sent.specs.declared.Head.{Head}
-use Rattle.neighbour.specs.declared.Offer.{Offer}
-use Rattle.neighbour.specs.declared.Offer.the-variants.{Acceptable, Unacceptable}
 use Rattle.neighbour.specs.Record.{under, isIdle, acquired, idle, leftIdle, waiting, initialised, withNumbers, withTimers, withReach, heardFrom, shifted, enterUp, leaveUp, polled}
 use Rattle.neighbour.specs.Rules.{isCommand, commanded, indicates, noted, offerOf, goesUp, goesDown, onesOf, judged}
 use Rattle.sent.specs.Sent.{helloMessage, pollMessage}

@@ -1,5 +1,5 @@
 -- 01's paragraph "Tick", sentence by sentence.
-use Prim.Native.Nat.{ℕ, _-_}
+use Prim.Native.Nat.{_-_}
 use mathlib.Core.Bool.{cond}
 use lib.Dec.{eqb}
 use Rattle.message.specs.declared.Message.{Message}

@@ -7,12 +7,10 @@ use message::Message;
 use neighbour::Mode;
 use neighbour::Neighbour;
 use neighbour::Offer;
+use neighbour::P3;
 use neighbour::Phase;
 use neighbour::Settings;
 use sent::Head;
-
-// RFC 904's retry interval, in seconds.
-const P3: u16 = 30;
 
 // What happens to a neighbour. A message event holds the decoded message.
 pub enum Event {

@@ -1,6 +1,6 @@
 -- The rules of "One neighbour" that need no event: numbers in sequence, what Request and Confirm agree on, reachability.
 use Prim.Native.Nat.{ℕ, _+_, _/_, _%_}
-use mathlib.Core.Bool.{Bool, true, false, cond, not, _&&_, _||_}
+use mathlib.Core.Bool.{Bool, false, cond, not, _&&_, _||_}
 use mathlib.Core.List.{List, [], _∷_}
 use lib.Dec.{ltb, leb, eqb}
 use Rattle.message.specs.Kinds.{typeOf, codeOf, kindOf, sequenceOf, statusOf}

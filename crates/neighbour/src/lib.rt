@@ -5,16 +5,16 @@ ghost use Rattle.neighbour.specs.Rules.{isCommand, mustCarryS, inSequenc
 use message::Kind;
 use message::Message;
 
-// RFC 904's parameters, in seconds.
-const P1: u16 = 30;
+// RFC 904's parameters, in seconds: hello and poll intervals, retry, and the two lengths of t3.
+pub const P1: u16 = 30;
 
-const P2: u16 = 120;
+pub const P2: u16 = 120;
 
-const P3: u16 = 30;
+pub const P3: u16 = 30;
 
-const P4: u16 = 3600;
+pub const P4: u16 = 3600;
 
-const P5: u16 = 120;
+pub const P5: u16 = 120;
 
 // RFC 904's states (01: state), in 01's order.
 pub enum Phase {

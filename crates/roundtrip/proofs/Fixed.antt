@@ -105,7 +105,7 @@ read-as o m e = known (kindAt (getD o 1 0) (getD o 2 0)) refl e
 -- ---- octets of a known number, written out
 
 -- the elements of a list from index i on, n of them
-spell : ℕ → ℕ → List ℕ → List ℕ
+unfoldable pub spell : ℕ → ℕ → List ℕ → List ℕ
 spell zero i l = []
 spell (suc n) i l = getD l i 0 ∷ spell n (suc i) l
 
@@ -118,23 +118,23 @@ spell-drop (suc n) i l e =
 spelled : (n : ℕ) (l : List ℕ) → length l ≡ n → l ≡ spell n 0 l
 spelled n l e = spell-drop n 0 l (omega arith)
 
-high : (a b : ℕ) → a < 256 → b < 256 → pairOf a b / 256 % 256 ≡ a
+pub high : (a b : ℕ) → a < 256 → b < 256 → pairOf a b / 256 % 256 ≡ a
 high a b p q = omega arith
 
-low : (a b : ℕ) → a < 256 → b < 256 → pairOf a b % 256 ≡ b
+pub low : (a b : ℕ) → a < 256 → b < 256 → pairOf a b % 256 ≡ b
 low a b p q = omega arith
 
 module _ (a b c d : ℕ) (p : a < 256) (q : b < 256) (r : c < 256) (s : d < 256) where
-  first-of : quadOf a b c d / 16777216 % 256 ≡ a
+  pub first-of : quadOf a b c d / 16777216 % 256 ≡ a
   first-of = omega arith
 
-  second-of : quadOf a b c d / 65536 % 256 ≡ b
+  pub second-of : quadOf a b c d / 65536 % 256 ≡ b
   second-of = omega arith
 
-  third-of : quadOf a b c d / 256 % 256 ≡ c
+  pub third-of : quadOf a b c d / 256 % 256 ≡ c
   third-of = omega arith
 
-  fourth-of : quadOf a b c d % 256 ≡ d
+  pub fourth-of : quadOf a b c d % 256 ≡ d
   fourth-of = omega arith
 
 -- ---- the octets of what was read, but for the checksum's field
@@ -181,7 +181,7 @@ plain-back o oct K.Update v t c n u z = absurd (u refl)
 plain-back o oct K.Error v t c n u z = errored o oct K.Error v t c (eqb-true (length o) 24 n)
 
 -- reading keeps the kind
-kind-read : (k : Kind) (o : List ℕ) → kindOf (meaningOf k o) ≡ k
+pub kind-read : (k : Kind) (o : List ℕ) → kindOf (meaningOf k o) ≡ k
 unfolding meaningOf
 kind-read K.Request o = refl
 kind-read K.Confirm o = refl

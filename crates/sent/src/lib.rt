@@ -3,13 +3,10 @@ ghost use mathlib.Core.Path.{_≡_};
 ghost use Rattle.sent.specs.Sent.{statusIn, requestMessage, confirmMessage, refuseMessage, ceaseMessage, ceaseAckMessage, helloMessage, iHeardYouMessage, pollMessage, updateMessage, errorMessage};
 use message::Message;
 use neighbour::Neighbour;
+use neighbour::P1;
+use neighbour::P2;
 use neighbour::Phase;
 use neighbour::Settings;
-
-// RFC 904's hello and poll intervals, in seconds.
-const P1: u16 = 30;
-
-const P2: u16 = 120;
 
 // A received message's first twelve octets, zero-filled, for Error.
 pub struct Head {

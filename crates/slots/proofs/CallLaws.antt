@@ -1,17 +1,13 @@
 -- What each return of fresh, add and remove comes to, over plain states and numbers. Assumes nothing.
 use Prim.Native.Nat.{ℕ, _≤_, _<_}
-use mathlib.Core.Path.{_≡_, refl, sym, _∙_, ap}
-use mathlib.Core.Bool.{Bool, true, false, not, _&&_}
-use lib.Dec.{ltb}
+use mathlib.Core.Path.{_≡_, refl, _∙_}
+use mathlib.Core.Bool.{true, false, not, _&&_}
 use borrow.Author.Tests.{lt-ltb, le-ltb}
-use Rattle.neighbour.specs.declared.Settings.{Settings}
 use Rattle.neighbour.specs.Record.{isIdle}
-use Rattle.state.specs.declared.Slot.{Slot}
 use Rattle.state.specs.declared.State.{State}
-use Rattle.state.specs.declared.Outcome.{Outcome}
 use Rattle.state.specs.Slots.{freeSlot, slotAt, withSlot, slotOf, present, lowestFree}
 use Rattle.state.specs.Formed.{goodSettings, goodPeer, stateFormed}
-use Rattle.state.specs.Outcomes.{check, refusedOf, silentOf}
+use Rattle.state.specs.Outcomes.{refusedOf, silentOf}
 use Rattle.state.proofs.OutcomeLaws.{check-holds, check-fails, silent-refused, silent-done}
 use Rattle.slots.specs.Calls.{emptyState, zeroState, newcomer, freshAnswer, freshOf, addAnswer, addOf, removeAnswer, removeOf}
 

@@ -1,10 +1,9 @@
 -- Laws of well-formedness. Assumes nothing.
-use Prim.Native.Nat.{ℕ, _≤_, _<_}
-use native.Mathlib.Omega.{arith}
-use mathlib.Core.Path.{_≡_, refl, sym, _∙_, ap, subst}
-use mathlib.Core.Bool.{Bool, true, false, cond, not, _&&_, _||_, false≢true}
-use lib.Dec.{leb, eqb}
-use borrow.Author.Tests.{eqb-true, le-leb, lt-leb, eq-eqb, ne-eqb}
+use Prim.Native.Nat.{ℕ}
+use mathlib.Core.Path.{_≡_, refl, sym, _∙_, ap}
+use mathlib.Core.Bool.{Bool, true, false, not, false≢true}
+use lib.Dec.{eqb}
+use borrow.Author.Tests.{eqb-true, ne-eqb}
 use Rattle.neighbour.specs.declared.Phase.{Phase}
 use Rattle.neighbour.specs.declared.Phase.the-variants.{Idle, Acquisition, Down, Up, Cease}
 use Rattle.neighbour.specs.declared.Mode.{Mode}
@@ -13,9 +12,7 @@ use Rattle.neighbour.specs.declared.Neighbour.{Neighbour}
 use Rattle.neighbour.specs.declared.Settings.{Settings}
 use Rattle.neighbour.specs.Record.{idle, isIdle, under}
 use Rattle.wellformed.specs.Formed.{isUnset, allZero, idleFormed, timersBelow, timersRun, t2Formed, registerFormed, intervalsFormed, causeFormed, wellFormed}
-use Rattle.state.specs.declared.Slot.{Slot}
-use Rattle.state.specs.Slots.{freeSlot}
-use Rattle.state.specs.Formed.{goodPeer, isUp, rowsFormed, freeFormed, usedFormed, slotFormed}
+use Rattle.state.specs.Formed.{goodPeer}
 use Rattle.state.proofs.ListLaws.{and-left, and-right}
 
 is-idle : (phase : Phase) → isIdle phase ≡ true → phase ≡ Idle

@@ -8,7 +8,6 @@ use mathlib.Core.Bool.{Bool, true, false, cond, not, _&&_, false≢true}
 use mathlib.Core.List.{List, [], _∷_, map}
 use lib.ListN.{length, drop, getD, set, length-map, drop-of-length-le}
 use lib.Seq.{drop-cons}
-use borrow.Author.Tests.{not-true}
 use Rattle.state.specs.Lists.{first, every, distinct}
 
 pub and-left : (a b : Bool) → (a && b) ≡ true → a ≡ true

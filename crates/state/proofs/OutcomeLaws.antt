@@ -3,9 +3,8 @@ use Prim.Native.Nat.{ℕ}
 use mathlib.Core.Path.{_≡_, refl}
 use mathlib.Core.Bool.{Bool, true, false, cond}
 use lib.Dec.{eqb}
-use borrow.Author.Tests.{eqb-true, eqb-false, eq-eqb, ne-eqb}
+use borrow.Author.Tests.{eqb-true, eqb-false, ne-eqb}
 use Rattle.state.specs.declared.State.{State}
-use Rattle.state.specs.declared.Outcome.{Outcome}
 use Rattle.state.specs.Outcomes.{check, ifOk, refusedOf, silentOf}
 
 -- a chain of checks that answers 0 passed its first check

@@ -1,40 +1,17 @@
 -- Laws of the slots and of the loops over them. Assumes nothing.
-use Prim.Native.Nat.{ℕ, suc, _+_, _≤_, _<_}
+use Prim.Native.Nat.{ℕ, _+_, _≤_, _<_}
 use native.Mathlib.Omega.{arith}
-use mathlib.Core.Path.{_≡_, refl, sym, _∙_, ap}
-use mathlib.Core.Bool.{Bool, true, false, cond, not, _&&_, false≢true}
-use mathlib.Core.List.{List, map}
+use mathlib.Core.Path.{_≡_, refl, sym, _∙_}
+use mathlib.Core.Bool.{Bool, true, false, not, _&&_, false≢true}
 use lib.ListN.{length, drop, getD, length-map, length-set, List·getD-map}
 use lib.Dec.{eqb}
 use lib.Seq.{getD-set-same, getD-set-other}
-use borrow.Author.Tests.{eq-eqb, ne-eqb, eqb-true, eqb-false, not-true, not-false}
-use Rattle.neighbour.specs.Record.{idle}
+use borrow.Author.Tests.{eq-eqb, ne-eqb, eqb-true, eqb-false, not-true}
 use Rattle.state.specs.declared.Slot.{Slot}
 use Rattle.state.specs.declared.State.{State}
 use Rattle.state.specs.Lists.{first, every, distinct}
-use Rattle.state.specs.Slots.{freeSlot, slotAt, withSlot, addressOf, addresses, clash, apart, slotOf, isNone, lowestFree}
-use Rattle.state.proofs.ListLaws.{
-  and-left,
-  and-right,
-  first-here,
-  first-next,
-  first-end,
-  every-here,
-  every-next,
-  every-end,
-  distinct-here,
-  distinct-next,
-  distinct-end,
-  first-in,
-  first-before,
-  first-least,
-  first-none,
-  first-never,
-  every-always,
-  every-getD,
-  every-in,
-  distinct-apart,
-}
+use Rattle.state.specs.Slots.{freeSlot, slotAt, withSlot, addressOf, addresses, clash, apart, slotOf}
+use Rattle.state.proofs.ListLaws.{and-left, and-right, first-here, first-next, first-end, every-here, every-next, every-end, distinct-here, distinct-next, distinct-end, first-never, every-always}
 
 pub clash-is : (a b : ℕ) → (a ≡ 0 → ⊥) → a ≡ b → clash a b ≡ true
 unfolding clash

@@ -2,39 +2,21 @@
 use Prim.Native.Nat.{ℕ, _≤_, _<_}
 use native.Mathlib.Omega.{arith}
 use mathlib.Core.Path.{_≡_, refl, sym, _∙_, ap}
-use mathlib.Core.Bool.{Bool, true, false, cond, not, _&&_, _||_, false≢true}
-use mathlib.Core.Logic.{⊎-elim}
-use mathlib.Core.List.{List}
-use lib.ListN.{length, getD, set}
-use lib.Dec.{ltb, leb, eqb}
+use mathlib.Core.Bool.{Bool, true, false, cond, _||_}
+use lib.ListN.{getD}
+use lib.Dec.{ltb, eqb}
 use lib.Seq.{map-set-same}
 use borrow.Author.Tests.{eq-eqb, ne-eqb, eqb-true, eqb-false, leb-true, ltb-true, ltb-false, not-true}
-use Rattle.nets.specs.Classes.{goodNet, onNet}
 use Rattle.neighbour.specs.declared.Settings.{Settings}
 use Rattle.neighbour.specs.Record.{idle, isIdle}
-use Rattle.wellformed.specs.Formed.{allZero, wellFormed}
+use Rattle.wellformed.specs.Formed.{allZero}
 use Rattle.state.specs.declared.Slot.{Slot}
 use Rattle.state.specs.declared.State.{State}
 use Rattle.state.specs.Lists.{first, every, distinct}
 use Rattle.state.specs.Slots.{freeSlot, slotAt, withSlot, addressOf, addresses, clash, apart, slotOf}
 use Rattle.state.specs.Formed.{goodSettings, goodPeer, isUp, rowsFormed, freeFormed, usedFormed, slotFormed, stateFormed}
-use Rattle.state.specs.Claims.{
-  WrittenSlot,
-  OtherSlots,
-  Found,
-  SlotFound,
-  SlotBelow,
-  SlotUnique,
-  SlotStays,
-  SettingsGood,
-  FormedSettings,
-  SlotGood,
-  FormedSlot,
-  FreeIsZero,
-  WithSlotFormed,
-  StepFormed,
-}
-use Rattle.state.proofs.ListLaws.{and-left, and-right, and-both, first-in, first-least, first-bound, every-set, every-getD, distinct-apart}
+use Rattle.state.specs.Claims.{WrittenSlot, OtherSlots, SlotFound, SlotBelow, SlotUnique, SlotStays, FormedSettings, SlotGood, FormedSlot, FreeIsZero, WithSlotFormed, StepFormed}
+use Rattle.state.proofs.ListLaws.{and-left, and-right, first-in, first-least, first-bound, every-set, every-getD, distinct-apart}
 use Rattle.state.proofs.SlotLaws.{
   clash-is,
   clash-used,

@@ -9,7 +9,7 @@ use Rattle.wellformed.specs.Formed.{wellFormed}
 use Rattle.state.specs.declared.Slot.{Slot}
 use Rattle.state.specs.declared.State.{State}
 use Rattle.state.specs.Slots.{freeSlot, slotAt, withSlot, slotOf}
-use Rattle.state.specs.Formed.{goodPeer, isUp, rowsFormed, slotFormed, stateFormed}
+use Rattle.state.specs.Formed.{isUp, rowsFormed, slotFormed, stateFormed}
 
 -- a slot that is written is read back, and every other is untouched
 abbrev pub WrittenSlot : Type 0

@@ -26,7 +26,7 @@ unfoldable pub taken : {A : Type 0} → List ℕ → Got A → ℕ
 taken t (got a rest) = length t - length rest
 taken t (stop left) = 0
 
--- where the distance group at the front ends, 0 where it is bad
+-- where the distance group at the front ends, 0 where it is bad; the same for every side and gateway (proofs/Groups: end-any)
 unfoldable pub groupEnd : List ℕ → ℕ
 groupEnd t = taken t (groupRows 0 0 t)
 

@@ -1,5 +1,5 @@
 -- What the functions' answers come to, over plain records: the last test of a conjunction decides it. Assumes nothing.
-use Prim.Native.Nat.{ℕ, _≤_}
+use Prim.Native.Nat.{_≤_}
 use mathlib.Core.Path.{_≡_}
 use mathlib.Core.Bool.{true, false, not}
 use lib.Dec.{leb, eqb}

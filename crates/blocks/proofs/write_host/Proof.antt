@@ -1,9 +1,9 @@
 -- `blocks::write_host` meets its contract: the trailing octets, by the width. Assumes nothing.
 use native.Mathlib.Omega.{arith}
 use borrow.Author.Needs.{needs}
-use Rattle.blocks.proofs.Claims.{width-most}
+use Rattle.blocks.proofs.Claims.{width-fits}
 use Rattle.blocks.proofs.Lists.{part-from}
-use Rattle.nets.specs.Classes.{firstOctet, widthOf}
+use Rattle.nets.specs.Classes.{widthOf}
 use Rattle.blocks.specs.Blocks.{hostOctets, addressOctets}
 use Rattle.blocks.proofs.write_host.Statement.{statement}
 use Rattle.blocks.proofs.write_host.Tie as tie
@@ -15,10 +15,10 @@ width-of-requires : tie.Need-width-of-requires
 width-of-requires c κs = search needs
 
 sub-put : tie.Need-sub-put
-sub-put c = rw (c .before .width-of .ensures) (omega (arith, width-most (firstOctet (c .before .before .before .before .args .net))))
+sub-put c = omega (arith, width-fits (c .before .width-of .result) _ (c .before .width-of .ensures))
 
 part-put-start : tie.Need-part-put-start
-part-put-start c = omega (arith, c .before .before .width-of .ensures, width-most (firstOctet (c .before .before .before .before .before .args .net)))
+part-put-start c = omega (arith, width-fits (c .before .before .width-of .result) _ (c .before .before .width-of .ensures))
 
 part-put-end : tie.Need-part-put-end
 part-put-end c = omega arith

@@ -1,81 +1,55 @@
-use mathlib.Core.Path.{refl, sym, _∙_, ap}
+use mathlib.Core.Path.{sym, _∙_}
 use borrow.Author.Tests.{not-true, not-false}
-use Rattle.slots.proofs.CallLaws.{add-1, add-16, add-present, add-17, add-done}
 use borrow.Author.Needs.{needs}
+use Rattle.slots.proofs.CallLaws.{add-1, add-16, add-present, add-17, add-done}
 use Rattle.slots.proofs.add.Statement.{statement}
 use Rattle.slots.proofs.add.Tie as tie
-use Rattle.slots.proofs.add.Reads as reads
-use Rattle.slots.proofs.add.Lts as lts
-use Rattle.slots.proofs.carried_out.Reads as carried-out-reads
-use Rattle.slots.proofs.new_slot.Reads as new-slot-reads
-use Rattle.state.proofs.good_peer.Reads as good-peer-reads
-use Rattle.state.proofs.lowest_free.Reads as lowest-free-reads
-use Rattle.state.proofs.refused.Reads as refused-reads
-use Rattle.state.proofs.slot_of.Reads as slot-of-reads
-use Rattle.state.proofs.well_formed.Reads as well-formed-reads
-use Rattle.state.proofs.with_slot.Reads as with-slot-reads
 
--- src/lib.rt:65:9
 well-formed-requires : tie.Need-well-formed-requires
 well-formed-requires c κs = search needs
 
--- src/lib.rt:66:9
 refused-requires : tie.Need-refused-requires
 refused-requires c κs = search needs
 
--- src/lib.rt:66:9
 returns : tie.Need-returns
 returns c = c .refused .ensures ∙ add-1 (c .before .before .before .args .st) (c .before .before .before .args .address) (c .before .before .before .args .asn) (sym (c .before .before .well-formed .ensures) ∙ not-true _ (c .before .if1 .taken))
 
--- src/lib.rt:69:9
 good-peer-requires : tie.Need-good-peer-requires
 good-peer-requires c κs = search needs
 
--- src/lib.rt:70:9
 refused-requires-2 : tie.Need-refused-requires-2
 refused-requires-2 c κs = search needs
 
--- src/lib.rt:70:9
 returns-2 : tie.Need-returns-2
 returns-2 c = c .refused2 .ensures ∙ add-16 (c .before .before .before .before .before .before .args .st) (c .before .before .before .before .before .before .args .address) (c .before .before .before .before .before .before .args .asn) (sym (c .before .before .before .before .before .well-formed .ensures) ∙ not-false _ (c .before .before .before .before .if1 .left)) (sym (c .before .before .good-peer .ensures) ∙ not-true _ (c .before .if2 .taken))
 
--- src/lib.rt:72:8
 slot-of-requires : tie.Need-slot-of-requires
 slot-of-requires c κs = search needs
 
--- src/lib.rt:73:9
 refused-requires-3 : tie.Need-refused-requires-3
 refused-requires-3 c κs = search needs
 
--- src/lib.rt:73:9
 returns-3 : tie.Need-returns-3
 returns-3 c = c .refused3 .ensures ∙ add-present (c .before .before .before .before .before .before .before .before .args .st) (c .before .before .before .before .before .before .before .before .args .address) (c .before .before .before .before .before .before .before .before .args .asn) (sym (c .before .before .before .before .before .before .before .well-formed .ensures) ∙ not-false _ (c .before .before .before .before .before .before .if1 .left)) (sym (c .before .before .before .before .good-peer .ensures) ∙ not-false _ (c .before .before .before .if2 .left)) (rw (c .before .before .slot-of .ensures) at (c .before .if3 .taken))
 
--- src/lib.rt:75:9
 lowest-free-requires : tie.Need-lowest-free-requires
 lowest-free-requires c κs = search needs
 
--- src/lib.rt:77:9
 refused-requires-4 : tie.Need-refused-requires-4
 refused-requires-4 c κs = search needs
 
--- src/lib.rt:77:9
 returns-4 : tie.Need-returns-4
 returns-4 c = c .refused4 .ensures ∙ add-17 (c .before .before .before .before .before .before .before .before .before .before .args .st) (c .before .before .before .before .before .before .before .before .before .before .args .address) (c .before .before .before .before .before .before .before .before .before .before .args .asn) (sym (c .before .before .before .before .before .before .before .before .before .well-formed .ensures) ∙ not-false _ (c .before .before .before .before .before .before .before .before .if1 .left)) (sym (c .before .before .before .before .before .before .good-peer .ensures) ∙ not-false _ (c .before .before .before .before .before .if2 .left)) (rw (c .before .before .before .before .slot-of .ensures) at (c .before .before .before .if3 .left)) (rw (c .before .before .lowest-free .ensures) at (c .before .if4 .taken))
 
--- src/lib.rt:79:44
 new-slot-requires : tie.Need-new-slot-requires
 new-slot-requires c κs = search needs
 
--- src/lib.rt:79:17
 with-slot-requires : tie.Need-with-slot-requires
 with-slot-requires c κs = search needs
 
--- src/lib.rt:79:5
 carried-out-requires : tie.Need-carried-out-requires
 carried-out-requires c κs = search needs
 
--- src/lib.rt:62:1
 returns-5 : tie.Need-returns-5
 returns-5 c = rw (c .carried-out .ensures, c .before .with-slot .ensures, c .before .before .new-slot .ensures, c .before .before .before .before .lowest-free .ensures) (add-done (c .before .before .before .before .before .before .before .before .before .before .before .before .args .st) (c .before .before .before .before .before .before .before .before .before .before .before .before .args .address) (c .before .before .before .before .before .before .before .before .before .before .before .before .args .asn) (sym (c .before .before .before .before .before .before .before .before .before .before .before .well-formed .ensures) ∙ not-false _ (c .before .before .before .before .before .before .before .before .before .before .if1 .left)) (sym (c .before .before .before .before .before .before .before .before .good-peer .ensures) ∙ not-false _ (c .before .before .before .before .before .before .before .if2 .left)) (rw (c .before .before .before .before .before .before .slot-of .ensures) at (c .before .before .before .before .before .if3 .left)) (rw (c .before .before .before .before .lowest-free .ensures) at (c .before .before .before .if4 .left)))
 

@@ -2,10 +2,7 @@ use mathlib.Core.Path.{refl}
 use Rattle.state.specs.Outcomes.{ifOk, silentOf}
 use Rattle.slots.proofs.carried_out.Statement.{statement}
 use Rattle.slots.proofs.carried_out.Tie as tie
-use Rattle.slots.proofs.carried_out.Reads as reads
-use Rattle.slots.proofs.carried_out.Lts as lts
 
--- src/lib.rt:17:1
 returns : tie.Need-returns
 unfolding silentOf ifOk
 returns c = refl

@@ -1,16 +1,11 @@
-use Rattle.slots.specs.Calls.{newcomer}
 use borrow.Author.Needs.{needs}
+use Rattle.slots.specs.Calls.{newcomer}
 use Rattle.slots.proofs.new_slot.Statement.{statement}
 use Rattle.slots.proofs.new_slot.Tie as tie
-use Rattle.slots.proofs.new_slot.Reads as reads
-use Rattle.slots.proofs.new_slot.Lts as lts
-use Rattle.neighbour.proofs.to_idle.Reads as to-idle-reads
 
--- src/lib.rt:57:20
 to-idle-requires : tie.Need-to-idle-requires
 to-idle-requires c κs = search needs
 
--- src/lib.rt:51:1
 returns : tie.Need-returns
 unfolding newcomer
 returns c = rw (c .to-idle .ensures)

@@ -1,19 +1,16 @@
 use native.Mathlib.Omega.{arith}
 use borrow.Author.Needs.{needs}
-use Prim.Native.Nat.{_+_, _-_, _≤_, _<_}
+use Prim.Native.Nat.{_-_, _≤_}
 use mathlib.Core.Path.{_≡_, refl, sym, _∙_}
 use lib.ListN.{length, drop}
-use Rattle.neighbour.specs.Record.{idle}
 use borrow.Author.Tests.{not-true, not-false}
+use Rattle.neighbour.specs.Record.{idle}
 use Rattle.state.specs.Lists.{distinct}
 use Rattle.state.specs.Slots.{freeSlot, slotAt, addresses, apart}
 use Rattle.state.proofs.ListLaws.{unmapped}
 use Rattle.state.proofs.SlotLaws.{distinct-slot-here, distinct-slot-next, distinct-slot-end}
 use Rattle.state.proofs.are_addresses_distinct.Statement.{statement}
 use Rattle.state.proofs.are_addresses_distinct.Tie as tie
-use Rattle.state.proofs.are_addresses_distinct.Reads as reads
-use Rattle.state.proofs.are_addresses_distinct.Lts as lts
-use Rattle.state.proofs.is_apart_from.Reads as is-apart-from-reads
 
 abbrev Inv-loop : tie.InvT-loop
 Inv-loop st i₀ i = (i ≤ 8) × (distinct apart (addresses st) ≡ distinct apart (drop i (addresses st)))
@@ -21,49 +18,39 @@ Inv-loop st i₀ i = (i ≤ 8) × (distinct apart (addresses st) ≡ distinct ap
 abbrev μ-loop : tie.MeasureT-loop
 μ-loop st i₀ i = 8 - i
 
--- src/lib.rt:233:5
 loop-holds : tie.Need-loop-holds Inv-loop μ-loop
 loop-holds c = (omega arith, refl)
 
--- src/lib.rt:234:20
 mul-slot : tie.Need-mul-slot Inv-loop μ-loop
 mul-slot c = omega arith
 
--- src/lib.rt:234:20
 element-copy-out-slot : tie.Need-element-copy-out-slot Inv-loop μ-loop
 element-copy-out-slot c = search needs
 
--- src/lib.rt:235:31
 add-is-apart-from : tie.Need-add-is-apart-from Inv-loop μ-loop
 add-is-apart-from c = omega arith
 
--- src/lib.rt:235:13
 is-apart-from-requires : tie.Need-is-apart-from-requires Inv-loop μ-loop
 is-apart-from-requires c κs = omega arith
 
--- src/lib.rt:236:13
 returns : tie.Need-returns Inv-loop μ-loop
 unfolding slotAt freeSlot idle
 returns c =
     let eight : length (c .before .before .before .before .before .args .t1 .slots) ≡ 8 = search (needs, unmapped) in
     sym (c .before .before .before .before .loop .inv .1 ∙ distinct-slot-here (c .before .before .before .before .before .args .t1) eight (c .before .before .before .before .loop .i) (c .before .before .before .loop-test .taken) (sym (c .before .is-apart-from .ensures) ∙ not-true _ (c .if1 .taken)))
 
--- src/lib.rt:238:9
 add-i : tie.Need-add-i Inv-loop μ-loop
 add-i c = omega arith
 
--- src/lib.rt:233:5
 loop-less : tie.Need-loop-less Inv-loop μ-loop
 loop-less c = omega arith
 
--- src/lib.rt:233:5
 loop-again : tie.Need-loop-again Inv-loop μ-loop
 unfolding slotAt freeSlot idle
 loop-again c =
     let eight : length (c .before .before .before .before .before .args .t1 .slots) ≡ 8 = search (needs, unmapped) in
     (omega arith, c .before .before .before .before .loop .inv .1 ∙ distinct-slot-next (c .before .before .before .before .before .args .t1) eight (c .before .before .before .before .loop .i) (c .before .before .before .loop-test .taken) (sym (c .before .is-apart-from .ensures) ∙ not-false _ (c .if1 .left)))
 
--- src/lib.rt:229:1
 returns-2 : tie.Need-returns-2 Inv-loop μ-loop
 returns-2 c =
     let eight : length (c .before .before .args .t1 .slots) ≡ 8 = search (needs, unmapped) in

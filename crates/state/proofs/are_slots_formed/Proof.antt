@@ -1,19 +1,16 @@
 use native.Mathlib.Omega.{arith}
 use borrow.Author.Needs.{needs}
-use Prim.Native.Nat.{_+_, _-_, _≤_, _<_}
+use Prim.Native.Nat.{_-_, _≤_}
 use mathlib.Core.Path.{_≡_, refl, sym, _∙_}
 use lib.ListN.{length, drop}
-use Rattle.neighbour.specs.Record.{idle}
 use borrow.Author.Tests.{not-true, not-false}
+use Rattle.neighbour.specs.Record.{idle}
 use Rattle.state.specs.Lists.{every}
 use Rattle.state.specs.Slots.{freeSlot}
 use Rattle.state.specs.Formed.{slotFormed}
 use Rattle.state.proofs.ListLaws.{unmapped, every-here, every-next, every-end}
 use Rattle.state.proofs.are_slots_formed.Statement.{statement}
 use Rattle.state.proofs.are_slots_formed.Tie as tie
-use Rattle.state.proofs.are_slots_formed.Reads as reads
-use Rattle.state.proofs.are_slots_formed.Lts as lts
-use Rattle.state.proofs.is_slot_formed.Reads as is-slot-formed-reads
 
 abbrev Inv-loop : tie.InvT-loop
 Inv-loop st settings i₀ i = (i ≤ 8) × (every (slotFormed (st .settings)) (st .slots) ≡ every (slotFormed (st .settings)) (drop i (st .slots)))
@@ -21,45 +18,36 @@ Inv-loop st settings i₀ i = (i ≤ 8) × (every (slotFormed (st .settings)) (s
 abbrev μ-loop : tie.MeasureT-loop
 μ-loop st settings i₀ i = 8 - i
 
--- src/lib.rt:201:5
 loop-holds : tie.Need-loop-holds Inv-loop μ-loop
 loop-holds c = (omega arith, refl)
 
--- src/lib.rt:202:20
 mul-slot : tie.Need-mul-slot Inv-loop μ-loop
 mul-slot c = omega arith
 
--- src/lib.rt:202:20
 element-copy-out-slot : tie.Need-element-copy-out-slot Inv-loop μ-loop
 element-copy-out-slot c = search needs
 
--- src/lib.rt:203:13
 is-slot-formed-requires : tie.Need-is-slot-formed-requires Inv-loop μ-loop
 is-slot-formed-requires c κs = search needs
 
--- src/lib.rt:204:13
 returns : tie.Need-returns Inv-loop μ-loop
 unfolding freeSlot idle
 returns c =
     let eight : length (c .before .before .before .before .before .before .args .t1 .slots) ≡ 8 = search (needs, unmapped) in
     sym (c .before .before .before .before .loop .inv .1 ∙ every-here (slotFormed (c .before .before .before .before .before .before .args .t1 .settings)) (c .before .before .before .before .before .before .args .t1 .slots) (c .before .before .before .before .loop .i) freeSlot (omega arith) (sym (c .before .is-slot-formed .ensures) ∙ not-true _ (c .if1 .taken)))
 
--- src/lib.rt:206:9
 add-i : tie.Need-add-i Inv-loop μ-loop
 add-i c = omega arith
 
--- src/lib.rt:201:5
 loop-less : tie.Need-loop-less Inv-loop μ-loop
 loop-less c = omega arith
 
--- src/lib.rt:201:5
 loop-again : tie.Need-loop-again Inv-loop μ-loop
 unfolding freeSlot idle
 loop-again c =
     let eight : length (c .before .before .before .before .before .before .args .t1 .slots) ≡ 8 = search (needs, unmapped) in
     (omega arith, c .before .before .before .before .loop .inv .1 ∙ every-next (slotFormed (c .before .before .before .before .before .before .args .t1 .settings)) (c .before .before .before .before .before .before .args .t1 .slots) (c .before .before .before .before .loop .i) freeSlot (omega arith) (sym (c .before .is-slot-formed .ensures) ∙ not-false _ (c .if1 .left)))
 
--- src/lib.rt:196:1
 returns-2 : tie.Need-returns-2 Inv-loop μ-loop
 returns-2 c =
     let eight : length (c .before .before .before .args .t1 .slots) ≡ 8 = search (needs, unmapped) in

@@ -1,27 +1,21 @@
+use borrow.Author.Tests.{eq-eqb, ne-eqb}
 use Rattle.state.proofs.FormedLaws.{peer-last}
 use Rattle.state.specs.Formed.{goodPeer}
-use borrow.Author.Tests.{eq-eqb, ne-eqb}
 use Rattle.state.proofs.good_peer.Statement.{statement}
 use Rattle.state.proofs.good_peer.Tie as tie
-use Rattle.state.proofs.good_peer.Reads as reads
-use Rattle.state.proofs.good_peer.Lts as lts
 
--- src/lib.rt:120:9
 returns : tie.Need-returns
 unfolding goodPeer
 returns c = simp (eq-eqb _ _ (c .if1 .taken))
 
--- src/lib.rt:123:9
 returns-2 : tie.Need-returns-2
 unfolding goodPeer
 returns-2 c = simp (ne-eqb _ _ (c .before .before .if1 .left), eq-eqb _ _ (c .if2 .taken))
 
--- src/lib.rt:126:9
 returns-3 : tie.Need-returns-3
 unfolding goodPeer
 returns-3 c = simp (ne-eqb _ _ (c .before .before .before .if1 .left), ne-eqb _ _ (c .before .if2 .left), eq-eqb _ _ (c .if3 .taken))
 
--- src/lib.rt:116:1
 returns-4 : tie.Need-returns-4
 returns-4 c = peer-last _ _ _ (c .before .before .before .before .if1 .left) (c .before .before .if2 .left) (c .before .if3 .left)
 

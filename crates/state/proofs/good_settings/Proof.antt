@@ -1,38 +1,28 @@
-use Rattle.state.specs.Formed.{goodSettings}
 use borrow.Author.Tests.{eq-eqb, ne-eqb, le-leb, lt-leb, not-true, not-false}
 use mathlib.Core.Path.{sym, _∙_}
 use borrow.Author.Needs.{needs}
+use Rattle.state.specs.Formed.{goodSettings}
 use Rattle.state.proofs.good_settings.Statement.{statement}
 use Rattle.state.proofs.good_settings.Tie as tie
-use Rattle.state.proofs.good_settings.Reads as reads
-use Rattle.state.proofs.good_settings.Lts as lts
-use Rattle.nets.proofs.good_net.Reads as good-net-reads
-use Rattle.nets.proofs.on_net.Reads as on-net-reads
 
--- src/lib.rt:104:9
 returns : tie.Need-returns
 unfolding goodSettings
 returns c = simp (eq-eqb _ _ (c .if1 .taken))
 
--- src/lib.rt:107:9
 returns-2 : tie.Need-returns-2
 unfolding goodSettings
 returns-2 c = simp (ne-eqb _ _ (c .before .before .if1 .left), lt-leb _ _ (c .if2 .taken))
 
--- src/lib.rt:109:9
 good-net-requires : tie.Need-good-net-requires
 good-net-requires c κs = search needs
 
--- src/lib.rt:110:9
 returns-3 : tie.Need-returns-3
 unfolding goodSettings
 returns-3 c = simp (ne-eqb _ _ (c .before .before .before .before .if1 .left), le-leb _ _ (c .before .before .if2 .left), sym (c .before .good-net .ensures) ∙ not-true _ (c .if3 .taken))
 
--- src/lib.rt:112:5
 on-net-requires : tie.Need-on-net-requires
 on-net-requires c κs = search needs
 
--- src/lib.rt:100:1
 returns-4 : tie.Need-returns-4
 unfolding goodSettings
 returns-4 c = simp (ne-eqb _ _ (c .before .before .before .before .before .if1 .left), le-leb _ _ (c .before .before .before .if2 .left), sym (c .before .before .good-net .ensures) ∙ not-false _ (c .before .if3 .left)) (c .on-net .ensures)

@@ -1,6 +1,6 @@
 use native.Mathlib.Omega.{arith}
 use borrow.Author.Needs.{needs}
-use Prim.Native.Nat.{_+_, _-_, _≤_, _<_}
+use Prim.Native.Nat.{_-_, _≤_}
 use mathlib.Core.Path.{_≡_, refl, sym, _∙_}
 use lib.ListN.{length, drop}
 use Rattle.neighbour.specs.Record.{idle}
@@ -10,8 +10,6 @@ use Rattle.state.proofs.ListLaws.{unmapped}
 use Rattle.state.proofs.SlotLaws.{clash-is, clash-not, apart-zero, apart-here, apart-next, apart-end}
 use Rattle.state.proofs.is_apart_from.Statement.{statement}
 use Rattle.state.proofs.is_apart_from.Tie as tie
-use Rattle.state.proofs.is_apart_from.Reads as reads
-use Rattle.state.proofs.is_apart_from.Lts as lts
 
 abbrev Inv-loop : tie.InvT-loop
 Inv-loop from address st i₀ i = (i ≤ 8) × (every (apart address) (drop from (addresses st)) ≡ every (apart address) (drop i (addresses st)))
@@ -19,47 +17,38 @@ Inv-loop from address st i₀ i = (i ≤ 8) × (every (apart address) (drop from
 abbrev μ-loop : tie.MeasureT-loop
 μ-loop from address st i₀ i = 8 - i
 
--- src/lib.rt:217:9
 returns : tie.Need-returns Inv-loop μ-loop
 returns c =
     let eight : length (c .before .args .t1 .slots) ≡ 8 = search (needs, unmapped) in
     sym (apart-zero (c .before .args .t1) eight (c .before .args .address) (c .before .args .from) (c .if1 .taken))
 
--- src/lib.rt:220:5
 loop-holds : tie.Need-loop-holds Inv-loop μ-loop
-loop-holds c = (c .before .pre, refl)
+loop-holds c = (omega arith, refl)
 
--- src/lib.rt:221:20
 mul-later : tie.Need-mul-later Inv-loop μ-loop
 mul-later c = omega arith
 
--- src/lib.rt:221:20
 element-copy-out-later : tie.Need-element-copy-out-later Inv-loop μ-loop
 element-copy-out-later c = search needs
 
--- src/lib.rt:223:13
 returns-2 : tie.Need-returns-2 Inv-loop μ-loop
 unfolding slotAt freeSlot idle
 returns-2 c =
     let eight : length (c .before .before .before .before .before .before .args .t1 .slots) ≡ 8 = search (needs, unmapped) in
     sym (c .before .before .before .before .loop .inv .1 ∙ apart-here (c .before .before .before .before .before .before .args .t1) eight (c .before .before .before .before .before .before .args .address) (c .before .before .before .before .loop .i) (c .before .before .before .loop-test .taken) (clash-is _ _ (c .before .before .before .before .before .if1 .left) (c .if2 .taken)))
 
--- src/lib.rt:225:9
 add-i : tie.Need-add-i Inv-loop μ-loop
 add-i c = omega arith
 
--- src/lib.rt:220:5
 loop-less : tie.Need-loop-less Inv-loop μ-loop
 loop-less c = omega arith
 
--- src/lib.rt:220:5
 loop-again : tie.Need-loop-again Inv-loop μ-loop
 unfolding slotAt freeSlot idle
 loop-again c =
     let eight : length (c .before .before .before .before .before .before .args .t1 .slots) ≡ 8 = search (needs, unmapped) in
     (omega arith, c .before .before .before .before .loop .inv .1 ∙ apart-next (c .before .before .before .before .before .before .args .t1) eight (c .before .before .before .before .before .before .args .address) (c .before .before .before .before .loop .i) (c .before .before .before .loop-test .taken) (clash-not _ _ (c .if2 .left)))
 
--- src/lib.rt:212:1
 returns-3 : tie.Need-returns-3 Inv-loop μ-loop
 returns-3 c =
     let eight : length (c .before .before .before .args .t1 .slots) ≡ 8 = search (needs, unmapped) in

@@ -1,41 +1,31 @@
-use Rattle.state.specs.Formed.{freeFormed}
 use borrow.Author.Tests.{eq-eqb, ne-eqb, not-true, not-false}
 use mathlib.Core.Path.{sym, _∙_}
-use Rattle.state.proofs.FormedLaws.{idle-zero}
 use borrow.Author.Needs.{needs}
+use Rattle.state.specs.Formed.{freeFormed}
+use Rattle.state.proofs.FormedLaws.{idle-zero}
 use Rattle.state.proofs.is_free_formed.Statement.{statement}
 use Rattle.state.proofs.is_free_formed.Tie as tie
-use Rattle.state.proofs.is_free_formed.Reads as reads
-use Rattle.state.proofs.is_free_formed.Lts as lts
-use Rattle.neighbour.proofs.is_idle.Reads as is-idle-reads
-use Rattle.wellformed.proofs.well_formed.Reads as well-formed-reads
 
--- src/lib.rt:160:9
 returns : tie.Need-returns
 unfolding freeFormed
 returns c = simp (ne-eqb _ _ (c .if1 .taken))
 
--- src/lib.rt:164:9
 is-idle-requires : tie.Need-is-idle-requires
 is-idle-requires c κs = search needs
 
--- src/lib.rt:165:9
 returns-2 : tie.Need-returns-2
 unfolding freeFormed
 returns-2 c = simp (eq-eqb _ _ (c .before .before .before .if1 .left), sym (c .before .is-idle .ensures) ∙ not-true _ (c .if2 .taken))
 
--- src/lib.rt:167:9
 well-formed-requires : tie.Need-well-formed-requires
 well-formed-requires c κs = search needs
 
--- src/lib.rt:168:9
 returns-3 : tie.Need-returns-3
 unfolding freeFormed
 returns-3 c =
     let i = sym (c .before .before .before .is-idle .ensures) ∙ not-false _ (c .before .before .if2 .left) in
     simp (eq-eqb _ _ (c .before .before .before .before .before .if1 .left), i, sym (idle-zero _ i) ∙ sym (c .before .well-formed .ensures) ∙ not-true _ (c .if3 .taken))
 
--- src/lib.rt:156:1
 returns-4 : tie.Need-returns-4
 unfolding freeFormed
 returns-4 c =

@@ -1,18 +1,16 @@
 use native.Mathlib.Omega.{arith}
 use borrow.Author.Needs.{needs}
-use Prim.Native.Nat.{_+_, _-_, _≤_, _<_}
-use mathlib.Core.Path.{_≡_, refl, sym, _∙_}
+use Prim.Native.Nat.{_+_, _-_, _≤_}
+use mathlib.Core.Path.{_≡_}
 use lib.ListN.{length, drop}
-use Rattle.neighbour.specs.Record.{idle}
 use borrow.Author.Tests.{eq-eqb, ne-eqb}
+use Rattle.neighbour.specs.Record.{idle}
 use Rattle.state.specs.Lists.{first}
 use Rattle.state.specs.Slots.{freeSlot, slotAt, addresses, isNone, lowestFree}
 use Rattle.state.proofs.ListLaws.{unmapped}
 use Rattle.state.proofs.SlotLaws.{find-here, find-next, find-end}
 use Rattle.state.proofs.lowest_free.Statement.{statement}
 use Rattle.state.proofs.lowest_free.Tie as tie
-use Rattle.state.proofs.lowest_free.Reads as reads
-use Rattle.state.proofs.lowest_free.Lts as lts
 
 abbrev Inv-loop : tie.InvT-loop
 Inv-loop st free₀ free = (free ≤ 8) × (first isNone (addresses st) ≡ free + first isNone (drop free (addresses st)))
@@ -20,41 +18,33 @@ Inv-loop st free₀ free = (free ≤ 8) × (first isNone (addresses st) ≡ free
 abbrev μ-loop : tie.MeasureT-loop
 μ-loop st free₀ free = 8 - free
 
--- src/lib.rt:89:5
 loop-holds : tie.Need-loop-holds Inv-loop μ-loop
 loop-holds c = omega arith
 
--- src/lib.rt:90:20
 mul-slot : tie.Need-mul-slot Inv-loop μ-loop
 mul-slot c = omega arith
 
--- src/lib.rt:90:20
 element-copy-out-slot : tie.Need-element-copy-out-slot Inv-loop μ-loop
 element-copy-out-slot c = search needs
 
--- src/lib.rt:92:13
 returns : tie.Need-returns Inv-loop μ-loop
 unfolding lowestFree slotAt freeSlot idle
 returns c =
     let eight : length (c .before .before .before .before .before .args .t1 .slots) ≡ 8 = search (needs, unmapped) in
     find-here (c .before .before .before .before .before .args .t1) eight isNone (c .before .before .before .before .loop .free) (c .before .before .before .before .loop .inv .1) (c .before .before .before .loop-test .taken) (eq-eqb _ _ (c .if1 .taken))
 
--- src/lib.rt:94:9
 add-free : tie.Need-add-free Inv-loop μ-loop
 add-free c = omega arith
 
--- src/lib.rt:89:5
 loop-less : tie.Need-loop-less Inv-loop μ-loop
 loop-less c = omega arith
 
--- src/lib.rt:89:5
 loop-again : tie.Need-loop-again Inv-loop μ-loop
 unfolding slotAt freeSlot idle
 loop-again c =
     let eight : length (c .before .before .before .before .before .args .t1 .slots) ≡ 8 = search (needs, unmapped) in
     (omega arith, find-next (c .before .before .before .before .before .args .t1) eight isNone (c .before .before .before .before .loop .free) (c .before .before .before .before .loop .inv .1) (c .before .before .before .loop-test .taken) (ne-eqb _ _ (c .if1 .left)))
 
--- src/lib.rt:85:1
 returns-2 : tie.Need-returns-2 Inv-loop μ-loop
 unfolding lowestFree
 returns-2 c =

@@ -1,11 +1,8 @@
-use Rattle.state.specs.Outcomes.{refusedOf}
 use mathlib.Core.Path.{refl}
+use Rattle.state.specs.Outcomes.{refusedOf}
 use Rattle.state.proofs.refused.Statement.{statement}
 use Rattle.state.proofs.refused.Tie as tie
-use Rattle.state.proofs.refused.Reads as reads
-use Rattle.state.proofs.refused.Lts as lts
 
--- src/lib.rt:259:1
 returns : tie.Need-returns
 unfolding refusedOf
 returns c = refl

@@ -1,7 +1,7 @@
 use native.Mathlib.Omega.{arith}
 use borrow.Author.Needs.{needs}
-use Prim.Native.Nat.{_+_, _-_, _≤_, _<_}
-use mathlib.Core.Path.{_≡_, refl, sym, _∙_}
+use Prim.Native.Nat.{_+_, _-_, _≤_}
+use mathlib.Core.Path.{_≡_}
 use lib.ListN.{length, drop}
 use Rattle.neighbour.specs.Record.{idle}
 use Rattle.state.specs.Lists.{first}
@@ -10,8 +10,6 @@ use Rattle.state.proofs.ListLaws.{unmapped}
 use Rattle.state.proofs.SlotLaws.{clash-is, clash-not, find-zero, find-here, find-next, find-end}
 use Rattle.state.proofs.slot_of.Statement.{statement}
 use Rattle.state.proofs.slot_of.Tie as tie
-use Rattle.state.proofs.slot_of.Reads as reads
-use Rattle.state.proofs.slot_of.Lts as lts
 
 abbrev Inv-loop : tie.InvT-loop
 Inv-loop address st i₀ i = (i ≤ 8) × (first (clash address) (addresses st) ≡ i + first (clash address) (drop i (addresses st)))
@@ -19,47 +17,38 @@ Inv-loop address st i₀ i = (i ≤ 8) × (first (clash address) (addresses st) 
 abbrev μ-loop : tie.MeasureT-loop
 μ-loop address st i₀ i = 8 - i
 
--- src/lib.rt:71:9
 returns : tie.Need-returns Inv-loop μ-loop
 returns c =
     let eight : length (c .before .args .t1 .slots) ≡ 8 = search (needs, unmapped) in
     find-zero (c .before .args .t1) eight (c .before .args .address) (c .if1 .taken)
 
--- src/lib.rt:74:5
 loop-holds : tie.Need-loop-holds Inv-loop μ-loop
 loop-holds c = omega arith
 
--- src/lib.rt:75:20
 mul-slot : tie.Need-mul-slot Inv-loop μ-loop
 mul-slot c = omega arith
 
--- src/lib.rt:75:20
 element-copy-out-slot : tie.Need-element-copy-out-slot Inv-loop μ-loop
 element-copy-out-slot c = search needs
 
--- src/lib.rt:77:13
 returns-2 : tie.Need-returns-2 Inv-loop μ-loop
 unfolding slotOf slotAt freeSlot idle
 returns-2 c =
     let eight : length (c .before .before .before .before .before .before .args .t1 .slots) ≡ 8 = search (needs, unmapped) in
     find-here (c .before .before .before .before .before .before .args .t1) eight (clash (c .before .before .before .before .before .before .args .address)) (c .before .before .before .before .loop .i) (c .before .before .before .before .loop .inv .1) (c .before .before .before .loop-test .taken) (clash-is _ _ (c .before .before .before .before .before .if1 .left) (c .if2 .taken))
 
--- src/lib.rt:79:9
 add-i : tie.Need-add-i Inv-loop μ-loop
 add-i c = omega arith
 
--- src/lib.rt:74:5
 loop-less : tie.Need-loop-less Inv-loop μ-loop
 loop-less c = omega arith
 
--- src/lib.rt:74:5
 loop-again : tie.Need-loop-again Inv-loop μ-loop
 unfolding slotAt freeSlot idle
 loop-again c =
     let eight : length (c .before .before .before .before .before .before .args .t1 .slots) ≡ 8 = search (needs, unmapped) in
     (omega arith, find-next (c .before .before .before .before .before .before .args .t1) eight (clash (c .before .before .before .before .before .before .args .address)) (c .before .before .before .before .loop .i) (c .before .before .before .before .loop .inv .1) (c .before .before .before .loop-test .taken) (clash-not _ _ (c .if2 .left)))
 
--- src/lib.rt:67:1
 returns-3 : tie.Need-returns-3 Inv-loop μ-loop
 unfolding slotOf
 returns-3 c =

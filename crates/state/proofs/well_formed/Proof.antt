@@ -1,38 +1,27 @@
-use Rattle.state.specs.Formed.{stateFormed}
 use borrow.Author.Tests.{not-true, not-false}
 use mathlib.Core.Path.{sym, _∙_}
 use borrow.Author.Needs.{needs}
+use Rattle.state.specs.Formed.{stateFormed}
 use Rattle.state.proofs.well_formed.Statement.{statement}
 use Rattle.state.proofs.well_formed.Tie as tie
-use Rattle.state.proofs.well_formed.Reads as reads
-use Rattle.state.proofs.well_formed.Lts as lts
-use Rattle.state.proofs.are_addresses_distinct.Reads as are-addresses-distinct-reads
-use Rattle.state.proofs.are_slots_formed.Reads as are-slots-formed-reads
-use Rattle.state.proofs.good_settings.Reads as good-settings-reads
 
--- src/lib.rt:248:9
 good-settings-requires : tie.Need-good-settings-requires
 good-settings-requires c κs = search needs
 
--- src/lib.rt:249:9
 returns : tie.Need-returns
 unfolding stateFormed
 returns c = simp (sym (c .before .good-settings .ensures) ∙ not-true _ (c .if1 .taken))
 
--- src/lib.rt:251:9
 are-slots-formed-requires : tie.Need-are-slots-formed-requires
 are-slots-formed-requires c κs = search needs
 
--- src/lib.rt:252:9
 returns-2 : tie.Need-returns-2
 unfolding stateFormed
 returns-2 c = simp (sym (c .before .before .before .good-settings .ensures) ∙ not-false _ (c .before .before .if1 .left), sym (c .before .are-slots-formed .ensures) ∙ not-true _ (c .if2 .taken))
 
--- src/lib.rt:254:5
 are-addresses-distinct-requires : tie.Need-are-addresses-distinct-requires
 are-addresses-distinct-requires c κs = search needs
 
--- src/lib.rt:244:1
 returns-3 : tie.Need-returns-3
 unfolding stateFormed
 returns-3 c = simp (sym (c .before .before .before .before .good-settings .ensures) ∙ not-false _ (c .before .before .before .if1 .left), sym (c .before .before .are-slots-formed .ensures) ∙ not-false _ (c .before .if2 .left)) (c .are-addresses-distinct .ensures)

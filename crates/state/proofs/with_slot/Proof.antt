@@ -1,20 +1,15 @@
-use Rattle.state.specs.Slots.{withSlot}
 use mathlib.Core.Path.{refl}
 use borrow.Author.Needs.{needs}
+use Rattle.state.specs.Slots.{withSlot}
 use Rattle.state.proofs.with_slot.Statement.{statement}
 use Rattle.state.proofs.with_slot.Tie as tie
-use Rattle.state.proofs.with_slot.Reads as reads
-use Rattle.state.proofs.with_slot.Lts as lts
 
--- src/lib.rt:62:5
 mul-slot : tie.Need-mul-slot
 mul-slot c = search needs
 
--- src/lib.rt:62:5
 element-set-from-slot : tie.Need-element-set-from-slot
 element-set-from-slot c = search needs
 
--- src/lib.rt:57:1
 returns : tie.Need-returns
 unfolding withSlot
 returns c = refl

@@ -20,12 +20,12 @@ returns c = simp (sym (c .before .is-idle .ensures) ∙ c .if1 .taken)
 -- src/lib.rt:684:9
 returns-2 : tie.Need-returns-2
 unfolding timersRun
-returns-2 c = simp (sym (c .before .before .before .is-idle .ensures) ∙ c .before .before .if1 .left, c .before .struct-known .given .1, lt-leb _ _ (c .if2 .taken))
+returns-2 c = simp (sym (c .before .before .before .is-idle .ensures) ∙ c .before .before .if1 .left, lt-leb _ _ (c .if2 .taken))
 
 -- src/lib.rt:676:1
 returns-3 : tie.Need-returns-3
 unfolding timersRun
-returns-3 c = simp (sym (c .before .before .before .before .is-idle .ensures) ∙ c .before .before .before .if1 .left, c .before .before .struct-known .given .1, le-leb _ _ (c .before .if2 .left), c .struct-known2 .given .1)
+returns-3 c = simp (sym (c .before .before .before .before .is-idle .ensures) ∙ c .before .before .before .if1 .left, le-leb _ _ (c .before .if2 .left))
 
 pub are-timers-running-spec : {M : Type 1} → statement M
 are-timers-running-spec = tie.close (tie.spec is-idle-requires returns returns-2 returns-3)

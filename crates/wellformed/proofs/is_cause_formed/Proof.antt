@@ -34,22 +34,22 @@ is-cause-requires c κs = search needs
 -- src/lib.rt:757:1
 returns : tie.Need-returns
 unfolding causeFormed under
-returns c = rw (c .before .enum-told .given .1, c .struct-known .given .1)
+returns c = rw (c .before .enum-told .given .1)
 
 -- src/lib.rt:757:1
 returns-2 : tie.Need-returns-2
 unfolding causeFormed under
-returns-2 c = rw (c .before .enum-told2 .given .1, c .struct-known2 .given .1)
+returns-2 c = rw (c .before .enum-told2 .given .1)
 
 -- src/lib.rt:757:1
 returns-3 : tie.Need-returns-3
 unfolding causeFormed under
-returns-3 c = rw (c .before .enum-told3 .given .1, c .struct-known3 .given .1)
+returns-3 c = rw (c .before .enum-told3 .given .1)
 
 -- src/lib.rt:757:1
 returns-4 : tie.Need-returns-4
 unfolding causeFormed under
-returns-4 c = rw (c .before .enum-told4 .given .1, c .struct-known4 .given .1)
+returns-4 c = rw (c .before .enum-told4 .given .1)
 
 -- src/lib.rt:757:1
 returns-5 : tie.Need-returns-5

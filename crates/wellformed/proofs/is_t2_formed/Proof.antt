@@ -29,27 +29,27 @@ enum-told-5 c = search needs
 -- src/lib.rt:689:1
 returns : tie.Need-returns
 unfolding t2Formed under
-returns c = rw (c .before .enum-told .given .1, c .struct-known .given .1)
+returns c = rw (c .before .enum-told .given .1)
 
 -- src/lib.rt:689:1
 returns-2 : tie.Need-returns-2
 unfolding t2Formed under
-returns-2 c = rw (c .before .enum-told2 .given .1, c .struct-known2 .given .1)
+returns-2 c = rw (c .before .enum-told2 .given .1)
 
 -- src/lib.rt:689:1
 returns-3 : tie.Need-returns-3
 unfolding t2Formed under
-returns-3 c = rw (c .before .enum-told3 .given .1, c .struct-known3 .given .1)
+returns-3 c = rw (c .before .enum-told3 .given .1)
 
 -- src/lib.rt:689:1
 returns-4 : tie.Need-returns-4
 unfolding t2Formed under
-returns-4 c = rw (c .before .enum-told4 .given .1, c .struct-known4 .given .1)
+returns-4 c = rw (c .before .enum-told4 .given .1)
 
 -- src/lib.rt:689:1
 returns-5 : tie.Need-returns-5
 unfolding t2Formed under
-returns-5 c = rw (c .before .enum-told5 .given .1, c .struct-known5 .given .1)
+returns-5 c = rw (c .before .enum-told5 .given .1)
 
 pub is-t2-formed-spec : {M : Type 1} → statement M
 is-t2-formed-spec =

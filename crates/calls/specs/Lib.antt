@@ -1,0 +1,4 @@
+pub mod Verdict
+pub mod Home
+pub mod Carried
+pub mod Calls

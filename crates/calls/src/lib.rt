@@ -1,0 +1,23 @@
+// What the calls about one neighbour are: the definitions are in specs/. Here are the types of a verdict on one neighbour.
+use machine::Reply;
+use neighbour::Neighbour;
+
+// What becomes of the neighbour's rows: they stay, go, or are replaced by this many of the message's.
+pub enum Effect {
+    Keep,
+    Clear,
+    Replace(u16),
+}
+
+// 01's answer, the reply, the record after it and what becomes of the rows.
+pub struct Verdict {
+    pub answer: u8,
+    pub reply: Reply,
+    pub neighbour: Neighbour,
+    pub effect: Effect,
+}
+
+// How many slots there are.
+pub fn slot_count() -> usize {
+    8
+}

@@ -1,0 +1,57 @@
+//! The answer numbers (01, "Answer numbers").
+
+/// What a call answers. The discriminant is 01's number; checks go in this order and the first
+/// that fails answers.
+#[derive(Clone, Copy, Debug, PartialEq, Eq, PartialOrd, Ord, Hash)]
+#[repr(u8)]
+pub enum Answer {
+    /// The call was carried out, even if it changes nothing.
+    Done = 0,
+    /// State not well formed.
+    StateNotWellFormed = 1,
+    /// Table not 3,072 numbers; in a listing, also a used row's third number above 511.
+    BadTable = 2,
+    /// Reply or listing buffer too short.
+    ShortBuffer = 3,
+    /// Message call: bad home list.
+    BadHomeList = 4,
+    /// No used slot has this address.
+    UnknownAddress = 5,
+    /// Message below 10 or above 2,048 octets.
+    MessageSize = 6,
+    /// Version not 2.
+    WrongVersion = 7,
+    /// Checksum field wrong.
+    WrongChecksum = 8,
+    /// AS is not this neighbour's.
+    WrongAs = 9,
+    /// Unknown type and code pair.
+    UnknownKind = 10,
+    /// Status not allowed.
+    BadStatus = 11,
+    /// Length wrong for the type.
+    WrongLength = 12,
+    /// Response out of sequence.
+    OutOfSequence = 13,
+    /// Update in Up with a bad body or a net that is not the common net.
+    BadUpdate = 14,
+    /// Such an Update, otherwise good, of more than 128 rows.
+    TooManyRows = 15,
+    /// Bad setting; writer: bad meaning.
+    BadSetting = 16,
+    /// Add: no free slot.
+    NoFreeSlot = 17,
+    /// Remove: neighbour not Idle.
+    NotIdle = 18,
+}
+
+impl Answer {
+    /// 01's number.
+    pub fn number(self) -> u8 {
+        self as u8
+    }
+
+    pub fn is_refusal(self) -> bool {
+        self != Answer::Done
+    }
+}

@@ -1,0 +1,26 @@
+//! A second, independent reading of the exterior gateway rules.
+//!
+//! The rules are those of paper 01 ("Build requirements and exact rules"), which stand on RFC 904
+//! and override it. This library states them once more, plainly and with no regard for proofs, so
+//! that another implementation can be run against it call by call.
+//!
+//! * [`checksum`], [`net`], [`message`], [`update`]: the octets (01, "Octets").
+//! * [`neighbour`]: the state machine of one neighbour (01, "One neighbour").
+//! * [`gateway`]: the state, its well-formedness and the calls (01, "Answer numbers").
+//! * [`listing`]: the table as text (01, "The listing").
+//! * [`call`]: one call with all its raw arguments, and a bench that runs it.
+//! * [`generate`]: seeded lists of calls that steer into deep states.
+//! * [`coverage`]: what a list of calls touched, and the laws every call must keep.
+
+pub mod answer;
+pub mod call;
+pub mod checksum;
+pub mod coverage;
+pub mod gateway;
+pub mod generate;
+pub mod listing;
+pub mod message;
+pub mod neighbour;
+pub mod net;
+pub mod random;
+pub mod update;

@@ -1,0 +1,308 @@
+//! The tick, rule by rule (01, "One neighbour").
+
+mod common;
+
+use common::*;
+use reference::neighbour::{Mode, Neighbour, NeighbourState};
+
+/// Ticks N once and gives the neighbour after it and what was sent.
+fn tick(before: Neighbour) -> (Neighbour, Vec<Vec<u8>>) {
+    let mut gateway = Gateway::with(before);
+    let other = gateway.state().neighbours[1];
+    let answer = gateway.tick();
+    assert_eq!(answer.answer, 0);
+    assert_eq!(gateway.state().neighbours[1], other);
+    assert!(gateway.state().is_well_formed());
+    let rows_left = gateway.area(0).iter().any(|number| *number != 0);
+    assert_eq!(rows_left, gateway.n().row_count > 0);
+    (gateway.n(), answer.sent)
+}
+
+fn later(before: Neighbour) -> Neighbour {
+    Neighbour {
+        t1: before.t1 - 1,
+        t3: before.t3 - 1,
+        t2: before.t2.saturating_sub(1),
+        ..before
+    }
+}
+
+fn with(before: Neighbour, change: impl FnOnce(&mut Neighbour)) -> Neighbour {
+    let mut after = before;
+    change(&mut after);
+    after
+}
+
+#[test]
+fn idle_does_nothing() {
+    let idle = in_state(Idle, Mode::None);
+    assert_eq!(tick(idle), (idle, vec![]));
+}
+
+#[test]
+fn an_ordinary_second_takes_one_from_each_timer() {
+    for state in [Acquisition, Down, Up, Cease] {
+        for mode in [Mode::Active, Mode::Passive] {
+            for heard in [0, 1] {
+                let acquired = state == Down || state == Up;
+                let before = with(in_state(state, mode), |n| {
+                    n.heard = if acquired { heard } else { 0 };
+                });
+                assert_eq!(tick(before), (later(before), vec![]));
+            }
+        }
+    }
+}
+
+#[test]
+fn t3_is_stop_and_ends_the_tick() {
+    let idle = in_state(Idle, Mode::None);
+    let expiring = |state, mode| {
+        with(in_state(state, mode), |n| {
+            n.t3 = 1;
+            n.t1 = 1;
+            if state == Up {
+                n.t2 = 1;
+            }
+        })
+    };
+    assert_eq!(tick(expiring(Acquisition, Mode::None)), (idle, vec![]));
+    assert_eq!(tick(expiring(Cease, Mode::None)), (idle, vec![]));
+    for state in [Down, Up] {
+        for mode in [Mode::Active, Mode::Passive] {
+            let ceasing = Neighbour {
+                state: Cease,
+                send_sequence: 4,
+                receive_sequence: 5,
+                t1: 30,
+                t3: 120,
+                cause: 5,
+                ..idle
+            };
+            let sent = vec![ours(CEASE, 5, 4, &[])];
+            assert_eq!(tick(expiring(state, mode)), (ceasing, sent));
+        }
+    }
+}
+
+#[test]
+fn t1_repeats_request_and_cease() {
+    let before = with(in_state(Acquisition, Mode::None), |n| n.t1 = 1);
+    let after = with(later(before), |n| n.t1 = 30);
+    assert_eq!(tick(before), (after, vec![our_request(1, 4)]));
+    for cause in [5, 6] {
+        let before = with(in_state(Cease, Mode::None), |n| {
+            n.t1 = 1;
+            n.cause = cause;
+        });
+        let after = with(later(before), |n| n.t1 = 30);
+        assert_eq!(tick(before), (after, vec![ours(CEASE, cause, 4, &[])]));
+    }
+}
+
+/// Every register, heard bit and mode in Down and Up, t1 running out and t2 not.
+#[test]
+fn reachability_for_every_register() {
+    for state in [Down, Up] {
+        for mode in [Mode::Active, Mode::Passive] {
+            for register in 0..16u8 {
+                for heard in 0..2u8 {
+                    let before = with(in_state(state, mode), |n| {
+                        n.t1 = 1;
+                        n.register = register;
+                        n.heard = heard;
+                    });
+                    let shifted = (register * 2 + heard) % 16;
+                    let ones = shifted.count_ones();
+                    let next = expected_state(state, mode, ones);
+                    let mut sent = Vec::new();
+                    if mode == Mode::Active {
+                        let status = if next == Up { 1 } else { 2 };
+                        sent.push(our_hello(status, 4));
+                    }
+                    let after = with(later(before), |n| {
+                        n.state = next;
+                        n.t1 = 32;
+                        n.register = shifted;
+                        n.heard = 0;
+                        if state == Down && next == Up {
+                            n.send_sequence = 5;
+                            n.t2 = 122;
+                            sent.push(our_poll(5));
+                        }
+                        if state == Up && next == Down {
+                            n.t2 = 0;
+                            n.row_count = 0;
+                        }
+                    });
+                    assert_eq!(tick(before), (after, sent));
+                }
+            }
+        }
+    }
+}
+
+fn expected_state(state: NeighbourState, mode: Mode, ones: u32) -> NeighbourState {
+    match (state, mode) {
+        (Down, Mode::Active) if ones >= 3 => Up,
+        (Up, Mode::Active) if ones <= 1 => Down,
+        (Down, Mode::Passive) if ones >= 1 => Up,
+        (Up, Mode::Passive) if ones == 0 => Down,
+        _ => state,
+    }
+}
+
+#[test]
+fn t2_sends_poll() {
+    for mode in [Mode::Active, Mode::Passive] {
+        let before = with(in_state(Up, mode), |n| n.t2 = 1);
+        let after = with(later(before), |n| {
+            n.t2 = 122;
+            n.send_sequence = 5;
+        });
+        assert_eq!(tick(before), (after, vec![our_poll(5)]));
+    }
+}
+
+#[test]
+fn t1_and_t2_at_once() {
+    let both = |mode, register| {
+        with(in_state(Up, mode), |n| {
+            n.t1 = 1;
+            n.t2 = 1;
+            n.register = register;
+        })
+    };
+    let stays = |before: Neighbour| {
+        with(later(before), |n| {
+            n.t1 = 32;
+            n.t2 = 122;
+            n.send_sequence = 5;
+            n.register = 0b1110;
+        })
+    };
+    let before = both(Mode::Active, 0b1111);
+    let sent = vec![our_hello(1, 4), our_poll(5)];
+    assert_eq!(sent[0].len(), 10);
+    assert_eq!(sent[1].len(), 16);
+    assert_eq!(tick(before), (stays(before), sent));
+    let before = both(Mode::Passive, 0b1111);
+    assert_eq!(tick(before), (stays(before), vec![our_poll(5)]));
+    // Going Down, t2 is zeroed and sends nothing.
+    let before = both(Mode::Active, 0b0001);
+    let after = with(later(before), |n| {
+        n.state = Down;
+        n.t1 = 32;
+        n.t2 = 0;
+        n.register = 0b0010;
+        n.row_count = 0;
+    });
+    assert_eq!(tick(before), (after, vec![our_hello(2, 4)]));
+}
+
+#[test]
+fn t1_is_set_to_the_neighbours_own_interval() {
+    let before = with(in_state(Down, Mode::Passive), |n| {
+        n.t1 = 1;
+        n.hello_interval = 122;
+        n.register = 0;
+    });
+    assert_eq!(tick(before).0.t1, 122);
+    let before = with(in_state(Up, Mode::Passive), |n| {
+        n.t2 = 1;
+        n.poll_interval = 482;
+    });
+    assert_eq!(tick(before).0.t2, 482);
+}
+
+/// A neighbour that answers comes up after three intervals, one that is silent goes down, and
+/// Cease ends it.
+#[test]
+fn a_life_in_active_mode() {
+    let mut gateway = Gateway::new(1);
+    assert_eq!(gateway.start(), got(0, &[our_request(1, 0)]));
+    let answer = gateway.message(&confirm(2, 0, 30, 120));
+    assert_eq!(answer, got(0, &[our_hello(2, 0)]));
+    for interval in 1..=3 {
+        assert_eq!(gateway.message(&peer(I_H_U, 2, 0, &[])), got(0, &[]));
+        for _ in 0..31 {
+            assert_eq!(gateway.tick(), got(0, &[]));
+        }
+        let sent = if interval == 3 {
+            vec![our_hello(1, 0), our_poll(1)]
+        } else {
+            vec![our_hello(2, 0)]
+        };
+        assert_eq!(gateway.tick(), got(0, &sent));
+    }
+    assert_eq!(gateway.n().state, Up);
+    assert_eq!(gateway.n().t2, 122);
+    assert_eq!(gateway.n().t3, 3600 - 32);
+    assert_eq!(gateway.message(&hex(CASE_U)), got(0, &[]));
+    assert_eq!(gateway.n().row_count, 2);
+    // The Update was heard: 1111; then silence: 1110, 1100, 1000.
+    let mut hellos = Vec::new();
+    for _ in 0..4 * 32 {
+        hellos.extend(gateway.tick().sent);
+    }
+    let expected = vec![
+        our_hello(1, 1),
+        our_hello(1, 1),
+        our_hello(1, 1),
+        our_poll(2),
+        our_hello(2, 2),
+    ];
+    assert_eq!(hellos, expected);
+    assert_eq!(gateway.n().state, Down);
+    assert_eq!(gateway.n().register, 0b1000);
+    assert!(gateway.area(0).iter().all(|number| *number == 0));
+    let answer = gateway.message(&peer(CEASE, 5, 3, &[]));
+    assert_eq!(answer, got(0, &[ours(CEASE_ACK, 0, 3, &[])]));
+    assert_eq!(gateway.n(), in_state(Idle, Mode::None));
+}
+
+#[test]
+fn a_life_in_passive_mode() {
+    let mut gateway = Gateway::new(2);
+    let answer = gateway.message(&request(1, 50, 30, 120));
+    assert_eq!(answer, got(0, &[our_confirm(2, 50)]));
+    let answer = gateway.message(&peer(HELLO, 1, 51, &[]));
+    assert_eq!(answer, got(0, &[ours(I_H_U, 2, 51, &[])]));
+    for _ in 0..31 {
+        assert_eq!(gateway.tick(), got(0, &[]));
+    }
+    assert_eq!(gateway.tick(), got(0, &[our_poll(1)]));
+    assert_eq!(gateway.n().state, Up);
+    // Four silent intervals bring it down; the Poll at t2 comes between.
+    let mut polls = Vec::new();
+    for _ in 0..4 * 32 - 1 {
+        polls.extend(gateway.tick().sent);
+    }
+    assert_eq!(gateway.n().state, Up);
+    assert_eq!(polls, vec![our_poll(2)]);
+    assert_eq!(gateway.tick(), got(0, &[]));
+    assert_eq!(gateway.n().state, Down);
+    assert_eq!(gateway.n().register, 0);
+}
+
+#[test]
+fn without_a_sign_of_life_acquisition_and_cease_end_at_t3() {
+    let mut gateway = Gateway::new(0);
+    gateway.start();
+    let mut sent = Vec::new();
+    for _ in 0..120 {
+        sent.extend(gateway.tick().sent);
+    }
+    assert_eq!(sent, vec![our_request(0, 0); 3]);
+    assert_eq!(gateway.n().state, Idle);
+
+    gateway.message(&request(2, 9, 30, 120));
+    let mut sent = Vec::new();
+    for _ in 0..240 {
+        sent.extend(gateway.tick().sent);
+    }
+    let mut expected = vec![our_hello(2, 0); 3];
+    expected.extend(vec![ours(CEASE, 5, 0, &[]); 4]);
+    assert_eq!(sent, expected);
+    assert_eq!(gateway.n().state, Idle);
+}

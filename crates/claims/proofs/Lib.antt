@@ -1,0 +1,9 @@
+pub mod Verdicts
+pub mod Refused
+pub mod Parts
+pub mod Passed
+pub mod Others
+pub mod Within
+pub mod Table
+pub mod Formed
+pub mod Replies

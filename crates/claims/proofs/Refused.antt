@@ -1,0 +1,156 @@
+-- Refused calls change nothing. Assumes nothing.
+use Prim.Native.Nat.{ℕ}
+use mathlib.Core.Path.{_≡_, refl, sym, subst}
+use mathlib.Core.Bool.{Bool, true, false, _||_}
+use mathlib.Core.List.{List}
+use lib.Dec.{leb, eqb}
+use lib.Seq.{set-getD}
+use native.Mathlib.Omega.{arith}
+use borrow.Author.Tests.{leb-true, lt-leb, eqb-true, ne-eqb}
+use Rattle.octets.specs.Buffer.{over}
+use Rattle.nets.specs.Rows.{Row, rowsOf}
+use Rattle.neighbour.specs.declared.Settings.{Settings}
+use Rattle.neighbour.specs.declared.Neighbour.{Neighbour}
+use Rattle.machine.specs.declared.Event.{Event}
+use Rattle.machine.specs.declared.Reply.{Reply}
+use Rattle.machine.specs.declared.Reply.the-variants.{Nothing}
+use Rattle.state.specs.declared.State.{State}
+use Rattle.state.specs.declared.Outcome.{Outcome}
+use Rattle.state.specs.Slots.{freeSlot, slotAt, withSlot, slotOf, present}
+use Rattle.state.specs.Formed.{stateFormed}
+use Rattle.state.specs.Outcomes.{check, refusedOf}
+use Rattle.slots.proofs.Theorems.{add-claim, remove-claim}
+use Rattle.calls.specs.declared.Verdict.{Verdict}
+use Rattle.calls.specs.Verdict.{stepped, refuses, carriedOut, receiveVerdict}
+use Rattle.calls.specs.Home.{goodHome}
+use Rattle.calls.specs.Carried.{firstOctets, secondOctets, replyOctets, tableAfter, countAfter, slotAfter, outcomeAfter, bufferAfter}
+use Rattle.calls.specs.Calls.{tableFits, bufferFits, eventChecks, messageChecks, eventVerdict, messageVerdict, eventOutcome, eventTable, eventBuffer, messageOutcome, messageTable, messageBuffer}
+use Rattle.claims.specs.Claims.{neighbourOf, namedReply, isSilent, Refused, Silent, RefusedChangesNothing}
+use Rattle.claims.proofs.Verdicts.{replaced, receive-cases, call-holds}
+
+-- ---- the verdict
+
+-- a verdict that refuses keeps the record, and its reply is the named one
+pub Refusing : Settings → Neighbour → List ℕ → Verdict → Type 0
+Refusing g n o v = (v .answer ≡ 0 → ⊥) → v ≡ refuses n (v .answer) (namedReply g n o (v .answer))
+
+pub receive-refusing : (g : Settings) (asn : ℕ) (n : Neighbour) (o : List ℕ) → Refusing g n o (receiveVerdict g asn n o)
+unfolding Refusing refuses namedReply carriedOut stepped replaced
+receive-refusing g asn n o =
+    receive-cases g asn n o (Refusing g n o)
+    (record {
+      six = λ _. refl;
+      seven = λ _. refl;
+      eight = λ _. refl;
+      nine = λ _. refl;
+      ten = λ _. refl;
+      eleven = λ _. refl;
+      twelve = λ _. refl;
+      thirteen = λ _. refl;
+      fourteen = λ _. refl;
+      fifteen = λ _. refl;
+      carried = λ m d k z. absurd (z refl);
+      update = λ a q s net rows d up u z. absurd (z refl);
+    })
+
+-- ---- what it leaves
+
+same-slot : (st : State) (i : ℕ) → withSlot st i (slotAt st i) ≡ st
+unfolding withSlot slotAt
+same-slot st i = λ k. record { settings = st .settings; slots = set-getD (st .slots) i freeSlot k }
+
+module _ (st : State) (table buffer : List ℕ) (i answer : ℕ) (reply : Reply) (home rows : List Row) where
+  pub refuses-leaves :
+      Refused st table buffer reply home (outcomeAfter st i (refuses ((slotAt st i) .neighbour) answer reply) home)
+      (tableAfter table i ((refuses ((slotAt st i) .neighbour) answer reply) .effect) rows) (bufferAfter buffer ((refuses ((slotAt st i) .neighbour) answer reply) .reply) home)
+  unfolding outcomeAfter slotAfter countAfter tableAfter bufferAfter refuses
+  refuses-leaves = record { state = same-slot st i; table = refl; buffer = refl; first = refl; second = refl }
+
+-- ---- checks 1 to 5
+
+five-checks : (Q : ℕ → Type 0) → Q 0 → Q 1 → Q 2 → Q 3 → Q 4 → Q 5 → (x y z u w : Bool) → Q (check x 1 (check y 2 (check z 3 (check u 4 (check w 5 0)))))
+unfolding check
+five-checks Q q0 q1 q2 q3 q4 q5 false y z u w = q1
+five-checks Q q0 q1 q2 q3 q4 q5 true false z u w = q2
+five-checks Q q0 q1 q2 q3 q4 q5 true true false u w = q3
+five-checks Q q0 q1 q2 q3 q4 q5 true true true false w = q4
+five-checks Q q0 q1 q2 q3 q4 q5 true true true true false = q5
+five-checks Q q0 q1 q2 q3 q4 q5 true true true true true = q0
+
+module _ (g : Settings) (n : Neighbour) (o : List ℕ) where
+  early-silent : (st : State) (table buffer home : List ℕ) (a : ℕ) → namedReply g n o (messageChecks st table buffer home a) ≡ Nothing
+  unfolding messageChecks namedReply
+  early-silent st table buffer home a =
+      five-checks (λ k. namedReply g n o k ≡ Nothing) refl refl refl refl refl refl
+      (stateFormed st) (tableFits table) (bufferFits buffer) (goodHome (st .settings) home) (present st a)
+
+  silent-named : (k : ℕ) → isSilent k ≡ true → namedReply g n o k ≡ Nothing
+  unfolding namedReply
+  silent-named k h = go (leb k 8) refl h
+    where
+      go : (b : Bool) → leb k 8 ≡ b → (b || eqb k 13) ≡ true → namedReply g n o k ≡ Nothing
+      go true e q =
+          let l = leb-true k 8 e in
+          rw (ne-eqb k 9 (λ z. absurd (omega arith)), lt-leb 10 k (omega arith), ne-eqb k 14 (λ z. absurd (omega arith)), ne-eqb k 15 (λ z. absurd (omega arith)))
+      go false e q = rw (eqb-true k 13 q)
+
+-- ---- the calls
+
+nothing-silent : (st : State) (table buffer : List ℕ) (reply : Reply) (home : List Row) (r : Outcome) (t b : List ℕ) → reply ≡ Nothing
+    → Refused st table buffer reply home r t b → Silent st table buffer r t b
+unfolding refusedOf replyOctets firstOctets secondOctets over
+nothing-silent st table buffer reply home r t b e f =
+    let x : r .first ≡ 0 = rw e at (f .first) in
+    let y : r .second ≡ 0 = rw e at (f .second) in
+    record {
+      outcome = λ k. record { answer = r .answer; first = x k; second = y k; state = (f .state) k };
+      table = f .table;
+      buffer = rw e at (f .buffer);
+    }
+
+refused-early : (st : State) (table buffer : List ℕ) (reply : Reply) (home : List Row) (k : ℕ) → reply ≡ Nothing
+    → Refused st table buffer reply home (refusedOf st k) table buffer
+unfolding refusedOf replyOctets firstOctets secondOctets over
+refused-early st table buffer reply home k e = rw e (record { state = refl; table = refl; buffer = refl; first = refl; second = refl })
+
+event-refused : (event : Event) (st : State) (table buffer : List ℕ) (a : ℕ) → ((eventOutcome event st table buffer a) .answer ≡ 0 → ⊥)
+    → Silent st table buffer (eventOutcome event st table buffer a) (eventTable event st table buffer a) (eventBuffer event st table buffer a)
+unfolding eventOutcome eventTable eventBuffer eventVerdict stepped outcomeAfter refusedOf
+event-refused event st table buffer a =
+    call-holds (λ r t b. (r .answer ≡ 0 → ⊥) → Silent st table buffer r t b) (eventChecks st table buffer a) _ _ _ _ _ _
+    (λ _ z. absurd (z refl)) (λ _ _. record { outcome = refl; table = refl; buffer = refl })
+
+message-verdict-refusing : (st : State) (a : ℕ) (o : List ℕ) → Refusing (st .settings) (neighbourOf st a) o (messageVerdict st a o)
+unfolding messageVerdict
+message-verdict-refusing st a o = receive-refusing (st .settings) ((slotAt st (slotOf st a)) .asn) (neighbourOf st a) o
+
+module _ (st : State) (table buffer : List ℕ) (home rows : List Row) (o : List ℕ) (i : ℕ) (v : Verdict) where
+  verdict-refused : Refusing (st .settings) ((slotAt st i) .neighbour) o v → ((outcomeAfter st i v home) .answer ≡ 0 → ⊥)
+      → Refused st table buffer (namedReply (st .settings) ((slotAt st i) .neighbour) o ((outcomeAfter st i v home) .answer)) home
+      (outcomeAfter st i v home) (tableAfter table i (v .effect) rows) (bufferAfter buffer (v .reply) home)
+  unfolding Refusing outcomeAfter
+  verdict-refused e z =
+      let reply = namedReply (st .settings) ((slotAt st i) .neighbour) o (v .answer) in
+      subst (λ (w : Verdict). Refused st table buffer reply home (outcomeAfter st i w home) (tableAfter table i (w .effect) rows) (bufferAfter buffer (w .reply) home))
+      (sym (e z)) (refuses-leaves st table buffer i (v .answer) reply home rows)
+
+message-refused : (st : State) (table buffer home : List ℕ) (a : ℕ) (o : List ℕ) → ((messageOutcome st table buffer home a o) .answer ≡ 0 → ⊥)
+    → Refused st table buffer (namedReply (st .settings) (neighbourOf st a) o ((messageOutcome st table buffer home a o) .answer)) (rowsOf home)
+    (messageOutcome st table buffer home a o) (messageTable st table buffer home a o) (messageBuffer st table buffer home a o)
+unfolding messageOutcome messageTable messageBuffer refusedOf
+message-refused st table buffer home a o =
+    let named = namedReply (st .settings) (neighbourOf st a) o in
+    call-holds (λ r t b. (r .answer ≡ 0 → ⊥) → Refused st table buffer (named (r .answer)) (rowsOf home) r t b) (messageChecks st table buffer home a) _ _ _ _ _ _
+    (λ _. verdict-refused st table buffer (rowsOf home) _ o (slotOf st a) (messageVerdict st a o) (message-verdict-refusing st a o))
+    (λ _ _. refused-early st table buffer _ (rowsOf home) _ (early-silent (st .settings) (neighbourOf st a) o st table buffer home a))
+
+pub refused-changes-nothing : RefusedChangesNothing
+refused-changes-nothing =
+    record {
+      events = event-refused;
+      messages = message-refused;
+      silent-messages = λ st table buffer home a o z s.
+          nothing-silent st table buffer _ (rowsOf home) _ _ _ (silent-named (st .settings) (neighbourOf st a) o _ s) (message-refused st table buffer home a o z);
+      add = λ st address asn e z. add-claim st address asn e .0 .refused z;
+      remove = λ st address e z. remove-claim st address e .0 .refused z;
+    }

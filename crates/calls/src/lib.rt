@@ -16,8 +16,3 @@ pub struct Verdict {
     pub neighbour: Neighbour,
     pub effect: Effect,
 }
-
-// How many slots there are.
-pub fn slot_count() -> usize {
-    8
-}

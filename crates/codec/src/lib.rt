@@ -64,7 +64,7 @@ fn write_update(
     end
 }
 
-// Writes a message that the reader can give at the front of the buffer, and says how long it is.
+// Writes a message at the front of the buffer, an Update with these rows, and says how long it is. What may be written is judged above.
 pub fn write_message(buffer: &mut [u8], message: Message, rows: &[u32]) -> usize
     requires { ⌜ rowsFit message (now rows) ≡ true ⌝ }
     requires { ⌜ roomFor message ≤ length (now buffer) ⌝ }

@@ -65,7 +65,7 @@ repeatsCease g n = answers n (ceaseMessage g n)
 unfoldable pub acquires : Settings → Neighbour → After
 acquires g n = answers (waiting n Acquisition 0) (requestMessage g (waiting n Acquisition 0))
 
--- what Idle does with a stray Confirm, Refuse, Hello, I-H-U, Poll or Update: 01's cells "-"
+-- what Idle does with a stray Confirm, Refuse, Hello, I-H-U, Poll or Update: nothing, as 01's cells "-" say (I-H-U has no row)
 unfoldable pub stray : Settings → Neighbour → After
 stray g n = quiet n
 

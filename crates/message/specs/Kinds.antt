@@ -10,7 +10,7 @@ use Rattle.message.specs.declared.Known.the-variants.{Is, Unknown}
 use Rattle.message.specs.declared.Message.{Message}
 use Rattle.message.specs.declared.Message.the-variants as M
 
--- 01: "Request, Confirm 3; Refuse, Cease, Cease-ack 3; Hello, I-H-U 5; Poll 2; Update 1; Error 8"
+-- 01's column "Type, code": the type of each kind
 abbrev pub typeOf : Kind → ℕ
 typeOf Request = 3
 typeOf Confirm = 3
@@ -23,7 +23,7 @@ typeOf Poll = 2
 typeOf Update = 1
 typeOf Error = 8
 
--- 01: "Request, Confirm 0 and 1; Refuse, Cease, Cease-ack 2 to 4; Hello, I-H-U 0 and 1; Poll, Update, Error 0"
+-- 01's column "Type, code": the code of each kind
 abbrev pub codeOf : Kind → ℕ
 codeOf Request = 0
 codeOf Confirm = 1

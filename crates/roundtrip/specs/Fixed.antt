@@ -37,7 +37,7 @@ Fits (M.Error a q s reason x y z) = HeadFits a q s × (reason < 65536) × (x < 4
 abbrev pub Allowed : Message → Type 0
 Allowed m = statusAllowed (kindOf m) (statusOf m) ≡ true
 
--- 01: "Each meaning written reads back the same"
+-- each meaning written reads back the same
 pub record WritesReadBack : Type 0 where
   pub passes : (m : Message) → Fits m → Allowed m → headerAnswer (fixedOctets m) ≡ 0
   pub same : (m : Message) → Fits m → Allowed m → decodeOf (fixedOctets m) ≡ Good m

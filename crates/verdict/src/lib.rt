@@ -69,7 +69,7 @@ fn head_of(message: &[u8]) -> Head
     }
 }
 
-// The Error that a refused message draws: in Down and Up alone, and never to an Error.
+// The Error that a refused message draws: in Down and Up alone, and never to a message of type 8.
 fn error_to(settings: Settings, n: Neighbour, message: &[u8], reason: u16) -> Reply
     ensures { λ r. ⌜ r ≡ errorTo settings n (now (message .entry)) reason ⌝ }
 {

@@ -1,0 +1,19 @@
+-- Laws of carrying a verdict out. Assumes nothing.
+use Prim.Native.Nat.{ℕ}
+use mathlib.Core.Path.{_≡_, refl, sym, ap, _∙_}
+use mathlib.Core.List.{List}
+use Rattle.nets.specs.Rows.{Row}
+use Rattle.state.specs.declared.Slot.{Slot}
+use Rattle.state.specs.declared.State.{State}
+use Rattle.state.specs.declared.Outcome.{Outcome}
+use Rattle.state.specs.Slots.{slotAt, withSlot}
+use Rattle.calls.specs.declared.Verdict.{Verdict}
+use Rattle.calls.specs.Carried.{slotAfter, outcomeAfter}
+use Rattle.gateway.specs.declared.Lengths.{Lengths}
+use Rattle.gateway.specs.Asked.{lengthsOf}
+
+pub carried : (st : State) (i : ℕ) (v : Verdict) (home : List Row) (lengths : Lengths) (slot next : Slot) (after : State)
+    → lengths ≡ lengthsOf (v .reply) home → slot ≡ slotAt st i → next ≡ slotAfter slot v → after ≡ withSlot st i next
+    → _≡_ {A = Outcome} (record { answer = v .answer; first = lengths .first; second = lengths .second; state = after }) (outcomeAfter st i v home)
+unfolding outcomeAfter lengthsOf
+carried st i v home lengths slot next after l s n a = rw (l, a, n, s)

@@ -1,0 +1,38 @@
+-- `gateway::count_after` meets its contract. Assumes nothing.
+use Rattle.calls.specs.Carried.{countAfter, slotAfter, outcomeAfter}
+use borrow.Author.Needs.{needs}
+use Rattle.gateway.proofs.count_after.Statement.{statement}
+use Rattle.gateway.proofs.count_after.Tie as tie
+use Rattle.gateway.proofs.count_after.Reads as reads
+use Rattle.gateway.proofs.count_after.Lts as lts
+
+-- src/lib.rt:74:25
+enum-told : tie.Need-enum-told
+enum-told c = search needs
+
+-- src/lib.rt:75:26
+enum-told-2 : tie.Need-enum-told-2
+enum-told-2 c = search needs
+
+-- src/lib.rt:76:25
+enum-known-effect : tie.Need-enum-known-effect
+enum-known-effect c = search needs
+
+-- src/lib.rt:70:1
+returns : tie.Need-returns
+unfolding countAfter
+returns c = rw (c .enum-told .given .1)
+
+-- src/lib.rt:70:1
+returns-2 : tie.Need-returns-2
+unfolding countAfter
+returns-2 c = rw (c .enum-told2 .given .1)
+
+-- src/lib.rt:70:1
+returns-3 : tie.Need-returns-3
+unfolding countAfter
+returns-3 c = rw (c .before .effect .given .1)
+
+pub count-after-spec : {M : Type 1} → statement M
+count-after-spec =
+    tie.close (tie.spec enum-told enum-told-2 enum-known-effect returns returns-2 returns-3)

@@ -1,0 +1,86 @@
+-- `gateway::happen` meets its contract: a refusal, or the verdict carried out. Assumes nothing.
+use mathlib.Core.Path.{_≡_, refl, sym, _∙_}
+use borrow.Author.Needs.{needs}
+use mathlib.Core.List.{[]}
+use Rattle.gateway.proofs.Calls.{event-refused, event-index, event-asked, event-done}
+use Rattle.gateway.proofs.happen.Statement.{statement}
+use Rattle.gateway.proofs.happen.Tie as tie
+use Rattle.gateway.proofs.happen.Reads as reads
+use Rattle.gateway.proofs.happen.Lts as lts
+use Rattle.gateway.proofs.apply.Reads as apply-reads
+use Rattle.gateway.proofs.event_answer.Reads as event-answer-reads
+use Rattle.machine.proofs.step.Reads as step-reads
+use Rattle.state.proofs.refused.Reads as refused-reads
+use Rattle.state.proofs.slot_at.Reads as slot-at-reads
+use Rattle.state.proofs.slot_of.Reads as slot-of-reads
+use Rattle.verdict.proofs.step_verdict.Reads as step-verdict-reads
+
+-- src/lib.rt:175:9
+event-answer-requires : tie.Need-event-answer-requires
+event-answer-requires c κs = search needs
+
+-- src/lib.rt:177:9
+refused-requires : tie.Need-refused-requires
+refused-requires c κs = search needs
+
+-- src/lib.rt:177:9
+returns : tie.Need-returns
+returns c = event-refused _ _ (c .before .before .before .before .before .args .table .now) (c .before .before .before .before .before .args .reply .now) _ _ (c .before .before .event-answer .ensures _ _ refl refl) (c .before .if1 .taken) _ (c .refused .ensures)
+
+-- src/lib.rt:179:9
+slot-of-requires : tie.Need-slot-of-requires
+slot-of-requires c κs = search needs
+
+-- src/lib.rt:180:9
+slot-at-requires : tie.Need-slot-at-requires
+slot-at-requires c κs = event-index (c .before .before .before .before .before .args .event) _ (c .before .before .before .before .before .args .table .now) (c .before .before .before .before .before .args .reply .now) _ _ (c .before .before .event-answer .ensures _ _ refl refl) (c .before .if1 .left) _ (c .slot-of .ensures)
+
+-- src/lib.rt:188:9
+step-requires : tie.Need-step-requires
+step-requires c κs = search needs
+
+-- src/lib.rt:189:9
+step-verdict-requires : tie.Need-step-verdict-requires
+step-verdict-requires c κs = search needs
+
+-- src/lib.rt:192:35
+slice-aggregate-apply : tie.Need-slice-aggregate-apply
+slice-aggregate-apply c = search needs
+
+-- src/lib.rt:192:42
+slice-aggregate-apply-2 : tie.Need-slice-aggregate-apply-2
+slice-aggregate-apply-2 c = search needs
+
+-- src/lib.rt:192:5
+apply-requires : tie.Need-apply-requires
+apply-requires c κs = event-asked _ _ (c .before .before .before .before .before .before .before .before .before .before .before .before .before .before .args .table .now) (c .before .before .before .before .before .before .before .before .before .before .before .before .before .before .args .reply .now) _ _ (c .before .before .before .before .before .before .before .before .before .before .before .event-answer .ensures _ _ refl refl) (c .before .before .before .before .before .before .before .before .before .before .if1 .left) _ _ _ _ (c .before .before .before .before .before .before .before .before .before .slot-of .ensures) (c .before .before .before .before .before .before .before .before .slot-at .ensures) (c .before .before .before .before .before .step .ensures) (c .before .before .before .before .step-verdict .ensures) []
+
+-- src/lib.rt:170:1
+same-length : tie.Need-same-length
+same-length c = search needs
+
+-- src/lib.rt:170:1
+same-length-2 : tie.Need-same-length-2
+same-length-2 c = search needs
+
+-- src/lib.rt:170:1
+returns-2 : tie.Need-returns-2
+returns-2 c = event-done _ _ (c .before .before .before .before .before .before .before .before .before .before .before .before .before .before .before .before .before .before .before .args .table .now) (c .before .before .before .before .before .before .before .before .before .before .before .before .before .before .before .before .before .before .before .args .reply .now) _ _ (c .before .before .before .before .before .before .before .before .before .before .before .before .before .before .before .before .event-answer .ensures _ _ refl refl) (c .before .before .before .before .before .before .before .before .before .before .before .before .before .before .before .if1 .left) _ _ _ _ (c .before .before .before .before .before .before .before .before .before .before .before .before .before .before .slot-of .ensures) (c .before .before .before .before .before .before .before .before .before .before .before .before .before .slot-at .ensures) (c .before .before .before .before .before .before .before .before .before .before .step .ensures) (c .before .before .before .before .before .before .before .before .before .step-verdict .ensures) _ _ _ _ (c .before .before .before .before .apply .ensures .0) (c .before .before .before .before .apply .ensures .1 .0) (c .before .before .before .before .apply .ensures .1 .1)
+
+pub happen-spec : {M : Type 1} → statement M
+happen-spec =
+    tie.close
+    (tie.spec
+    event-answer-requires
+    refused-requires
+    returns
+    slot-of-requires
+    slot-at-requires
+    step-requires
+    step-verdict-requires
+    slice-aggregate-apply
+    slice-aggregate-apply-2
+    apply-requires
+    same-length
+    same-length-2
+    returns-2)

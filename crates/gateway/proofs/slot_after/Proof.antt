@@ -1,0 +1,20 @@
+-- `gateway::slot_after` meets its contract. Assumes nothing.
+use Rattle.calls.specs.Carried.{countAfter, slotAfter, outcomeAfter}
+use borrow.Author.Needs.{needs}
+use Rattle.gateway.proofs.slot_after.Statement.{statement}
+use Rattle.gateway.proofs.slot_after.Tie as tie
+use Rattle.gateway.proofs.slot_after.Reads as reads
+use Rattle.gateway.proofs.slot_after.Lts as lts
+use Rattle.gateway.proofs.count_after.Reads as count-after-reads
+
+-- src/lib.rt:89:15
+count-after-requires : tie.Need-count-after-requires
+count-after-requires c κs = search needs
+
+-- src/lib.rt:80:1
+returns : tie.Need-returns
+unfolding slotAfter
+returns c = rw (c .count-after .ensures)
+
+pub slot-after-spec : {M : Type 1} → statement M
+slot-after-spec = tie.close (tie.spec count-after-requires returns)

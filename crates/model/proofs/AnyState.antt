@@ -1,0 +1,193 @@
+-- Every state that passes check 1, with a table whose unused rows are zero, is that of a model. Assumes nothing.
+use Prim.Native.Nat.{ℕ, zero, suc, _+_, _*_, _-_, _≤_, _<_}
+use native.Mathlib.Omega.{arith}
+use mathlib.Core.Path.{_≡_, refl, sym, _∙_, ap, subst}
+use mathlib.Core.Bool.{Bool, true, false, not}
+use mathlib.Core.List.{List, [], _∷_, _++_, map}
+use lib.Dec.{eqb}
+use lib.ListN.{length, take, drop, getD, length-drop, length-map, take-append-drop}
+use lib.Seq.{length-take-le, drop-drop}
+use borrow.Author.Tests.{eqb-true}
+use Rattle.nets.specs.Rows.{rowsOf, flat}
+use Rattle.rows.specs.Storing.{zeros, padded}
+use Rattle.state.specs.declared.Slot as Stored
+use Rattle.state.specs.Lists.{every}
+use Rattle.state.specs.Slots.{freeSlot, slotAt}
+use Rattle.state.specs.Formed.{stateFormed}
+use Rattle.state.proofs.Theorems.{formed-slot, free-is-zero}
+use Rattle.calls.specs.Carried.{partAt}
+use Rattle.model.specs.Model.{Call, Slot, free, used, modelFrom, saidFrom}
+use Rattle.model.specs.Theorem.{Gateway, gatewayFrom, seenFrom, cell, stateOf, rowsHeld, part, join, tableOf, shown, unused, Sensible, slotFrom, slotsFrom, modelOf, FromAnyState}
+use Rattle.model.proofs.Represent.{sound, Good}
+use Rattle.model.proofs.Simulation.{represent}
+use Rattle.model.proofs.Theorem.{run-from, seen-from}
+
+-- whole rows, as many as there are threes of numbers
+rows-count : (l : List ℕ) (k : ℕ) → length l ≡ 3 * k → length (rowsOf l) ≡ k
+unfolding rowsOf
+rows-count [] zero e = refl
+rows-count [] (suc k) e = absurd (omega arith)
+rows-count (a ∷ []) k e = absurd (omega arith)
+rows-count (a ∷ b ∷ []) k e = absurd (omega arith)
+rows-count (a ∷ b ∷ c ∷ l) zero e = absurd (omega arith)
+rows-count (a ∷ b ∷ c ∷ l) (suc k) e = omega (arith, rows-count l k (omega arith))
+
+flat-back : (l : List ℕ) (k : ℕ) → length l ≡ 3 * k → flat (rowsOf l) ≡ l
+unfolding rowsOf flat
+flat-back [] k e = refl
+flat-back (a ∷ []) k e = absurd (omega arith)
+flat-back (a ∷ b ∷ []) k e = absurd (omega arith)
+flat-back (a ∷ b ∷ c ∷ l) zero e = absurd (omega arith)
+flat-back (a ∷ b ∷ c ∷ l) (suc k) e = ap (λ (r : List ℕ). a ∷ b ∷ c ∷ r) (flat-back l k (omega arith))
+
+-- what is known of one slot and its part
+record Known (slot : Stored.Slot) (numbers : List ℕ) : Type 0 where
+  is-free : slot .address ≡ 0 → slot ≡ freeSlot
+  few : slot .rows ≤ 128
+  whole : length numbers ≡ 384
+  zeroed : drop (3 * slot .rows) numbers ≡ zeros (384 - 3 * slot .rows)
+
+module _ (slot : Stored.Slot) (numbers : List ℕ) (k : Known slot numbers) where
+  front : length (take (3 * slot .rows) numbers) ≡ 3 * slot .rows
+  front = length-take-le (3 * slot .rows) numbers (omega (arith, k .few, k .whole))
+
+  slot-free : slot .address ≡ 0 → slotFrom slot numbers ≡ free
+  unfolding slotFrom
+  slot-free e = rw e
+
+  slot-used : eqb (slot .address) 0 ≡ false → slotFrom slot numbers ≡ used (slot .address) (slot .asn) (slot .neighbour) (rowsOf (take (3 * slot .rows) numbers))
+  unfolding slotFrom
+  slot-used e = rw e
+
+  cell-back : cell (slotFrom slot numbers) ≡ slot
+  unfolding cell
+  cell-back = go (eqb (slot .address) 0) refl
+    where
+      go : (b : Bool) → eqb (slot .address) 0 ≡ b → cell (slotFrom slot numbers) ≡ slot
+      go true e = ap cell (slot-free (eqb-true (slot .address) 0 e)) ∙ sym (k .is-free (eqb-true (slot .address) 0 e))
+      go false e =
+          let c = rows-count (take (3 * slot .rows) numbers) (slot .rows) front in
+          ap cell (slot-used e) ∙ (λ i. record { address = slot .address; asn = slot .asn; neighbour = slot .neighbour; rows = c i })
+
+  no-count : slot .address ≡ 0 → slot .rows ≡ 0
+  unfolding freeSlot
+  no-count e = ap (λ (s : Stored.Slot). s .rows) (k .is-free e)
+
+  all-zero : slot .address ≡ 0 → numbers ≡ zeros 384
+  all-zero e = rw (no-count e) at (k .zeroed)
+
+  free-part : part free ≡ zeros 384
+  unfolding part rowsHeld padded flat
+  free-part = refl
+
+  used-part : part (used (slot .address) (slot .asn) (slot .neighbour) (rowsOf (take (3 * slot .rows) numbers))) ≡ numbers
+  unfolding part rowsHeld padded
+  used-part =
+      rw (flat-back (take (3 * slot .rows) numbers) (slot .rows) front, front, ← (k .zeroed)) (take-append-drop (3 * slot .rows) numbers)
+
+  part-back : part (slotFrom slot numbers) ≡ numbers
+  part-back = go (eqb (slot .address) 0) refl
+    where
+      go : (b : Bool) → eqb (slot .address) 0 ≡ b → part (slotFrom slot numbers) ≡ numbers
+      go true e = ap part (slot-free (eqb-true (slot .address) 0 e)) ∙ free-part ∙ sym (all-zero (eqb-true (slot .address) 0 e))
+      go false e = ap part (slot-used e) ∙ used-part
+
+  sound-back : sound (slotFrom slot numbers) ≡ true
+  unfolding sound
+  sound-back = go (eqb (slot .address) 0) refl
+    where
+      go : (b : Bool) → eqb (slot .address) 0 ≡ b → sound (slotFrom slot numbers) ≡ true
+      go true e = ap sound (slot-free (eqb-true (slot .address) 0 e))
+      go false e = ap sound (slot-used e) ∙ ap not e
+
+-- ---- slot by slot
+
+abbrev AllKnown : List Stored.Slot → List ℕ → Type 0
+AllKnown slots table = (i : ℕ) → i < length slots → Known (getD slots i freeSlot) (take 384 (drop (i * 384) table))
+
+known-tail : (slot : Stored.Slot) (rest : List Stored.Slot) (table : List ℕ) → AllKnown (slot ∷ rest) table → AllKnown rest (drop 384 table)
+known-tail slot rest table h i l =
+    let n : 384 + i * 384 ≡ suc i * 384 = omega arith in
+    let e : drop (i * 384) (drop 384 table) ≡ drop (suc i * 384) table = drop-drop (i * 384) 384 table ∙ ap (λ (k : ℕ). drop k table) n in
+    subst (λ (t : List ℕ). Known (getD rest i freeSlot) (take 384 t)) (sym e) (h (suc i) (omega (arith, l)))
+
+known-head : (slot : Stored.Slot) (rest : List Stored.Slot) (table : List ℕ) → AllKnown (slot ∷ rest) table → Known slot (take 384 table)
+known-head slot rest table h = h 0 (omega arith)
+
+slots-back : (slots : List Stored.Slot) (table : List ℕ) → AllKnown slots table → map cell (slotsFrom slots table) ≡ slots
+unfolding slotsFrom
+slots-back [] table h = refl
+slots-back (slot ∷ rest) table h =
+    rw (cell-back slot (take 384 table) (known-head slot rest table h))
+    (ap (λ (l : List Stored.Slot). slot ∷ l) (slots-back rest (drop 384 table) (known-tail slot rest table h)))
+
+parts-back : (slots : List Stored.Slot) (table : List ℕ) → AllKnown slots table → length table ≡ length slots * 384 → join (map part (slotsFrom slots table)) ≡ table
+unfolding slotsFrom join
+parts-back [] table h e = sym (nothing table e)
+  where
+    nothing : (l : List ℕ) → length l ≡ 0 → l ≡ []
+    nothing [] q = refl
+    nothing (x ∷ xs) q = absurd (omega arith)
+parts-back (slot ∷ rest) table h e =
+    rw (part-back slot (take 384 table) (known-head slot rest table h))
+    (ap (λ (l : List ℕ). take 384 table ++ l) (parts-back rest (drop 384 table) (known-tail slot rest table h) (length-drop 384 table ∙ omega (arith, e)))
+    ∙ take-append-drop 384 table)
+
+sounds-back : (slots : List Stored.Slot) (table : List ℕ) → AllKnown slots table → every sound (slotsFrom slots table) ≡ true
+unfolding slotsFrom every
+sounds-back [] table h = refl
+sounds-back (slot ∷ rest) table h =
+    rw (sound-back slot (take 384 table) (known-head slot rest table h)) (sounds-back rest (drop 384 table) (known-tail slot rest table h))
+
+module _ (b : Gateway) (s : Sensible b) where
+  known : AllKnown (b .state .slots) (b .table)
+  unfolding unused slotAt partAt
+  known i h =
+      let i8 : i < 8 = omega (arith, h, s .eight) in
+      record {
+        is-free = λ e. free-is-zero (b .state) i (s .formed) e;
+        few = formed-slot (b .state) i (s .formed) .1 .few;
+        whole = length-take-le 384 (drop (i * 384) (b .table)) (rw (length-drop (i * 384) (b .table)) (omega (arith, i8, s .long)));
+        zeroed = s .zero-unused i i8;
+      }
+
+  pub state-back : stateOf (modelOf b) ≡ b .state
+  unfolding stateOf modelOf
+  state-back = let e = slots-back (b .state .slots) (b .table) known in λ i. record { settings = b .state .settings; slots = e i }
+
+  pub table-back : tableOf (modelOf b) ≡ b .table
+  unfolding tableOf modelOf
+  table-back = parts-back (b .state .slots) (b .table) known (omega (arith, s .eight, s .long))
+
+  pub model-back : represent (modelOf b) ≡ b
+  unfolding represent
+  model-back = λ i. record { state = state-back i; table = table-back i }
+
+  eight-back : length ((modelOf b) .slots) ≡ 8
+  unfolding modelOf
+  eight-back =
+      sym (length-map (slotsFrom (b .state .slots) (b .table)) cell) ∙ ap length (slots-back (b .state .slots) (b .table) known) ∙ s .eight
+
+  sounds : every sound ((modelOf b) .slots) ≡ true
+  unfolding modelOf
+  sounds = sounds-back (b .state .slots) (b .table) known
+
+  pub good-back : Good (modelOf b)
+  good-back = record { eight = eight-back; each = sounds; formed = ap stateFormed state-back ∙ s .formed }
+
+  run-back : (calls : List Call) → gatewayFrom b calls ≡ represent (modelFrom (modelOf b) calls)
+  run-back calls = ap (λ (x : Gateway). gatewayFrom x calls) (sym model-back) ∙ run-from (modelOf b) good-back calls
+
+  back-state : (calls : List Call) → (gatewayFrom b calls) .state ≡ stateOf (modelFrom (modelOf b) calls)
+  unfolding represent
+  back-state calls = ap (λ (x : Gateway). x .state) (run-back calls)
+
+  back-table : (calls : List Call) → (gatewayFrom b calls) .table ≡ tableOf (modelFrom (modelOf b) calls)
+  unfolding represent
+  back-table calls = ap (λ (x : Gateway). x .table) (run-back calls)
+
+  back-seen : (calls : List Call) → seenFrom b calls ≡ shown calls (saidFrom (modelOf b) calls)
+  back-seen calls = ap (λ (x : Gateway). seenFrom x calls) (sym model-back) ∙ seen-from (modelOf b) good-back calls
+
+pub from-any-state : FromAnyState
+from-any-state = record { is-state = state-back; is-table = table-back; state = back-state; table = back-table; seen = back-seen }

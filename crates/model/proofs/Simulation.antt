@@ -1,0 +1,423 @@
+-- One call: the gateway's definitions and the model leave and answer the same, from any good model. Assumes nothing.
+use Prim.Native.Nat.{ℕ, _<_}
+use native.Mathlib.Omega.{arith}
+use mathlib.Core.Path.{_≡_, refl, sym, _∙_, ap}
+use mathlib.Core.Bool.{Bool, true, false, cond, false≢true}
+use mathlib.Core.List.{List, [], _++_}
+use lib.Dec.{ltb, eqb}
+use lib.ListN.{length, length-set}
+use borrow.Author.Tests.{eq-eqb, eqb-true, eqb-false, ltb-true}
+use Rattle.octets.specs.Buffer.{over}
+use Rattle.nets.specs.Rows.{Row, rowsOf}
+use Rattle.wire.specs.Reading as Wire
+use Rattle.wire.specs.Reading.{decodeOf}
+use Rattle.walk.specs.Body.{updateOf, rowsRead}
+use Rattle.neighbour.specs.declared.Phase.{Phase}
+use Rattle.neighbour.specs.declared.Phase.the-variants as Phases
+use Rattle.neighbour.specs.declared.Settings.{Settings}
+use Rattle.neighbour.specs.declared.Neighbour.{Neighbour}
+use Rattle.neighbour.specs.Record.{idle, isIdle}
+use Rattle.machine.specs.declared.Event.{Event}
+use Rattle.machine.specs.declared.Event.the-variants.{Start, Stop, Tick}
+use Rattle.machine.specs.declared.Reply.{Reply}
+use Rattle.machine.specs.declared.Reply.the-variants.{Nothing, One, Two}
+use Rattle.machine.specs.Step.{stepOf}
+use Rattle.state.specs.declared.State.{State}
+use Rattle.state.specs.declared.Outcome.{Outcome}
+use Rattle.state.specs.Lists.{every}
+use Rattle.state.specs.Slots.{freeSlot, slotAt, slotOf, present}
+use Rattle.state.specs.Formed.{isUp, goodPeer, stateFormed}
+use Rattle.state.specs.Claims.{SlotGood}
+use Rattle.state.specs.Outcomes.{check, ifOk, refusedOf, silentOf}
+use Rattle.state.proofs.ListLaws.{and-left, and-right, every-set}
+use Rattle.state.proofs.OutcomeLaws.{check-holds}
+use Rattle.slots.specs.Calls as Slots
+use Rattle.slots.specs.Calls.{newcomer, addOf, removeOf}
+use Rattle.calls.specs.declared.Effect.{Effect}
+use Rattle.calls.specs.declared.Effect.the-variants.{Keep, Clear, Replace}
+use Rattle.calls.specs.declared.Verdict.{Verdict}
+use Rattle.calls.specs.Home.{goodHome}
+use Rattle.calls.specs.Verdict.{stepped, receiveVerdict}
+use Rattle.calls.specs.Carried as Carried
+use Rattle.calls.specs.Carried.{firstOctets, secondOctets, replyOctets, outcomeAfter}
+use Rattle.calls.specs.Calls.{tableFits, eventChecks, messageChecks, noHead, eventVerdict, messageVerdict, eventOutcome, eventTable, eventBuffer, messageOutcome, messageTable, messageBuffer}
+use Rattle.claims.proofs.Formed.{well-formed-kept}
+use Rattle.model.specs.Model.{isFree, noMove, moved, answerTo, afterMessage, rowsAfter, refusalReply, Call, add, remove, start, stop, tick, receive, Slot, free, used, Model, slotIn, put, hasAddress, placeOf, isPresent, vacancy, Said, silent, spoken, whenOk, addable, addAnswer, isIdleSlot, removeAnswer, addTurn, removeTurn, Move, eventMove, messageMove, eventAnswer, messageAnswer, turnAt, eventTurn, messageTurn, step}
+use Rattle.model.specs.Theorem.{Gateway, outcomeOf, tableAfter, bufferOf, bufferAfter, cell, stateOf, rowsHeld, part, tableOf}
+use Rattle.model.proofs.Lists.{index-found}
+use Rattle.model.proofs.Represent.{sound, Good, used-at, slot-of, lowest-of, at-of, state-ok, good-at, sound-at, state-with, table-length, table-with, table-same}
+use Rattle.model.proofs.Moves.{no-rows, partFrom, Agrees, event-agrees, message-agrees}
+
+-- what a call left and answered is the model after its turn, and what the model said
+pub record Shown (r : Outcome) (t b : List ℕ) (m : Model) (said : Said) (buffer : List ℕ) : Type 0 where
+  pub state : r .state ≡ stateOf m
+  pub table : t ≡ tableOf m
+  pub answer : r .answer ≡ said .answer
+  pub first : r .first ≡ length (said .first)
+  pub second : r .second ≡ length (said .second)
+  pub written : b ≡ over (said .first ++ said .second) buffer
+
+-- both sides go by one answer
+shown-call : (c c′ : ℕ) (new old : Outcome) (t t₀ b b₀ : List ℕ) (m′ m : Model) (s′ s : Said) (buffer : List ℕ) → c′ ≡ c
+    → (c ≡ 0 → Shown new t b m′ s′ buffer) → Shown old t₀ b₀ m s buffer
+    → Shown (ifOk c′ new old) (ifOk c′ t t₀) (ifOk c′ b b₀) (whenOk c m′ m) (whenOk c s′ s) buffer
+unfolding ifOk whenOk
+shown-call c c′ new old t t₀ b b₀ m′ m s′ s buffer q p r = go (eqb c 0) refl (ap (λ (k : ℕ). eqb k 0) q)
+  where
+    go : (k : Bool) → eqb c 0 ≡ k → eqb c′ 0 ≡ eqb c 0
+        → Shown (cond (eqb c′ 0) new old) (cond (eqb c′ 0) t t₀) (cond (eqb c′ 0) b b₀) (cond (eqb c 0) m′ m) (cond (eqb c 0) s′ s) buffer
+    go true e f = rw (f, e) (p (eqb-true c 0 e))
+    go false e f = rw (f, e) r
+
+pub spoken-answer : (k : ℕ) (reply : Reply) (home : List Row) → (spoken k reply home) .answer ≡ k
+unfolding spoken silent
+spoken-answer k Nothing home = refl
+spoken-answer k (One x) home = refl
+spoken-answer k (Two x y) home = refl
+
+spoken-first : (k : ℕ) (reply : Reply) (home : List Row) → (spoken k reply home) .first ≡ firstOctets reply home
+unfolding spoken silent firstOctets
+spoken-first k Nothing home = refl
+spoken-first k (One x) home = refl
+spoken-first k (Two x y) home = refl
+
+spoken-second : (k : ℕ) (reply : Reply) (home : List Row) → (spoken k reply home) .second ≡ secondOctets reply home
+unfolding spoken silent secondOctets
+spoken-second k Nothing home = refl
+spoken-second k (One x) home = refl
+spoken-second k (Two x y) home = refl
+
+-- a model as the gateway holds it
+unfoldable pub represent : Model → Gateway
+represent m = record { state = stateOf m; table = tableOf m }
+
+-- the two parts of a good model that are its own
+pub record Rest (m : Model) : Type 0 where
+  pub eight : length (m .slots) ≡ 8
+  pub each : every sound (m .slots) ≡ true
+
+idle-not-up : (p : Phase) → isIdle p ≡ true → isUp p ≡ false
+idle-not-up Phases.Idle e = refl
+idle-not-up Phases.Acquisition e = refl
+idle-not-up Phases.Down e = refl
+idle-not-up Phases.Up e = absurd (false≢true e)
+idle-not-up Phases.Cease e = refl
+
+idle-used : (address asn : ℕ) (n : Neighbour) (rows : List Row) → isIdle ((cell (used address asn n rows)) .neighbour .phase) ≡ isIdleSlot (used address asn n rows)
+unfolding cell isIdleSlot
+idle-used address asn n rows = refl
+
+event-sound : (g : Settings) (event : Event) (slot : Slot) → sound slot ≡ true → sound ((eventMove g event slot) .slot) ≡ true
+unfolding sound eventMove moved noMove
+event-sound g event free e = refl
+event-sound g event (used address asn n rows) e = e
+
+message-sound : (g : Settings) (o : List ℕ) (slot : Slot) → sound slot ≡ true → sound ((messageMove g o slot) .slot) ≡ true
+unfolding sound messageMove moved noMove whenOk
+message-sound g o free e = refl
+message-sound g o (used address asn n rows) e = go (eqb (answerTo g asn n o) 0)
+  where
+    go : (b : Bool)
+        → sound ((cond b (moved address asn (afterMessage g asn n o (decodeOf o)) (rowsAfter g n o (decodeOf o) rows))
+        (record { answer = answerTo g asn n o; reply = refusalReply g n o (answerTo g asn n o); slot = used address asn n rows })) .slot) ≡ true
+    go true = e
+    go false = e
+
+module _ (m : Model) (ok : Good m) where
+  -- ---- a call that is refused, or never replies
+
+  refused-shown : (k k′ : ℕ) (buffer : List ℕ) → k′ ≡ k → Shown (refusedOf (stateOf m) k′) (tableOf m) buffer m (silent k) buffer
+  unfolding refusedOf silent over
+  refused-shown k k′ buffer e = record { state = refl; table = refl; answer = e; first = refl; second = refl; written = refl }
+
+  silent-shown : (k k′ : ℕ) (new : State) (m′ : Model) → k′ ≡ k → (k ≡ 0 → new ≡ stateOf m′) → (k ≡ 0 → tableOf m ≡ tableOf m′)
+      → Shown (silentOf k′ new (stateOf m)) (tableOf m) [] (whenOk k m′ m) (silent k) []
+  unfolding silentOf silent over ifOk whenOk
+  silent-shown k k′ new m′ q s t = go (eqb k 0) refl (ap (λ (x : ℕ). eqb x 0) q)
+    where
+      go : (b : Bool) → eqb k 0 ≡ b → eqb k′ 0 ≡ eqb k 0 → Shown (silentOf k′ new (stateOf m)) (tableOf m) [] (cond (eqb k 0) m′ m) (silent k) []
+      go true e f = record { state = rw (f, e) (s (eqb-true k 0 e)); table = rw e (t (eqb-true k 0 e)); answer = q; first = refl; second = refl; written = refl }
+      go false e f = record { state = rw (f, e); table = rw e; answer = q; first = refl; second = refl; written = refl }
+
+  -- ---- a move of the slot at i
+
+  table-after : (i : ℕ) (new : Slot) (read : List Row) (effect : Effect) → i < 8 → part new ≡ partFrom effect (part (slotIn m i)) read
+      → Carried.tableAfter (tableOf m) i effect read ≡ tableOf (put m i new)
+  unfolding Carried.tableAfter partFrom
+  table-after i new read Keep h e = sym (table-same m ok i new e)
+  table-after i new read Clear h e = sym (table-with m ok i new h ∙ ap (Carried.withPart (tableOf m) i) e)
+  table-after i new read (Replace count) h e = sym (table-with m ok i new h ∙ ap (Carried.withPart (tableOf m) i) e)
+
+  moved-shown : (i : ℕ) (v : Verdict) (home read : List Row) (move : Move) (buffer : List ℕ) → i < 8 → Agrees (slotIn m i) v read move
+      → Shown (outcomeAfter (stateOf m) i v home) (Carried.tableAfter (tableOf m) i (v .effect) read) (Carried.bufferAfter buffer (v .reply) home)
+      (put m i (move .slot)) (spoken (move .answer) (move .reply) home) buffer
+  unfolding outcomeAfter Carried.bufferAfter replyOctets
+  moved-shown i v home read move buffer h a =
+      record {
+        state = rw (at-of m ok i, a .cell-is) (sym (state-with m ok i (move .slot)));
+        table = table-after i (move .slot) read (v .effect) h (a .part-is);
+        answer = a .answer ∙ sym (spoken-answer (move .answer) (move .reply) home);
+        first = rw (a .reply, spoken-first (move .answer) (move .reply) home);
+        second = rw (a .reply, spoken-second (move .answer) (move .reply) home);
+        written = rw (a .reply, spoken-first (move .answer) (move .reply) home, spoken-second (move .answer) (move .reply) home);
+      }
+
+  -- ---- look-up
+
+  found-below : (a : ℕ) → isPresent m a ≡ true → placeOf m a < 8
+  unfolding isPresent
+  found-below a e = ltb-true (placeOf m a) 8 e
+
+  pub found-used : (a : ℕ) → placeOf m a < 8 → hasAddress a (slotIn m (placeOf m a)) ≡ true
+  unfolding placeOf slotIn
+  found-used a h = index-found (hasAddress a) (m .slots) free (omega (arith, ok .eight))
+
+  present-of : (a : ℕ) → present (stateOf m) a ≡ isPresent m a
+  unfolding isPresent
+  present-of a = rw (slot-of m ok a)
+
+  -- ---- Start, Stop, tick
+
+  event-answer : (a : ℕ) (buffer : List ℕ) → eventChecks (stateOf m) (tableOf m) buffer a ≡ eventAnswer m a buffer
+  unfolding eventChecks eventAnswer check Wire.check
+  event-answer a buffer =
+      check-holds (stateFormed (stateOf m)) 1 _ (ok .formed) ∙ check-holds (tableFits (tableOf m)) 2 _ (eq-eqb (length (tableOf m)) 3072 (table-length m ok))
+      ∙ rw (present-of a)
+
+  message-answer : (a : ℕ) (home buffer : List ℕ) → messageChecks (stateOf m) (tableOf m) buffer home a ≡ messageAnswer m a home buffer
+  unfolding messageChecks messageAnswer stateOf check Wire.check
+  message-answer a home buffer =
+      check-holds (stateFormed (stateOf m)) 1 _ (ok .formed) ∙ check-holds (tableFits (tableOf m)) 2 _ (eq-eqb (length (tableOf m)) 3072 (table-length m ok))
+      ∙ rw (present-of a)
+
+  wire-passed : (b : Bool) (k rest : ℕ) → eqb k 0 ≡ false → Wire.check b k rest ≡ 0 → (b ≡ true) × (rest ≡ 0)
+  unfolding Wire.check
+  wire-passed true k rest z e = (refl, e)
+  wire-passed false k rest z e = absurd (eqb-false k 0 z e)
+
+  pub event-below : (a : ℕ) (buffer : List ℕ) → eventAnswer m a buffer ≡ 0 → placeOf m a < 8
+  unfolding eventAnswer
+  event-below a buffer z = found-below a (wire-passed (isPresent m a) 5 0 refl (wire-passed _ 3 _ refl z .1) .0)
+
+  pub message-below : (a : ℕ) (home buffer : List ℕ) → messageAnswer m a home buffer ≡ 0 → placeOf m a < 8
+  unfolding messageAnswer
+  message-below a home buffer z =
+      found-below a (wire-passed (isPresent m a) 5 0 refl (wire-passed (goodHome (m .settings) home) 4 _ refl (wire-passed _ 3 _ refl z .1) .1) .0)
+
+  settings-of : (stateOf m) .settings ≡ m .settings
+  unfolding stateOf
+  settings-of = refl
+
+  event-move : (event : Event) (slot : Slot) → SlotGood (cell slot) → (a : ℕ) → hasAddress a slot ≡ true
+      → Agrees slot (stepped ((cell slot) .neighbour) (stepOf (m .settings) ((cell slot) .asn) ((cell slot) .neighbour) event noHead)) [] (eventMove (m .settings) event slot)
+  unfolding cell
+  event-move event slot good a e =
+      used-at
+      (λ s. SlotGood (cell s) → Agrees s (stepped ((cell s) .neighbour) (stepOf (m .settings) ((cell s) .asn) ((cell s) .neighbour) event noHead)) [] (eventMove (m .settings) event s))
+      a (λ address asn n rows k. event-agrees address asn n rows k (m .settings) event) slot e good
+
+  message-move : (o : List ℕ) (slot : Slot) → SlotGood (cell slot) → (a : ℕ) → hasAddress a slot ≡ true
+      → Agrees slot (receiveVerdict (m .settings) ((cell slot) .asn) ((cell slot) .neighbour) o) (rowsRead (updateOf 128 (m .settings .net) o)) (messageMove (m .settings) o slot)
+  unfolding cell
+  message-move o slot good a e =
+      used-at
+      (λ s. SlotGood (cell s) → Agrees s (receiveVerdict (m .settings) ((cell s) .asn) ((cell s) .neighbour) o) (rowsRead (updateOf 128 (m .settings .net) o)) (messageMove (m .settings) o s))
+      a (λ address asn n rows k. message-agrees address asn n rows k (m .settings) o) slot e good
+
+  event-verdict : (event : Event) (a : ℕ) → placeOf m a < 8
+      → Agrees (slotIn m (placeOf m a)) (eventVerdict (stateOf m) a event) [] (eventMove (m .settings) event (slotIn m (placeOf m a)))
+  unfolding eventVerdict
+  event-verdict event a h =
+      rw (slot-of m ok a, at-of m ok (placeOf m a), settings-of)
+      (event-move event (slotIn m (placeOf m a)) (good-at m ok (placeOf m a)) a (found-used a h))
+
+  message-verdict : (o : List ℕ) (a : ℕ) → placeOf m a < 8
+      → Agrees (slotIn m (placeOf m a)) (messageVerdict (stateOf m) a o) (rowsRead (updateOf 128 ((stateOf m) .settings .net) o)) (messageMove (m .settings) o (slotIn m (placeOf m a)))
+  unfolding messageVerdict
+  message-verdict o a h =
+      rw (slot-of m ok a, at-of m ok (placeOf m a), settings-of)
+      (message-move o (slotIn m (placeOf m a)) (good-at m ok (placeOf m a)) a (found-used a h))
+
+  pub event-shown : (event : Event) (a : ℕ) (buffer : List ℕ)
+      → Shown (eventOutcome event (stateOf m) (tableOf m) buffer a) (eventTable event (stateOf m) (tableOf m) buffer a) (eventBuffer event (stateOf m) (tableOf m) buffer a)
+      ((eventTurn event m a buffer) .model) ((eventTurn event m a buffer) .said) buffer
+  unfolding eventOutcome eventTable eventBuffer eventTurn turnAt
+  event-shown event a buffer =
+      shown-call (eventAnswer m a buffer) (eventChecks (stateOf m) (tableOf m) buffer a) _ _ _ _ _ _ _ _ _ _ buffer (event-answer a buffer)
+      (λ z. rw (slot-of m ok a)
+      (moved-shown (placeOf m a) (eventVerdict (stateOf m) a event) [] [] (eventMove (m .settings) event (slotIn m (placeOf m a))) buffer
+      (event-below a buffer z) (event-verdict event a (event-below a buffer z))))
+      (refused-shown (eventAnswer m a buffer) (eventChecks (stateOf m) (tableOf m) buffer a) buffer (event-answer a buffer))
+
+  pub message-shown : (a : ℕ) (o home buffer : List ℕ)
+      → Shown (messageOutcome (stateOf m) (tableOf m) buffer home a o) (messageTable (stateOf m) (tableOf m) buffer home a o) (messageBuffer (stateOf m) (tableOf m) buffer home a o)
+      ((messageTurn m a o home buffer) .model) ((messageTurn m a o home buffer) .said) buffer
+  unfolding messageOutcome messageTable messageBuffer messageTurn turnAt
+  message-shown a o home buffer =
+      shown-call (messageAnswer m a home buffer) (messageChecks (stateOf m) (tableOf m) buffer home a) _ _ _ _ _ _ _ _ _ _ buffer (message-answer a home buffer)
+      (λ z. rw (slot-of m ok a)
+      (moved-shown (placeOf m a) (messageVerdict (stateOf m) a o) (rowsOf home) (rowsRead (updateOf 128 ((stateOf m) .settings .net) o))
+      (messageMove (m .settings) o (slotIn m (placeOf m a))) buffer
+      (message-below a home buffer z) (message-verdict o a (message-below a home buffer z))))
+      (refused-shown (messageAnswer m a home buffer) (messageChecks (stateOf m) (tableOf m) buffer home a) buffer (message-answer a home buffer))
+
+  -- ---- add and remove
+
+  add-answer : (address asn : ℕ) → Slots.addAnswer (stateOf m) address asn ≡ addAnswer m address asn
+  unfolding Slots.addAnswer addAnswer addable goodPeer check Wire.check
+  add-answer address asn =
+      check-holds (stateFormed (stateOf m)) 1 _ (ok .formed)
+      ∙ rw (present-of address, lowest-of m ok, settings-of)
+
+  pub add-free : (address asn : ℕ) → addAnswer m address asn ≡ 0 → vacancy m < 8
+  unfolding addAnswer
+  add-free address asn z = ltb-true (vacancy m) 8 (wire-passed (ltb (vacancy m) 8) 17 0 refl (wire-passed (addable m address asn) 16 _ refl z .1) .0)
+
+  -- a slot without rows in place of another without rows
+  same-part : (i : ℕ) (slot : Slot) → rowsHeld slot ≡ [] → rowsHeld (slotIn m i) ≡ [] → tableOf m ≡ tableOf (put m i slot)
+  unfolding part
+  same-part i slot e f = sym (table-same m ok i slot (rw (e, f)))
+
+  -- the lowest free slot is free, and a neighbour in Idle has no rows
+  free-none : (slot : Slot) → isFree slot ≡ true → rowsHeld slot ≡ []
+  unfolding isFree rowsHeld
+  free-none free e = refl
+  free-none (used address asn n rows) e = absurd (false≢true e)
+
+  pub found-free : vacancy m < 8 → isFree (slotIn m (vacancy m)) ≡ true
+  unfolding vacancy slotIn
+  found-free h = index-found isFree (m .slots) free (omega (arith, ok .eight))
+
+  vacant-none : vacancy m < 8 → rowsHeld (slotIn m (vacancy m)) ≡ []
+  vacant-none h = free-none (slotIn m (vacancy m)) (found-free h)
+
+  idle-none : (slot : Slot) → SlotGood (cell slot) → isIdleSlot slot ≡ true → rowsHeld slot ≡ []
+  unfolding isIdleSlot rowsHeld cell
+  idle-none free good e = refl
+  idle-none (used address asn n rows) good e = no-rows rows (good .none (idle-not-up (n .phase) e))
+
+  newcomer-cell : (address asn : ℕ) → cell (used address asn idle []) ≡ newcomer address asn
+  unfolding cell newcomer
+  newcomer-cell address asn = refl
+
+  free-cell : cell free ≡ freeSlot
+  unfolding cell
+  free-cell = refl
+
+  no-rows-new : (address asn : ℕ) → rowsHeld (used address asn idle []) ≡ []
+  unfolding rowsHeld
+  no-rows-new address asn = refl
+
+  no-rows-free : rowsHeld free ≡ []
+  unfolding rowsHeld
+  no-rows-free = refl
+
+  pub add-shown : (address asn : ℕ) → Shown (addOf (stateOf m) address asn) (tableOf m) [] ((addTurn m address asn) .model) ((addTurn m address asn) .said) []
+  unfolding addOf addTurn
+  add-shown address asn =
+      silent-shown (addAnswer m address asn) (Slots.addAnswer (stateOf m) address asn) _ (put m (vacancy m) (used address asn idle [])) (add-answer address asn)
+      (λ z. rw (lowest-of m ok, ← (newcomer-cell address asn)) (sym (state-with m ok (vacancy m) (used address asn idle []))))
+      (λ z. same-part (vacancy m) (used address asn idle []) (no-rows-new address asn) (vacant-none (add-free address asn z)))
+
+  idle-same : (a : ℕ) → placeOf m a < 8 → isIdle ((slotAt (stateOf m) (slotOf (stateOf m) a)) .neighbour .phase) ≡ isIdleSlot (slotIn m (placeOf m a))
+  idle-same a h =
+      rw (slot-of m ok a, at-of m ok (placeOf m a))
+      (used-at (λ s. isIdle ((cell s) .neighbour .phase) ≡ isIdleSlot s) a idle-used (slotIn m (placeOf m a)) (found-used a h))
+
+  remove-answer : (address : ℕ) → Slots.removeAnswer (stateOf m) address ≡ removeAnswer m address
+  unfolding Slots.removeAnswer removeAnswer check Wire.check
+  remove-answer address =
+      check-holds (stateFormed (stateOf m)) 1 _ (ok .formed)
+      ∙ rw (present-of address) (go (isPresent m address) refl)
+    where
+      go : (b : Bool) → isPresent m address ≡ b
+          → Wire.check b 5 (Wire.check (isIdle ((slotAt (stateOf m) (slotOf (stateOf m) address)) .neighbour .phase)) 18 0)
+          ≡ Wire.check b 5 (Wire.check (isIdleSlot (slotIn m (placeOf m address))) 18 0)
+      go true e = rw (idle-same address (found-below address e))
+      go false e = refl
+
+  pub remove-below : (address : ℕ) → removeAnswer m address ≡ 0 → placeOf m address < 8
+  unfolding removeAnswer
+  remove-below address z = found-below address (wire-passed (isPresent m address) 5 _ refl z .0)
+
+  remove-idle : (address : ℕ) → removeAnswer m address ≡ 0 → isIdleSlot (slotIn m (placeOf m address)) ≡ true
+  unfolding removeAnswer
+  remove-idle address z = wire-passed (isIdleSlot (slotIn m (placeOf m address))) 18 0 refl (wire-passed (isPresent m address) 5 _ refl z .1) .0
+
+  pub remove-shown : (address : ℕ) → Shown (removeOf (stateOf m) address) (tableOf m) [] ((removeTurn m address) .model) ((removeTurn m address) .said) []
+  unfolding removeOf removeTurn
+  remove-shown address =
+      silent-shown (removeAnswer m address) (Slots.removeAnswer (stateOf m) address) _ (put m (placeOf m address) free) (remove-answer address)
+      (λ z. rw (slot-of m ok address, ← free-cell) (sym (state-with m ok (placeOf m address) free)))
+      (λ z. same-part (placeOf m address) free no-rows-free
+      (idle-none (slotIn m (placeOf m address)) (good-at m ok (placeOf m address)) (remove-idle address z)))
+
+  -- ---- any call
+
+  abbrev pub Simulates : Call → Type 0
+  Simulates call =
+      Shown (outcomeOf call (represent m)) (tableAfter call (represent m)) (bufferAfter call (represent m)) ((step call m) .model) ((step call m) .said) (bufferOf call)
+
+  pub simulates : (call : Call) → Simulates call
+  unfolding outcomeOf tableAfter bufferAfter step bufferOf represent
+  simulates (add address asn) = add-shown address asn
+  simulates (remove address) = remove-shown address
+  simulates (start a buffer) = event-shown Start a buffer
+  simulates (stop a buffer) = event-shown Stop a buffer
+  simulates (tick a buffer) = event-shown Tick a buffer
+  simulates (receive a o home buffer) = message-shown a o home buffer
+
+  -- ---- the model after it is good
+
+  put-rest : (i : ℕ) (slot : Slot) → sound slot ≡ true → Rest (put m i slot)
+  unfolding put
+  put-rest i slot s = record { eight = length-set (m .slots) i slot ∙ ok .eight; each = every-set sound (m .slots) i slot (ok .each) s }
+
+  kept-rest : (k i : ℕ) (slot : Slot) → (k ≡ 0 → sound slot ≡ true) → Rest (whenOk k (put m i slot) m)
+  unfolding whenOk
+  kept-rest k i slot s = go (eqb k 0) refl
+    where
+      go : (b : Bool) → eqb k 0 ≡ b → Rest (cond (eqb k 0) (put m i slot) m)
+      go true e = rw e (put-rest i slot (s (eqb-true k 0 e)))
+      go false e = rw e (record { eight = ok .eight; each = ok .each })
+
+  add-sound : (address asn : ℕ) → addAnswer m address asn ≡ 0 → sound (used address asn idle []) ≡ true
+  unfolding addAnswer addable sound
+  add-sound address asn z =
+      let p : addable m address asn ≡ true = wire-passed (addable m address asn) 16 _ refl z .0 in
+      search (and-left, and-right)
+
+  event-rest : (event : Event) (a : ℕ) (buffer : List ℕ) → Rest ((eventTurn event m a buffer) .model)
+  unfolding eventTurn turnAt
+  event-rest event a buffer = kept-rest _ (placeOf m a) _ (λ _. event-sound (m .settings) event (slotIn m (placeOf m a)) (sound-at m ok (placeOf m a)))
+
+  message-rest : (a : ℕ) (o home buffer : List ℕ) → Rest ((messageTurn m a o home buffer) .model)
+  unfolding messageTurn turnAt
+  message-rest a o home buffer = kept-rest _ (placeOf m a) _ (λ _. message-sound (m .settings) o (slotIn m (placeOf m a)) (sound-at m ok (placeOf m a)))
+
+  rest-step : (call : Call) → Rest ((step call m) .model)
+  unfolding step addTurn removeTurn sound
+  rest-step (add address asn) = kept-rest (addAnswer m address asn) (vacancy m) (used address asn idle []) (add-sound address asn)
+  rest-step (remove address) = kept-rest (removeAnswer m address) (placeOf m address) free (λ _. refl)
+  rest-step (start a buffer) = event-rest Start a buffer
+  rest-step (stop a buffer) = event-rest Stop a buffer
+  rest-step (tick a buffer) = event-rest Tick a buffer
+  rest-step (receive a o home buffer) = message-rest a o home buffer
+
+  -- 01: "Every call keeps a state well formed."
+  formed-step : (call : Call) → stateFormed ((outcomeOf call (represent m)) .state) ≡ true
+  unfolding outcomeOf represent
+  formed-step (add address asn) = well-formed-kept .add (stateOf m) address asn (state-ok m ok) .formed
+  formed-step (remove address) = well-formed-kept .remove (stateOf m) address (state-ok m ok) .formed
+  formed-step (start a buffer) = well-formed-kept .events Start (stateOf m) (tableOf m) buffer a (state-ok m ok) .formed
+  formed-step (stop a buffer) = well-formed-kept .events Stop (stateOf m) (tableOf m) buffer a (state-ok m ok) .formed
+  formed-step (tick a buffer) = well-formed-kept .events Tick (stateOf m) (tableOf m) buffer a (state-ok m ok) .formed
+  formed-step (receive a o home buffer) = well-formed-kept .messages (stateOf m) (tableOf m) buffer home a o (state-ok m ok) .formed
+
+  pub good-step : (call : Call) → Good ((step call m) .model)
+  good-step call =
+      record {
+        eight = rest-step call .eight;
+        each = rest-step call .each;
+        formed = ap stateFormed (sym (simulates call .state)) ∙ formed-step call;
+      }

@@ -1,0 +1,209 @@
+-- The theorem about lists of calls, by induction from any good model. Assumes nothing.
+use Prim.Native.Nat.{ℕ, _*_, _-_, _<_}
+use mathlib.Core.Path.{_≡_, refl, sym, _∙_, ap}
+use mathlib.Core.Bool.{true}
+use mathlib.Core.List.{List, [], _∷_, _++_}
+use lib.ListN.{length, take}
+use lib.Seq.{take-at}
+use Rattle.nets.specs.Classes.{netWidth, hostSpan, goodNet, onNet}
+use Rattle.nets.specs.Rows.{Row, rowsOf, flat}
+use Rattle.rows.specs.Storing.{zeros, padded}
+use Rattle.rows.proofs.Laws.{flat-length}
+use Rattle.neighbour.specs.declared.Settings.{Settings}
+use Rattle.state.specs.declared.State.{State}
+use Rattle.state.specs.declared.Slot as Stored
+use Rattle.state.specs.Lists.{every}
+use Rattle.state.specs.Slots.{freeSlot, slotAt}
+use Rattle.calls.specs.Carried.{partAt}
+use Rattle.state.specs.Formed.{goodSettings, stateFormed}
+use Rattle.state.specs.Outcomes.{check, ifOk, silentOf}
+use Rattle.slots.specs.Calls.{freeSlots, emptyState, freshAnswer, freshOf}
+use Rattle.claims.proofs.Formed.{well-formed-kept}
+use Rattle.model.specs.Model.{Call, Slot, free, used, Model, slotIn, empty, model, modelFrom, saidFrom, step}
+use Rattle.model.specs.Theorem.{Gateway, gatewayStep, gatewayFrom, Seen, seenOf, seenFrom, emptyTable, begun, run, seenBy, cell, stateOf, rowsHeld, part, join, tableOf, bufferOf, shownIn, shown, rowsAt, ListOfCalls}
+use Rattle.model.specs.History.{lastAccepted, isElsewhere, takesNoSlot}
+use Rattle.model.proofs.Represent.{sound, Good, at-of, sound-at, part-of}
+use Rattle.model.proofs.History.{model-append, last-is, others-slot, free-from, shown-free}
+use Rattle.model.proofs.Simulation.{represent, simulates, good-step}
+
+module _ (m : Model) (ok : Good m) where
+  pub step-is : (call : Call) → gatewayStep call (represent m) ≡ represent ((step call m) .model)
+  unfolding gatewayStep represent
+  step-is call = let s = simulates m ok call in λ i. record { state = s .state i; table = s .table i }
+
+  seen-is : (call : Call) → seenOf call (represent m) ≡ shownIn (bufferOf call) ((step call m) .said)
+  unfolding seenOf shownIn
+  seen-is call = let s = simulates m ok call in λ i. record { answer = s .answer i; first = s .first i; second = s .second i; buffer = s .written i }
+
+-- any good model, any list
+pub run-from : (m : Model) → Good m → (calls : List Call) → gatewayFrom (represent m) calls ≡ represent (modelFrom m calls)
+unfolding gatewayFrom modelFrom
+run-from m ok [] = refl
+run-from m ok (call ∷ rest) = rw (step-is m ok call) (run-from ((step call m) .model) (good-step m ok call) rest)
+
+pub seen-from : (m : Model) → Good m → (calls : List Call) → seenFrom (represent m) calls ≡ shown calls (saidFrom m calls)
+unfolding seenFrom saidFrom shown
+seen-from m ok [] = refl
+seen-from m ok (call ∷ rest) =
+    rw (seen-is m ok call, step-is m ok call)
+    (ap (λ (l : List Seen). shownIn (bufferOf call) ((step call m) .said) ∷ l) (seen-from ((step call m) .model) (good-step m ok call) rest))
+
+pub good-from : (m : Model) → Good m → (calls : List Call) → Good (modelFrom m calls)
+unfolding modelFrom
+good-from m ok [] = ok
+good-from m ok (call ∷ rest) = good-from ((step call m) .model) (good-step m ok call) rest
+
+-- ---- the start
+
+empty-state : (g : Settings) → stateOf (empty g) ≡ emptyState g
+unfolding stateOf empty emptyState freeSlots cell
+empty-state g = refl
+
+empty-table : (g : Settings) → tableOf (empty g) ≡ emptyTable
+unfolding tableOf empty emptyTable part rowsHeld padded flat join zeros
+empty-table g = refl
+
+module _ (g : Settings) (z : (freshOf (g .asn) (g .own) (g .capability) (g .net)) .answer ≡ 0) where
+  fresh-state : (freshOf (g .asn) (g .own) (g .capability) (g .net)) .state ≡ stateOf (empty g)
+  unfolding freshOf silentOf ifOk
+  fresh-state = rw z (sym (empty-state g))
+
+  pub begun-is : begun g ≡ represent (empty g)
+  unfolding begun represent
+  begun-is = λ i. record { state = fresh-state i; table = sym (empty-table g) i }
+
+  pub empty-good : Good (empty g)
+  unfolding empty every sound
+  empty-good =
+      record { eight = refl; each = refl; formed = ap stateFormed (sym fresh-state) ∙ well-formed-kept .fresh (g .asn) (g .own) (g .capability) (g .net) z .formed }
+
+  pub run-is : (calls : List Call) → run g calls ≡ represent (model g calls)
+  unfolding run model
+  run-is calls = rw begun-is (run-from (empty g) empty-good calls)
+
+  run-state : (calls : List Call) → (run g calls) .state ≡ stateOf (model g calls)
+  unfolding represent
+  run-state calls = ap (λ (b : Gateway). b .state) (run-is calls)
+
+  run-table : (calls : List Call) → (run g calls) .table ≡ tableOf (model g calls)
+  unfolding represent
+  run-table calls = ap (λ (b : Gateway). b .table) (run-is calls)
+
+  run-seen : (calls : List Call) → seenBy g calls ≡ shown calls (saidFrom (empty g) calls)
+  unfolding seenBy
+  run-seen calls = rw begun-is (seen-from (empty g) empty-good calls)
+
+-- ---- what is read off state and table
+
+rows-flat : (rows : List Row) → rowsOf (flat rows) ≡ rows
+unfolding rowsOf flat
+rows-flat [] = refl
+rows-flat (r ∷ rest) = ap (λ (l : List Row). r ∷ l) (rows-flat rest)
+
+read-back : (slot : Slot) → rowsOf (take (3 * (cell slot) .rows) (part slot)) ≡ rowsHeld slot
+unfolding cell part rowsHeld padded freeSlot rowsOf
+read-back free = refl
+read-back (used address asn n rows) = ap rowsOf (take-at (flat rows) (zeros (384 - length (flat rows))) (3 * length rows) (flat-length rows)) ∙ rows-flat rows
+
+cell-count : (slot : Slot) → (cell slot) .rows ≡ length (rowsHeld slot)
+unfolding cell rowsHeld freeSlot
+cell-count free = refl
+cell-count (used address asn n rows) = refl
+
+module _ (m : Model) (ok : Good m) (j : ℕ) (j8 : j < 8) where
+  rows-read : rowsAt (represent m) j ≡ rowsHeld (slotIn m j)
+  unfolding rowsAt represent
+  rows-read = rw (part-of m ok j j8, at-of m ok j) (read-back (slotIn m j))
+
+  count-read : (slotAt (stateOf m) j) .rows ≡ length (rowsHeld (slotIn m j))
+  count-read = rw (at-of m ok j) (cell-count (slotIn m j))
+
+  numbers-read : partAt (tableOf m) j ≡ padded 384 (flat (rowsHeld (slotIn m j)))
+  unfolding part
+  numbers-read = part-of m ok j j8
+
+module _ (g : Settings) (z : (freshOf (g .asn) (g .own) (g .capability) (g .net)) .answer ≡ 0) (calls : List Call) where
+  pub model-good : Good (model g calls)
+  unfolding model
+  model-good = good-from (empty g) (empty-good g z) calls
+
+  last : (j : ℕ) → j < 8 → lastAccepted g j calls ≡ rowsHeld (slotIn (model g calls) j)
+  last j j8 = last-is g j j8 (empty-good g z) calls
+
+  run-rows : (j : ℕ) → j < 8 → rowsAt (run g calls) j ≡ lastAccepted g j calls
+  run-rows j j8 = ap (λ (b : Gateway). rowsAt b j) (run-is g z calls) ∙ rows-read (model g calls) model-good j j8 ∙ sym (last j j8)
+
+  run-count : (j : ℕ) → j < 8 → (slotAt ((run g calls) .state) j) .rows ≡ length (lastAccepted g j calls)
+  run-count j j8 = rw (run-state g z calls, last j j8) (count-read (model g calls) model-good j j8)
+
+  run-numbers : (j : ℕ) → j < 8 → partAt ((run g calls) .table) j ≡ padded 384 (flat (lastAccepted g j calls))
+  run-numbers j j8 = rw (run-table g z calls, last j j8) (numbers-read (model g calls) model-good j j8)
+
+  model-more : (more : List Call) → model g (calls ++ more) ≡ modelFrom (model g calls) more
+  unfolding model
+  model-more more = model-append (empty g) calls more
+
+  more-good : (more : List Call) → Good (model g (calls ++ more))
+  more-good more = rw (model-more more) (good-from (model g calls) model-good more)
+
+  more-slot : (more : List Call) (j : ℕ) → ((slotAt ((run g calls) .state) j) .address ≡ 0 → ⊥)
+      → every (isElsewhere ((slotAt ((run g calls) .state) j) .address)) more ≡ true
+      → slotIn (model g (calls ++ more)) j ≡ slotIn (model g calls) j
+  more-slot more j p e =
+      let here : (slotAt ((run g calls) .state) j) .address ≡ (cell (slotIn (model g calls) j)) .address =
+      ap (λ (s : State). (slotAt s j) .address) (run-state g z calls) ∙ ap (λ (s : Stored.Slot). s .address) (at-of (model g calls) model-good j) in
+      ap (λ (m : Model). slotIn m j) (model-more more)
+      ∙ others-slot (model g calls) model-good j more (λ q. p (here ∙ q)) (ap (λ (a : ℕ). every (isElsewhere a) more) (sym here) ∙ e)
+
+  run-others : (more : List Call) (j : ℕ) → j < 8 → ((slotAt ((run g calls) .state) j) .address ≡ 0 → ⊥)
+      → every (isElsewhere ((slotAt ((run g calls) .state) j) .address)) more ≡ true
+      → (slotAt ((run g (calls ++ more)) .state) j ≡ slotAt ((run g calls) .state) j)
+      × (partAt ((run g (calls ++ more)) .table) j ≡ partAt ((run g calls) .table) j)
+  run-others more j j8 p e =
+      let same = more-slot more j p e in
+      let after = more-good more in (
+        ap (λ (s : State). slotAt s j) (run-state g z (calls ++ more)) ∙ at-of (model g (calls ++ more)) after j ∙ ap cell same
+            ∙ sym (ap (λ (s : State). slotAt s j) (run-state g z calls) ∙ at-of (model g calls) model-good j),
+        ap (λ (t : List ℕ). partAt t j) (run-table g z (calls ++ more)) ∙ part-of (model g (calls ++ more)) after j j8 ∙ ap part same
+            ∙ sym (ap (λ (t : List ℕ). partAt t j) (run-table g z calls) ∙ part-of (model g calls) model-good j j8),
+      )
+
+free-part : part free ≡ zeros 384
+unfolding part rowsHeld padded flat
+free-part = refl
+
+free-cell : cell free ≡ freeSlot
+unfolding cell
+free-cell = refl
+
+module _ (g : Settings) (z : (freshOf (g .asn) (g .own) (g .capability) (g .net)) .answer ≡ 0) (calls more : List Call) (j : ℕ) (j8 : j < 8) where
+  run-free : (slotAt ((run g calls) .state) j) .address ≡ 0 → every takesNoSlot more ≡ true
+      → (slotAt ((run g (calls ++ more)) .state) j ≡ freeSlot) × (partAt ((run g (calls ++ more)) .table) j ≡ zeros 384)
+  run-free p e =
+      let here : (cell (slotIn (model g calls) j)) .address ≡ 0 =
+      sym (ap (λ (s : State). (slotAt s j) .address) (run-state g z calls) ∙ ap (λ (s : Stored.Slot). s .address) (at-of (model g calls) (model-good g z calls) j)) ∙ p in
+      let after : slotIn (model g (calls ++ more)) j ≡ free =
+      ap (λ (x : Model). slotIn x j) (model-more g z calls more)
+      ∙ free-from (model g calls) (model-good g z calls) j
+      (shown-free (slotIn (model g calls) j) (sound-at (model g calls) (model-good g z calls) j) here) more e in (
+        ap (λ (s : State). slotAt s j) (run-state g z (calls ++ more)) ∙ at-of (model g (calls ++ more)) (more-good g z calls more) j ∙ ap cell after ∙ free-cell,
+        ap (λ (t : List ℕ). partAt t j) (run-table g z (calls ++ more)) ∙ part-of (model g (calls ++ more)) (more-good g z calls more) j j8 ∙ ap part after ∙ free-part,
+      )
+
+pub list-of-calls : ListOfCalls
+list-of-calls g z calls =
+    record {
+      state = run-state g z calls;
+      table = run-table g z calls;
+      seen = run-seen g z calls;
+      rows = run-rows g z calls;
+      count = run-count g z calls;
+      numbers = run-numbers g z calls;
+      others = run-others g z calls;
+      free-slots = run-free g z calls;
+    }
+
+-- there are settings that fresh takes: AS 9 at 128.9.0.1 on 128.9.0.0
+pub some-settings : (freshOf 9 2148073473 0 2148073472) .answer ≡ 0
+unfolding freshOf silentOf freshAnswer check goodSettings goodNet onNet netWidth hostSpan
+some-settings = refl

@@ -1,0 +1,296 @@
+-- The model that every list of calls is measured by (01: ledger). It is "fed only the arguments of fresh and the calls, without state and table", and makes the checks itself.
+use Prim.Native.Nat.{ℕ, suc}
+use mathlib.Core.Bool.{Bool, true, false, cond, not, _&&_}
+use mathlib.Core.List.{List, [], _∷_}
+use lib.Dec.{ltb, leb, eqb}
+use lib.ListN.{length, getD, set, replicate}
+use Rattle.octets.specs.Numbers.{word32}
+use Rattle.nets.specs.Rows.{Row, rowsOf}
+use Rattle.message.specs.Kinds.{kindOf, plainStatus}
+use Rattle.message.specs.declared.Kind.the-variants as K
+use Rattle.message.specs.declared.Message.{Message}
+use Rattle.wire.specs.Reading.{check, headerAnswer, asnAt, statusAt, sequenceAt, decodeOf}
+use Rattle.wire.specs.declared.Decoded.{Decoded}
+use Rattle.wire.specs.declared.Decoded.the-variants as D
+use Rattle.walk.specs.Body.{UpdateRead, accepted, brokenAt, tooMany, updateOf, rowsRead}
+use Rattle.codec.specs.Octets.{octetsOf}
+use Rattle.neighbour.specs.declared.Phase.{Phase}
+use Rattle.neighbour.specs.declared.Settings.{Settings}
+use Rattle.neighbour.specs.declared.Neighbour.{Neighbour}
+use Rattle.neighbour.specs.Record.{idle, isIdle, acquired}
+use Rattle.neighbour.specs.Rules.{same, inSequence}
+use Rattle.sent.specs.declared.Head.{Head}
+use Rattle.sent.specs.Sent.{refuseMessage, errorMessage}
+use Rattle.machine.specs.declared.Event.{Event}
+use Rattle.machine.specs.declared.Event.the-variants.{Received, Start, Stop, Tick}
+use Rattle.machine.specs.declared.Reply.{Reply}
+use Rattle.machine.specs.declared.Reply.the-variants.{Nothing, One, Two}
+use Rattle.machine.specs.declared.After.{After}
+use Rattle.machine.specs.Table.{quiet}
+use Rattle.machine.specs.Laws.{isUp}
+use Rattle.machine.specs.Step.{stepOf}
+use Rattle.calls.specs.Home.{goodHome}
+
+-- ---- calls
+
+-- a call with its arguments: any numbers and any octets at all. Fresh is the start of every list.
+pub data Call : Type 0 where
+  -- address and AS
+  add : ℕ → ℕ → Call
+  -- address
+  remove : ℕ → Call
+  -- Start, Stop, tick: address and reply buffer
+  start : ℕ → List ℕ → Call
+  stop : ℕ → List ℕ → Call
+  tick : ℕ → List ℕ → Call
+  -- message: address, octets, home list, reply buffer
+  receive : ℕ → List ℕ → List ℕ → List ℕ → Call
+
+-- ---- slots
+
+-- 01: "8 slots, free at first; a used one has address, AS, One neighbour's state (Idle when new) and rows"
+pub data Slot : Type 0 where
+  free : Slot
+  used : ℕ → ℕ → Neighbour → List Row → Slot
+
+-- 01: "It keeps fresh's settings"
+pub record Model : Type 0 where
+  pub settings : Settings
+  pub slots : List Slot
+
+unfoldable pub empty : Settings → Model
+empty g = record { settings = g; slots = replicate 8 free }
+
+unfoldable pub slotIn : Model → ℕ → Slot
+slotIn m i = getD (m .slots) i free
+
+unfoldable pub put : Model → ℕ → Slot → Model
+put m i slot = record { settings = m .settings; slots = set (m .slots) i slot }
+
+unfoldable pub isFree : Slot → Bool
+isFree free = true
+isFree (used address asn n rows) = false
+
+unfoldable pub hasAddress : ℕ → Slot → Bool
+hasAddress a free = false
+hasAddress a (used address asn n rows) = eqb address a
+
+-- the index of the first slot that passes, or their number
+unfoldable pub index : (Slot → Bool) → List Slot → ℕ
+index p [] = 0
+index p (slot ∷ rest) = cond (p slot) 0 (suc (index p rest))
+
+-- 01: "used slot has this address"
+unfoldable pub placeOf : Model → ℕ → ℕ
+placeOf m a = index (hasAddress a) (m .slots)
+
+unfoldable pub isPresent : Model → ℕ → Bool
+isPresent m a = ltb (placeOf m a) 8
+
+-- 01: "the lowest free slot"
+unfoldable pub vacancy : Model → ℕ
+vacancy m = index isFree (m .slots)
+
+-- ---- what a call answers
+
+-- its number, and the octets of its reply's two messages
+pub record Said : Type 0 where
+  pub answer : ℕ
+  pub first : List ℕ
+  pub second : List ℕ
+
+-- no reply
+unfoldable pub silent : ℕ → Said
+silent answer = record { answer = answer; first = []; second = [] }
+
+-- 01: "A reply is at most two messages, the second written straight after the first"; an Update is written with the home list
+unfoldable pub spoken : ℕ → Reply → List Row → Said
+spoken answer Nothing home = silent answer
+spoken answer (One m) home = record { answer = answer; first = octetsOf m home; second = [] }
+spoken answer (Two m next) home = record { answer = answer; first = octetsOf m home; second = octetsOf next home }
+
+-- an answer, and the model after it
+pub record Turn : Type 0 where
+  pub said : Said
+  pub model : Model
+
+-- 01: "refused calls .. change nothing": what is new where the answer is 0
+unfoldable pub whenOk : {A : Type 0} → ℕ → A → A → A
+whenOk answer new old = cond (eqb answer 0) new old
+
+-- ---- add and remove
+
+-- 01: "Add refuses 16 for AS 0 or own AS, or an address that is 0, our own or present."
+unfoldable pub addable : Model → ℕ → ℕ → Bool
+addable m address asn =
+    (not (eqb asn 0) && not (eqb asn (m .settings .asn)) && not (eqb address 0) && not (eqb address (m .settings .own))) && not (isPresent m address)
+
+-- then 17 "no free slot"
+unfoldable pub addAnswer : Model → ℕ → ℕ → ℕ
+addAnswer m address asn = check (addable m address asn) 16 (check (ltb (vacancy m) 8) 17 0)
+
+unfoldable pub isIdleSlot : Slot → Bool
+isIdleSlot free = true
+isIdleSlot (used address asn n rows) = isIdle (n .phase)
+
+-- 5, then 18 "neighbour not Idle"
+unfoldable pub removeAnswer : Model → ℕ → ℕ
+removeAnswer m address = check (isPresent m address) 5 (check (isIdleSlot (slotIn m (placeOf m address))) 18 0)
+
+-- 01: "It takes the lowest free slot, and a removed slot is free again."
+unfoldable pub addTurn : Model → ℕ → ℕ → Turn
+addTurn m address asn =
+    record {
+      said = silent (addAnswer m address asn);
+      model = whenOk (addAnswer m address asn) (put m (vacancy m) (used address asn idle [])) m;
+    }
+
+unfoldable pub removeTurn : Model → ℕ → Turn
+removeTurn m address =
+    record { said = silent (removeAnswer m address); model = whenOk (removeAnswer m address) (put m (placeOf m address) free) m }
+
+-- ---- one neighbour's turn
+
+-- what becomes of one slot: the answer, the reply, the slot after it
+pub record Move : Type 0 where
+  pub answer : ℕ
+  pub reply : Reply
+  pub slot : Slot
+
+-- a slot that nobody has
+unfoldable pub noMove : Move
+noMove = record { answer = 0; reply = Nothing; slot = free }
+
+-- 01: "A slot not Up has no rows."
+unfoldable pub rowsIn : Phase → List Row → List Row
+rowsIn phase rows = cond (isUp phase) rows []
+
+-- the machine's step carried out in a slot, with these rows while it is Up
+unfoldable pub moved : ℕ → ℕ → After → List Row → Move
+moved address asn after rows =
+    record { answer = 0; reply = after .reply; slot = used address asn (after .neighbour) (rowsIn (after .neighbour .phase) rows) }
+
+-- Start, Stop and tick receive no octets
+unfoldable pub noOctets : Head
+noOctets = record { first = 0; second = 0; third = 0 }
+
+unfoldable pub eventMove : Settings → Event → Slot → Move
+eventMove g event free = noMove
+eventMove g event (used address asn n rows) = moved address asn (stepOf g asn n event noOctets) rows
+
+-- ---- a message: checks 6 to 15
+
+-- 14 and 15
+unfoldable pub bodyAnswer : UpdateRead → ℕ
+bodyAnswer (accepted rows) = 0
+bodyAnswer (brokenAt offset) = 14
+bodyAnswer tooMany = 15
+
+unfoldable pub isUpdate : Message → Bool
+isUpdate m = same (kindOf m) K.Update
+
+-- 10 to 12, then 13 "response out of sequence", then of an Update in Up its body
+unfoldable pub kindAnswer : Settings → Neighbour → List ℕ → Decoded → ℕ
+kindAnswer g n o (D.Good m) = check (inSequence n m) 13 (cond (isUpdate m && isUp (n .phase)) (bodyAnswer (updateOf 128 (g .net) o)) 0)
+kindAnswer g n o D.UnknownKind = 10
+kindAnswer g n o D.BadStatus = 11
+kindAnswer g n o D.BadLength = 12
+
+-- 6 to 8, then 9 "AS is not this neighbour's", then the rest
+unfoldable pub answerTo : Settings → ℕ → Neighbour → List ℕ → ℕ
+answerTo g asn n o = whenOk (headerAnswer o) (check (eqb (asnAt o) asn) 9 (kindAnswer g n o (decodeOf o))) (headerAnswer o)
+
+-- 01: "the first 12 octets, zero-filled"
+unfoldable pub firstTwelve : List ℕ → Head
+firstTwelve o = record { first = word32 o 0; second = word32 o 4; third = word32 o 8 }
+
+-- 01: "Error is sent only in Down and Up, never to a message of type 8."
+unfoldable pub errorReply : Settings → Neighbour → List ℕ → ℕ → Reply
+errorReply g n o reason =
+    cond (acquired (n .phase) && not (eqb (getD o 1 0) 8)) (One (errorMessage g n reason (firstTwelve o))) Nothing
+
+-- 01: "Refuse status 4, only in Idle and only to a Request of 14 octets with status 0 to 2"
+unfoldable pub refuseReply : Settings → Neighbour → List ℕ → Reply
+refuseReply g n o =
+    cond (isIdle (n .phase) && eqb (getD o 1 0) 3 && eqb (getD o 2 0) 0 && plainStatus (statusAt o) && eqb (length o) 14)
+    (One (refuseMessage g (sequenceAt o) 4)) Nothing
+
+-- 01's column "Reply", by the number
+unfoldable pub refusalReply : Settings → Neighbour → List ℕ → ℕ → Reply
+refusalReply g n o answer =
+    cond (eqb answer 9) (refuseReply g n o)
+    (cond (leb 10 answer && leb answer 12) (errorReply g n o 1)
+    (cond (eqb answer 14) (errorReply g n o 2)
+    (cond (eqb answer 15) (errorReply g n o 0)
+    Nothing)))
+
+-- the machine's step for a message that passed; 10 to 12 have refused the others
+unfoldable pub afterMessage : Settings → ℕ → Neighbour → List ℕ → Decoded → After
+afterMessage g asn n o (D.Good m) = stepOf g asn n (Received m) (firstTwelve o)
+afterMessage g asn n o D.UnknownKind = quiet n
+afterMessage g asn n o D.BadStatus = quiet n
+afterMessage g asn n o D.BadLength = quiet n
+
+-- 01: "An Update that finds its slot Up and fails no check is accepted: its rows replace the slot's."
+unfoldable pub rowsAfter : Settings → Neighbour → List ℕ → Decoded → List Row → List Row
+rowsAfter g n o (D.Good m) rows = cond (isUpdate m && isUp (n .phase)) (rowsRead (updateOf 128 (g .net) o)) rows
+rowsAfter g n o D.UnknownKind rows = rows
+rowsAfter g n o D.BadStatus rows = rows
+rowsAfter g n o D.BadLength rows = rows
+
+-- a refusal keeps the slot
+unfoldable pub messageMove : Settings → List ℕ → Slot → Move
+messageMove g o free = noMove
+messageMove g o (used address asn n rows) =
+    whenOk (answerTo g asn n o)
+    (moved address asn (afterMessage g asn n o (decodeOf o)) (rowsAfter g n o (decodeOf o) rows))
+    (record { answer = answerTo g asn n o; reply = refusalReply g n o (answerTo g asn n o); slot = used address asn n rows })
+
+-- ---- the calls about one neighbour
+
+-- 01: "Reply buffer at least 2,048 octets": 3, then 5
+unfoldable pub eventAnswer : Model → ℕ → List ℕ → ℕ
+eventAnswer m a buffer = check (leb 2048 (length buffer)) 3 (check (isPresent m a) 5 0)
+
+-- 3, 4 "bad home list", 5
+unfoldable pub messageAnswer : Model → ℕ → List ℕ → List ℕ → ℕ
+messageAnswer m a home buffer = check (leb 2048 (length buffer)) 3 (check (goodHome (m .settings) home) 4 (check (isPresent m a) 5 0))
+
+-- once these passed, the move of the neighbour at this place; else nothing
+unfoldable pub turnAt : Model → ℕ → ℕ → Move → List Row → Turn
+turnAt m answer place move home =
+    record {
+      said = whenOk answer (spoken (move .answer) (move .reply) home) (silent answer);
+      model = whenOk answer (put m place (move .slot)) m;
+    }
+
+unfoldable pub eventTurn : Event → Model → ℕ → List ℕ → Turn
+eventTurn event m a buffer =
+    turnAt m (eventAnswer m a buffer) (placeOf m a) (eventMove (m .settings) event (slotIn m (placeOf m a))) []
+
+unfoldable pub messageTurn : Model → ℕ → List ℕ → List ℕ → List ℕ → Turn
+messageTurn m a o home buffer =
+    turnAt m (messageAnswer m a home buffer) (placeOf m a) (messageMove (m .settings) o (slotIn m (placeOf m a))) (rowsOf home)
+
+-- ---- lists of calls
+
+unfoldable pub step : Call → Model → Turn
+step (add address asn) m = addTurn m address asn
+step (remove address) m = removeTurn m address
+step (start a buffer) m = eventTurn Start m a buffer
+step (stop a buffer) m = eventTurn Stop m a buffer
+step (tick a buffer) m = eventTurn Tick m a buffer
+step (receive a o home buffer) m = messageTurn m a o home buffer
+
+unfoldable pub modelFrom : Model → List Call → Model
+modelFrom m [] = m
+modelFrom m (call ∷ rest) = modelFrom ((step call m) .model) rest
+
+-- what each call of the list is answered
+unfoldable pub saidFrom : Model → List Call → List Said
+saidFrom m [] = []
+saidFrom m (call ∷ rest) = (step call m) .said ∷ saidFrom ((step call m) .model) rest
+
+-- 01: "fed only the arguments of fresh and the calls"
+unfoldable pub model : Settings → List Call → Model
+model g calls = modelFrom (empty g) calls

@@ -1,0 +1,214 @@
+-- The theorem about lists of calls: the gateway's definitions and the model, run over any list, leave and answer the same.
+use Prim.Native.Nat.{ℕ, _*_, _-_, _<_}
+use mathlib.Core.Path.{_≡_}
+use mathlib.Core.Bool.{true, cond}
+use mathlib.Core.List.{List, [], _∷_, _++_, map}
+use lib.Dec.{eqb}
+use lib.ListN.{length, take, drop}
+use Rattle.octets.specs.Buffer.{over}
+use Rattle.nets.specs.Rows.{Row, rowsOf, flat}
+use Rattle.rows.specs.Storing.{zeros, padded}
+use Rattle.codec.specs.Reading.{mostNumbers}
+use Rattle.neighbour.specs.declared.Settings.{Settings}
+use Rattle.machine.specs.declared.Event.the-variants.{Start, Stop, Tick}
+use Rattle.state.specs.declared.State.{State}
+use Rattle.state.specs.declared.Slot as Stored
+use Rattle.state.specs.declared.Outcome.{Outcome}
+use Rattle.state.specs.Slots.{freeSlot, slotAt}
+use Rattle.state.specs.Lists.{every}
+use Rattle.state.specs.Formed.{stateFormed}
+use Rattle.calls.specs.Carried.{partAt}
+use Rattle.slots.specs.Calls.{freshOf, addOf, removeOf}
+use Rattle.calls.specs.Calls.{eventOutcome, eventTable, eventBuffer, messageOutcome, messageTable, messageBuffer}
+use Rattle.model.specs.Model.{Call, add, remove, start, stop, tick, receive, Slot, free, used, Model, Said, model, modelFrom, empty, saidFrom}
+use Rattle.model.specs.History.{lastAccepted, isElsewhere, takesNoSlot}
+
+-- ---- the gateway's own definitions, over a list
+
+-- the state, and the lent table
+pub record Gateway : Type 0 where
+  pub state : State
+  pub table : List ℕ
+
+unfoldable pub outcomeOf : Call → Gateway → Outcome
+outcomeOf (add address asn) b = addOf (b .state) address asn
+outcomeOf (remove address) b = removeOf (b .state) address
+outcomeOf (start a buffer) b = eventOutcome Start (b .state) (b .table) buffer a
+outcomeOf (stop a buffer) b = eventOutcome Stop (b .state) (b .table) buffer a
+outcomeOf (tick a buffer) b = eventOutcome Tick (b .state) (b .table) buffer a
+outcomeOf (receive a o home buffer) b = messageOutcome (b .state) (b .table) buffer home a o
+
+-- add and remove take no table
+unfoldable pub tableAfter : Call → Gateway → List ℕ
+tableAfter (add address asn) b = b .table
+tableAfter (remove address) b = b .table
+tableAfter (start a buffer) b = eventTable Start (b .state) (b .table) buffer a
+tableAfter (stop a buffer) b = eventTable Stop (b .state) (b .table) buffer a
+tableAfter (tick a buffer) b = eventTable Tick (b .state) (b .table) buffer a
+tableAfter (receive a o home buffer) b = messageTable (b .state) (b .table) buffer home a o
+
+-- the buffer that a call lends; add and remove lend none
+unfoldable pub bufferOf : Call → List ℕ
+bufferOf (add address asn) = []
+bufferOf (remove address) = []
+bufferOf (start a buffer) = buffer
+bufferOf (stop a buffer) = buffer
+bufferOf (tick a buffer) = buffer
+bufferOf (receive a o home buffer) = buffer
+
+unfoldable pub bufferAfter : Call → Gateway → List ℕ
+bufferAfter (add address asn) b = []
+bufferAfter (remove address) b = []
+bufferAfter (start a buffer) b = eventBuffer Start (b .state) (b .table) buffer a
+bufferAfter (stop a buffer) b = eventBuffer Stop (b .state) (b .table) buffer a
+bufferAfter (tick a buffer) b = eventBuffer Tick (b .state) (b .table) buffer a
+bufferAfter (receive a o home buffer) b = messageBuffer (b .state) (b .table) buffer home a o
+
+unfoldable pub gatewayStep : Call → Gateway → Gateway
+gatewayStep call b = record { state = (outcomeOf call b) .state; table = tableAfter call b }
+
+unfoldable pub gatewayFrom : Gateway → List Call → Gateway
+gatewayFrom b [] = b
+gatewayFrom b (call ∷ rest) = gatewayFrom (gatewayStep call b) rest
+
+-- what the caller sees of one call: the number, both lengths, and its buffer after it
+pub record Seen : Type 0 where
+  pub answer : ℕ
+  pub first : ℕ
+  pub second : ℕ
+  pub buffer : List ℕ
+
+unfoldable pub seenOf : Call → Gateway → Seen
+seenOf call b =
+    record {
+      answer = (outcomeOf call b) .answer;
+      first = (outcomeOf call b) .first;
+      second = (outcomeOf call b) .second;
+      buffer = bufferAfter call b;
+    }
+
+unfoldable pub seenFrom : Gateway → List Call → List Seen
+seenFrom b [] = []
+seenFrom b (call ∷ rest) = seenOf call b ∷ seenFrom (gatewayStep call b) rest
+
+-- 01: "exactly 3,072" numbers, zero at first
+unfoldable pub emptyTable : List ℕ
+emptyTable = zeros 3072
+
+-- from what fresh returns and an empty table
+unfoldable pub begun : Settings → Gateway
+begun g = record { state = (freshOf (g .asn) (g .own) (g .capability) (g .net)) .state; table = emptyTable }
+
+unfoldable pub run : Settings → List Call → Gateway
+run g calls = gatewayFrom (begun g) calls
+
+unfoldable pub seenBy : Settings → List Call → List Seen
+seenBy g calls = seenFrom (begun g) calls
+
+-- ---- the model, as state and table
+
+-- 01: "The count is their number"
+unfoldable pub cell : Slot → Stored.Slot
+cell free = freeSlot
+cell (used address asn n rows) = record { address = address; asn = asn; neighbour = n; rows = length rows }
+
+unfoldable pub stateOf : Model → State
+stateOf m = record { settings = m .settings; slots = map cell (m .slots) }
+
+unfoldable pub rowsHeld : Slot → List Row
+rowsHeld free = []
+rowsHeld (used address asn n rows) = rows
+
+-- 01: "the table has them as under Numbers": "slot by slot, three a row .. Unused rows are zero"
+unfoldable pub part : Slot → List ℕ
+part slot = padded mostNumbers (flat (rowsHeld slot))
+
+unfoldable pub join : List (List ℕ) → List ℕ
+join [] = []
+join (l ∷ rest) = l ++ join rest
+
+unfoldable pub tableOf : Model → List ℕ
+tableOf m = join (map part (m .slots))
+
+-- what the model's answer shows to a caller who lends this buffer
+unfoldable pub shownIn : List ℕ → Said → Seen
+shownIn buffer said =
+    record {
+      answer = said .answer;
+      first = length (said .first);
+      second = length (said .second);
+      buffer = over (said .first ++ said .second) buffer;
+    }
+
+unfoldable pub shown : List Call → List Said → List Seen
+shown [] said = []
+shown (call ∷ rest) [] = []
+shown (call ∷ rest) (s ∷ said) = shownIn (bufferOf call) s ∷ shown rest said
+
+-- ---- what is read off state and table
+
+-- 01: "three a row": the rows of slot j, as many as its count says
+unfoldable pub rowsAt : Gateway → ℕ → List Row
+rowsAt b j = rowsOf (take (3 * (slotAt (b .state) j) .rows) (partAt (b .table) j))
+
+-- ---- the statement
+
+-- after these calls, from what fresh returns: the gateway beside the model
+pub record Agreement (g : Settings) (calls : List Call) : Type 0 where
+  -- every field of the final state, and every number of the final table
+  pub state : (run g calls) .state ≡ stateOf (model g calls)
+  pub table : (run g calls) .table ≡ tableOf (model g calls)
+  -- every answer, both lengths and every octet of every buffer
+  pub seen : seenBy g calls ≡ shown calls (saidFrom (empty g) calls)
+  -- the rows read off the final table by the final count are those of the last Update accepted since the slot last entered Up; behind them all is zero
+  pub rows : (j : ℕ) → j < 8 → rowsAt (run g calls) j ≡ lastAccepted g j calls
+  pub count : (j : ℕ) → j < 8 → (slotAt ((run g calls) .state) j) .rows ≡ length (lastAccepted g j calls)
+  pub numbers : (j : ℕ) → j < 8 → partAt ((run g calls) .table) j ≡ padded mostNumbers (flat (lastAccepted g j calls))
+  -- however many calls about others follow, a used slot's record stays as it was, and its part of the table
+  pub others :
+      (more : List Call) (j : ℕ) → j < 8
+      → ((slotAt ((run g calls) .state) j) .address ≡ 0 → ⊥) → every (isElsewhere ((slotAt ((run g calls) .state) j) .address)) more ≡ true
+      → (slotAt ((run g (calls ++ more)) .state) j ≡ slotAt ((run g calls) .state) j)
+      × (partAt ((run g (calls ++ more)) .table) j ≡ partAt ((run g calls) .table) j)
+  -- and a free slot stays free, its part zero, until a neighbour is added
+  pub free-slots :
+      (more : List Call) (j : ℕ) → j < 8
+      → (slotAt ((run g calls) .state) j) .address ≡ 0 → every takesNoSlot more ≡ true
+      → (slotAt ((run g (calls ++ more)) .state) j ≡ freeSlot)
+      × (partAt ((run g (calls ++ more)) .table) j ≡ zeros mostNumbers)
+
+-- 01: "one claim about the whole list, not one for each call": all settings that fresh takes, and all lists
+abbrev pub ListOfCalls : Type 0
+ListOfCalls = (g : Settings) → (freshOf (g .asn) (g .own) (g .capability) (g .net)) .answer ≡ 0 → (calls : List Call) → Agreement g calls
+
+-- ---- from any state that passes check 1, with any rows it counts
+
+-- 01: "Unused rows are zero": of slot j, behind the rows that its count says
+unfoldable pub unused : Gateway → ℕ → List ℕ
+unused b j = drop (3 * (slotAt (b .state) j) .rows) (partAt (b .table) j)
+
+pub record Sensible (b : Gateway) : Type 0 where
+  pub formed : stateFormed (b .state) ≡ true
+  pub eight : length (b .state .slots) ≡ 8
+  pub long : length (b .table) ≡ 3072
+  pub zero-unused : (j : ℕ) → j < 8 → unused b j ≡ zeros (mostNumbers - 3 * (slotAt (b .state) j) .rows)
+
+-- one slot of the model, from its record and its part of the table
+unfoldable pub slotFrom : Stored.Slot → List ℕ → Slot
+slotFrom slot numbers =
+    cond (eqb (slot .address) 0) free (used (slot .address) (slot .asn) (slot .neighbour) (rowsOf (take (3 * slot .rows) numbers)))
+
+unfoldable pub slotsFrom : List Stored.Slot → List ℕ → List Slot
+slotsFrom [] table = []
+slotsFrom (slot ∷ rest) table = slotFrom slot (take mostNumbers table) ∷ slotsFrom rest (drop mostNumbers table)
+
+unfoldable pub modelOf : Gateway → Model
+modelOf b = record { settings = b .state .settings; slots = slotsFrom (b .state .slots) (b .table) }
+
+-- such a state and table are those of a model, and every list of calls goes on as in the model
+pub record FromAnyState : Type 0 where
+  pub is-state : (b : Gateway) → Sensible b → stateOf (modelOf b) ≡ b .state
+  pub is-table : (b : Gateway) → Sensible b → tableOf (modelOf b) ≡ b .table
+  pub state : (b : Gateway) → Sensible b → (calls : List Call) → (gatewayFrom b calls) .state ≡ stateOf (modelFrom (modelOf b) calls)
+  pub table : (b : Gateway) → Sensible b → (calls : List Call) → (gatewayFrom b calls) .table ≡ tableOf (modelFrom (modelOf b) calls)
+  pub seen : (b : Gateway) → Sensible b → (calls : List Call) → seenFrom b calls ≡ shown calls (saidFrom (modelOf b) calls)

@@ -20,7 +20,7 @@ use Rattle.message.specs.declared.Message.{Message}
 use Rattle.message.specs.declared.Message.the-variants.{Request, Confirm, Refuse, Cease, CeaseAck, Hello, IHeardYou, Poll, Update, Error}
 use Rattle.message.proofs.Message.{the-type}
 use Rattle.wire.specs.Reading.{check}
-use Rattle.wire.specs.Writing.{headOf, plainOctets, fixedOctets}
+use Rattle.fixed.specs.Writing.{headOf, plainOctets, fixedOctets}
 use Rattle.wire.proofs.Laws.{and-left, and-right, check-holds, check-fails}
 use Rattle.blocks.specs.Blocks.{blocksOf, internalBlocks, externalBlocks}
 use Rattle.blocks.specs.Writable.{writableNumbers, writableRows}

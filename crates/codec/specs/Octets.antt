@@ -5,7 +5,7 @@ use Rattle.octets.specs.Checksum.{sealed}
 use Rattle.nets.specs.Rows.{Row}
 use Rattle.message.specs.declared.Message.{Message}
 use Rattle.message.specs.declared.Message.the-variants.{Request, Confirm, Refuse, Cease, CeaseAck, Hello, IHeardYou, Poll, Update, Error}
-use Rattle.wire.specs.Writing.{headOf, fixedOctets}
+use Rattle.fixed.specs.Writing.{headOf, fixedOctets}
 use Rattle.blocks.specs.Blocks.{blocksOf, internalBlocks, externalBlocks}
 
 -- an Update: its head with the two counts of gateways, then the blocks, the checksum over all of it

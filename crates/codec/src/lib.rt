@@ -50,7 +50,7 @@ fn write_update(
     ensures { λ _. ⌜ now (buffer .exit) ≡ over (updateOctets asn sequence status net (rowsOf (now (rows .entry)))) (now (buffer .entry)) ⌝ }
 {
     let blocks = blocks::write_blocks(buffer, 16, net, rows);
-    wire::store_head(
+    fixed::store_head(
         buffer,
         blocks.internal,
         blocks.external,
@@ -79,7 +79,7 @@ pub fn write_message(buffer: &mut [u8], message: Message, rows: &[u32]) -> usize
     } = message {
         write_update(buffer, asn, sequence, status, net, rows)
     } else {
-        wire::write_fixed(buffer, message)
+        fixed::write_fixed(buffer, message)
     }
 }
 

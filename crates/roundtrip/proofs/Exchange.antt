@@ -24,7 +24,7 @@ use Rattle.message.proofs.Laws.{kind-pair}
 use Rattle.wire.specs.declared.Decoded.{Decoded}
 use Rattle.wire.specs.declared.Decoded.the-variants as D
 use Rattle.wire.specs.Reading.{statusAt, asnAt, sequenceAt, headerAnswer, meaningOf, decodeAs, decodeOf}
-use Rattle.wire.specs.Writing.{headOf, fixedOctets}
+use Rattle.fixed.specs.Writing.{headOf, fixedOctets}
 use Rattle.wire.proofs.Laws.{header-passed}
 use Rattle.walk.specs.Body.{digits, got, bothSides, whole, nothingLeft, bodyOf, further, netAt, UpdateRead, accepted, brokenAt, tooMany, updateOf}
 use Rattle.walk.specs.Body as Walk

@@ -23,7 +23,7 @@ use Rattle.message.specs.declared.Message.the-variants.{Request, Confirm, Refus
 use Rattle.wire.specs.declared.Decoded.{Decoded}
 use Rattle.wire.specs.declared.Decoded.the-variants.{Good, UnknownKind, BadStatus, BadLength}
 use Rattle.wire.specs.Reading.{statusAt, asnAt, sequenceAt, headerAnswer, meaningOf, decodeAs, decodeOf}
-use Rattle.wire.specs.Writing.{headed, headOf, plainOctets, fixedOctets}
+use Rattle.fixed.specs.Writing.{headed, headOf, plainOctets, fixedOctets}
 use Rattle.roundtrip.specs.Fixed.{HeadFits, Fits, Allowed, ReservedZero, WritesReadBack, ReadsWriteBack}
 use Rattle.wire.proofs.Laws.{header-good, HeaderGood, header-passed}
 

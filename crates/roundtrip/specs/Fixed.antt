@@ -12,7 +12,7 @@ use Rattle.message.specs.declared.Message.{Message}
 use Rattle.message.specs.declared.Message.the-variants as M
 use Rattle.wire.specs.declared.Decoded.the-variants.{Good}
 use Rattle.wire.specs.Reading.{headerAnswer, decodeOf}
-use Rattle.wire.specs.Writing.{fixedOctets}
+use Rattle.fixed.specs.Writing.{fixedOctets}
 
 -- the numbers that every kind carries are in their widths
 pub record HeadFits (asn sequence status : ℕ) : Type 0 where

@@ -15,7 +15,7 @@ use Rattle.codec.proofs.write_message.Tie as tie
 use Rattle.codec.proofs.write_message.Reads as reads
 use Rattle.codec.proofs.write_message.Lts as lts
 use Rattle.codec.proofs.write_update.Reads as write-update-reads
-use Rattle.wire.proofs.write_fixed.Reads as write-fixed-reads
+use Rattle.fixed.proofs.write_fixed.Reads as write-fixed-reads
 
 -- src/lib.rt:57:9
 enum-known-message : tie.Need-enum-known-message

@@ -9,7 +9,7 @@ use Rattle.codec.proofs.write_update.Reads as reads
 use Rattle.codec.proofs.write_update.Lts as lts
 use Rattle.blocks.proofs.write_blocks.Reads as write-blocks-reads
 use Rattle.octets.proofs.seal.Reads as seal-reads
-use Rattle.wire.proofs.store_head.Reads as store-head-reads
+use Rattle.fixed.proofs.store_head.Reads as store-head-reads
 
 -- src/lib.rt:34:9
 write-blocks-requires : tie.Need-write-blocks-requires

@@ -6,10 +6,10 @@ use Prim.Native.Nat.{ℕ}
 use mathlib.Core.List.{List}
 use mathlib.Core.Path.{_≡_, refl, _∙_, sym, ap}
 use borrow.Author.Needs.{needs}
-use Rattle.wire.proofs.write_error.Statement.{statement}
-use Rattle.wire.proofs.write_error.Tie as tie
-use Rattle.wire.proofs.write_error.Reads as reads
-use Rattle.wire.proofs.write_error.Lts as lts
+use Rattle.fixed.proofs.write_error.Statement.{statement}
+use Rattle.fixed.proofs.write_error.Tie as tie
+use Rattle.fixed.proofs.write_error.Reads as reads
+use Rattle.fixed.proofs.write_error.Lts as lts
 use Rattle.octets.proofs.seal.Reads as seal-reads
 use Rattle.octets.proofs.store.Reads as store-reads
 

@@ -1,15 +1,15 @@
-use Rattle.wire.specs.Writing.{headOf, plainOctets, fixedOctets}
+use Rattle.fixed.specs.Writing.{headOf, plainOctets, fixedOctets}
 use Rattle.octets.proofs.Laws.{sealed-length}
 use mathlib.Core.Path.{_≡_, refl, _∙_, sym, ap}
 use borrow.Author.Needs.{needs}
-use Rattle.wire.proofs.write_fixed.Statement.{statement}
-use Rattle.wire.proofs.write_fixed.Tie as tie
-use Rattle.wire.proofs.write_fixed.Reads as reads
-use Rattle.wire.proofs.write_fixed.Lts as lts
-use Rattle.wire.proofs.write_error.Reads as write-error-reads
-use Rattle.wire.proofs.write_intervals.Reads as write-intervals-reads
-use Rattle.wire.proofs.write_net.Reads as write-net-reads
-use Rattle.wire.proofs.write_short.Reads as write-short-reads
+use Rattle.fixed.proofs.write_fixed.Statement.{statement}
+use Rattle.fixed.proofs.write_fixed.Tie as tie
+use Rattle.fixed.proofs.write_fixed.Reads as reads
+use Rattle.fixed.proofs.write_fixed.Lts as lts
+use Rattle.fixed.proofs.write_error.Reads as write-error-reads
+use Rattle.fixed.proofs.write_intervals.Reads as write-intervals-reads
+use Rattle.fixed.proofs.write_net.Reads as write-net-reads
+use Rattle.fixed.proofs.write_short.Reads as write-short-reads
 
 -- src/lib.rt:151:13
 enum-known-message : tie.Need-enum-known-message

@@ -1,10 +1,10 @@
 use native.Mathlib.Omega.{arith}
-use Rattle.wire.specs.Writing.{headOf, plainOctets, fixedOctets}
+use Rattle.fixed.specs.Writing.{headOf, plainOctets, fixedOctets}
 use borrow.Author.Needs.{needs}
-use Rattle.wire.proofs.store_head.Statement.{statement}
-use Rattle.wire.proofs.store_head.Tie as tie
-use Rattle.wire.proofs.store_head.Reads as reads
-use Rattle.wire.proofs.store_head.Lts as lts
+use Rattle.fixed.proofs.store_head.Statement.{statement}
+use Rattle.fixed.proofs.store_head.Tie as tie
+use Rattle.fixed.proofs.store_head.Reads as reads
+use Rattle.fixed.proofs.store_head.Lts as lts
 use Rattle.octets.proofs.store.Reads as store-reads
 
 -- src/lib.rt:363:9

@@ -1,0 +1,1 @@
+// Text as octets: fixed words, decimal numbers and dotted quads.

@@ -8,12 +8,13 @@ use mathlib.Core.List.{List, [], _∷_, _++_}
 use borrow.Author.Tests.{leb-true, le-leb, eqb-true, eqb-false, eq-eqb, ne-eqb}
 use lib.Dec.{ltb, leb, eqb}
 use lib.ListN.{length, length-append, length-take, length-drop}
+use Rattle.checks.proofs.Laws.{and-left, and-right, and-both}
+use Rattle.checks.specs.Lists.{every}
 use Rattle.nets.specs.Classes.{netWidth, firstOctet, widthOf, hostSpan, goodNet, onNet}
 use Rattle.nets.specs.Rows.{Row}
 use Rattle.blocks.specs.Blocks.{sideOf, joined, sideRows, runs, distanceRuns, each, addressOctets, netOctets, hostOctets, netsOctets, groupOctets, groupsOctets, blockOctets, sideOctets, blocksOf, internalBlocks, externalBlocks}
-use Rattle.blocks.specs.Writable.{every, ordered, writableRow, writableRows}
+use Rattle.blocks.specs.Writable.{ordered, writableRow, writableRows}
 use Rattle.blocks.specs.Claims.{Short, Counts, Distances}
-use Rattle.blocks.proofs.Lists.{and-left, and-right, and-both}
 use Rattle.blocks.proofs.Runs.{runs-front, runs-octets, runs-number, runs-whole, sides-within, sides-whole, thirdsFit}
 
 pub width-most : (first : ℕ) → netWidth first ≤ 3

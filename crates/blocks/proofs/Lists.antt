@@ -10,24 +10,9 @@ use lib.Seq.{take-all, take-nil, drop-nil, sets, length-sets, set-comm}
 use Rattle.nets.specs.Rows.{Row, rowsOf}
 use Rattle.blocks.specs.Steps.{Written}
 
-pub and-left : (a b : Bool) → (a && b) ≡ true → a ≡ true
-and-left true b e = refl
-and-left false b e = e
-
-pub and-right : (a b : Bool) → (a && b) ≡ true → b ≡ true
-and-right true b e = e
-and-right false b e = absurd (false≢true e)
-
-pub and-both : (a b : Bool) → a ≡ true → b ≡ true → (a && b) ≡ true
-and-both a b p q = rw (p, q)
-
 pub and-false : (a : Bool) → (a && false) ≡ false
 and-false true = refl
 and-false false = refl
-
--- a part of a slice to its end, and one from its start
-pub part-from : (a : ℕ) (t : List ℕ) → take (length t - a) (drop a t) ≡ drop a t
-part-from a t = take-all (length t - a) (drop a t) (simp length-drop (le-refl (length t - a)))
 
 pub sets-append : (vs ws l : List ℕ) (i : ℕ) → sets l i (vs ++ ws) ≡ sets (sets l i vs) (i + length vs) ws
 sets-append [] ws l i = rw add-zero

@@ -9,12 +9,14 @@ use borrow.Author.Tests.{eqb-true, eq-eqb, ne-eqb, le-leb, lt-leb}
 use lib.Dec.{eqb}
 use lib.ListN.{length, take, drop, getD, set, length-drop, length-append}
 use lib.Seq.{sets, length-sets, drop-cons, length-take-le}
+use Rattle.checks.proofs.Laws.{and-left, and-right, part-from}
+use Rattle.checks.specs.Lists.{every}
 use Rattle.nets.specs.Classes.{goodNet}
 use Rattle.nets.specs.Rows.{Row, rowsOf}
 use Rattle.blocks.specs.Blocks.{sideRows, runs, distanceRuns, each, netOctets, hostOctets, netsOctets, groupOctets, groupsOctets, blockOctets, gatewayRuns, sideOctets, blocksOf, internalBlocks, externalBlocks}
-use Rattle.blocks.specs.Writable.{every, ordered, writableRow, writableRows, writableNumbers}
+use Rattle.blocks.specs.Writable.{ordered, writableRow, writableRows, writableNumbers}
 use Rattle.blocks.specs.Steps.{Written, column, agreeing, runLength}
-use Rattle.blocks.proofs.Lists.{and-left, and-right, and-false, set-before, part-from, written-append, rows-turn, rows-short, rows-length, Writing, start, room, turn, done}
+use Rattle.blocks.proofs.Lists.{and-false, set-before, written-append, rows-turn, rows-short, rows-length, Writing, start, room, turn, done}
 use Rattle.blocks.proofs.Runs.{runs-turn, runs-number, numbers-within, numbers-some, split-within, internal-part, external-part}
 use Rattle.blocks.proofs.Claims.{rows-most, writable-sides, short}
 

@@ -9,11 +9,13 @@ use borrow.Author.Tests.{eqb-true, ne-eqb, leb-true}
 use lib.Dec.{eqb, leb}
 use lib.ListN.{length, take, drop, length-append}
 use lib.Seq.{take-at, drop-at}
+use Rattle.checks.proofs.Laws.{and-left, and-right}
+use Rattle.checks.specs.Lists.{every}
 use Rattle.nets.specs.Rows.{Row, rowsOf}
 use Rattle.blocks.specs.Blocks.{sideOf, sideRows, joined, runs, each}
-use Rattle.blocks.specs.Writable.{every, ordered}
+use Rattle.blocks.specs.Writable.{ordered}
 use Rattle.blocks.specs.Steps.{agreeing, runLength}
-use Rattle.blocks.proofs.Lists.{and-left, and-right, rows-take, rows-drop, rows-length}
+use Rattle.blocks.proofs.Lists.{rows-take, rows-drop, rows-length}
 
 module _ (key : Row → ℕ) where
   -- the first run, and the runs of the rows after it

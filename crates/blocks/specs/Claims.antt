@@ -5,10 +5,11 @@ use mathlib.Core.Path.{_≡_}
 use mathlib.Core.List.{List}
 use lib.Dec.{leb, eqb}
 use lib.ListN.{length}
+use Rattle.checks.specs.Lists.{every}
 use Rattle.nets.specs.Classes.{goodNet}
 use Rattle.nets.specs.Rows.{Row}
 use Rattle.blocks.specs.Blocks.{sideOf, runs, distanceRuns, blocksOf, internalBlocks, externalBlocks}
-use Rattle.blocks.specs.Writable.{every, writableRows}
+use Rattle.blocks.specs.Writable.{writableRows}
 
 -- at most 9 octets a row, so that 128 rows take at most 1,152 octets
 pub record Short : Type 0 where

@@ -4,6 +4,7 @@ use mathlib.Core.Bool.{Bool, true, _&&_}
 use mathlib.Core.List.{List, [], _∷_}
 use lib.Dec.{eqb, leb}
 use lib.ListN.{length}
+use Rattle.checks.specs.Lists.{every}
 use Rattle.nets.specs.Classes.{goodNet, onNet}
 use Rattle.nets.specs.Rows.{Row, rowsOf}
 use Rattle.blocks.specs.Blocks.{sideOf}
@@ -11,11 +12,6 @@ use Rattle.blocks.specs.Blocks.{sideOf}
 -- a row that the reader can give: its net is a left-justified A, B or C net, its gateway is on the Update's net, its third number at most 511
 unfoldable pub writableRow : ℕ → Row → Bool
 writableRow net row = goodNet (row .net) && onNet net (row .gateway) && leb (row .third) 511
-
--- every item passes the test
-unfoldable pub every : {A : Type 0} → (A → Bool) → List A → Bool
-every test [] = true
-every test (item ∷ rest) = test item && every test rest
 
 -- no row's side is below that of the row before it; the first comes after one of the side given
 unfoldable pub ordered : ℕ → List Row → Bool

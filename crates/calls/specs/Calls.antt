@@ -4,6 +4,7 @@ use mathlib.Core.Bool.{Bool, cond}
 use mathlib.Core.List.{List, []}
 use lib.Dec.{leb, eqb}
 use lib.ListN.{length}
+use Rattle.checks.specs.Checks.{check, ifOk}
 use Rattle.nets.specs.Rows.{Row, rowsOf}
 use Rattle.walk.specs.Body.{updateOf, rowsRead}
 use Rattle.codec.specs.Reading.{most}
@@ -14,7 +15,7 @@ use Rattle.state.specs.declared.State.{State}
 use Rattle.state.specs.declared.Outcome.{Outcome}
 use Rattle.state.specs.Slots.{slotAt, slotOf, present}
 use Rattle.state.specs.Formed.{stateFormed}
-use Rattle.state.specs.Outcomes.{check, ifOk, refusedOf}
+use Rattle.state.specs.Outcomes.{refusedOf}
 use Rattle.calls.specs.declared.Verdict.{Verdict}
 use Rattle.calls.specs.Home.{goodHome}
 use Rattle.calls.specs.Verdict.{stepped, receiveVerdict}

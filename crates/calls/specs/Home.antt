@@ -4,10 +4,10 @@ use mathlib.Core.Bool.{Bool, true, _&&_}
 use mathlib.Core.List.{List, [], _∷_}
 use lib.Dec.{leb, eqb}
 use lib.ListN.{length}
+use Rattle.checks.specs.Lists.{every}
 use Rattle.nets.specs.Classes.{goodNet, onNet}
 use Rattle.nets.specs.Rows.{Row, rowsOf}
 use Rattle.neighbour.specs.declared.Settings.{Settings}
-use Rattle.state.specs.Lists.{every}
 
 -- one row of it
 unfoldable pub homeRow : ℕ → Row → Bool

@@ -18,8 +18,7 @@ use Rattle.codec.specs.Reading.{most}
 use Rattle.neighbour.specs.declared.Phase.{Phase}
 use Rattle.neighbour.specs.declared.Settings.{Settings}
 use Rattle.neighbour.specs.declared.Neighbour.{Neighbour}
-use Rattle.neighbour.specs.Record.{isIdle, acquired}
-use Rattle.state.specs.Formed.{isUp}
+use Rattle.neighbour.specs.Record.{isIdle, acquired, isUp}
 use Rattle.neighbour.specs.Rules.{inSequence}
 use Rattle.sent.specs.declared.Head.{Head}
 use Rattle.sent.specs.Sent.{refuseMessage, errorMessage}

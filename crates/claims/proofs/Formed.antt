@@ -5,6 +5,7 @@ use mathlib.Core.Bool.{Bool, true, false, _||_}
 use mathlib.Core.List.{List, []}
 use lib.ListN.{length}
 use borrow.Author.Tests.{le-leb}
+use Rattle.neighbour.specs.Record.{isUp}
 use Rattle.nets.specs.Rows.{Row, rowsOf}
 use Rattle.message.specs.declared.Message.the-variants.{Update}
 use Rattle.walk.specs.Body.{accepted, updateOf}
@@ -24,7 +25,7 @@ use Rattle.machine.proofs.Theorems.{step-lawful, update-stays-up}
 use Rattle.state.specs.declared.Slot.{Slot}
 use Rattle.state.specs.declared.State.{State}
 use Rattle.state.specs.Slots.{slotAt, slotOf}
-use Rattle.state.specs.Formed.{isUp, rowsFormed, stateFormed}
+use Rattle.state.specs.Formed.{rowsFormed, stateFormed}
 use Rattle.state.specs.Outcomes.{refusedOf}
 use Rattle.state.specs.Claims.{SlotGood}
 use Rattle.state.proofs.SlotLaws.{slots-length}

@@ -5,6 +5,7 @@ use mathlib.Core.Path.{_≡_, refl, sym, _∙_, ap}
 use mathlib.Core.List.{List, []}
 use lib.ListN.{length, getD, set, List·getD-map}
 use lib.Seq.{map-set-same}
+use Rattle.checks.proofs.Laws.{ifOk-holds}
 use Rattle.nets.specs.Rows.{Row, flat, rowsOf}
 use Rattle.walk.specs.Body.{UpdateRead, accepted, brokenAt, tooMany, updateOf, rowsRead}
 use Rattle.walk.proofs.Accepted.{accepted-is}
@@ -16,7 +17,6 @@ use Rattle.state.specs.declared.Slot.{Slot}
 use Rattle.state.specs.declared.State.{State}
 use Rattle.state.specs.Slots.{freeSlot, slotAt, withSlot, slotOf, lowestFree}
 use Rattle.state.specs.Outcomes.{refusedOf, silentOf}
-use Rattle.state.proofs.OutcomeLaws.{ifOk-holds}
 use Rattle.state.proofs.Theorems.{other-slots, slot-stays}
 use Rattle.slots.specs.Calls.{newcomer, addAnswer, addOf, removeAnswer, removeOf}
 use Rattle.calls.specs.declared.Effect.{Effect}

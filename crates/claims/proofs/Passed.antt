@@ -5,10 +5,10 @@ use mathlib.Core.Bool.{true}
 use mathlib.Core.List.{List}
 use lib.ListN.{length}
 use borrow.Author.Tests.{eqb-true, ltb-true}
+use Rattle.checks.proofs.Laws.{check-passed}
 use Rattle.state.specs.declared.State.{State}
 use Rattle.state.specs.Slots.{slotOf, present}
 use Rattle.state.specs.Formed.{stateFormed}
-use Rattle.state.proofs.OutcomeLaws.{check-passed}
 use Rattle.calls.specs.Home.{goodHome}
 use Rattle.calls.specs.Calls.{tableFits, bufferFits, eventChecks, messageChecks}
 

@@ -7,6 +7,7 @@ use lib.Dec.{leb, eqb}
 use lib.Seq.{set-getD}
 use native.Mathlib.Omega.{arith}
 use borrow.Author.Tests.{leb-true, lt-leb, eqb-true, ne-eqb}
+use Rattle.checks.specs.Checks.{check}
 use Rattle.octets.specs.Buffer.{over}
 use Rattle.nets.specs.Rows.{Row, rowsOf}
 use Rattle.neighbour.specs.declared.Settings.{Settings}
@@ -18,7 +19,7 @@ use Rattle.state.specs.declared.State.{State}
 use Rattle.state.specs.declared.Outcome.{Outcome}
 use Rattle.state.specs.Slots.{freeSlot, slotAt, withSlot, slotOf, present}
 use Rattle.state.specs.Formed.{stateFormed}
-use Rattle.state.specs.Outcomes.{check, refusedOf}
+use Rattle.state.specs.Outcomes.{refusedOf}
 use Rattle.slots.proofs.Theorems.{add-claim, remove-claim}
 use Rattle.calls.specs.declared.Verdict.{Verdict}
 use Rattle.calls.specs.Verdict.{stepped, refuses, carriedOut, receiveVerdict}

@@ -7,6 +7,8 @@ use mathlib.Core.List.{List, [], _∷_, _++_}
 use lib.Dec.{eqb}
 use lib.ListN.{length, getD, length-append}
 use borrow.Author.Tests.{leb-true, le-leb}
+use Rattle.checks.specs.Lists.{every}
+use Rattle.checks.proofs.Laws.{cond-elim, and-left, and-right, check-passed}
 use Rattle.octets.proofs.Laws.{over-length}
 use Rattle.nets.specs.Classes.{goodNet, onNet}
 use Rattle.nets.specs.Rows.{Row, rowsOf}
@@ -15,10 +17,8 @@ use Rattle.message.specs.declared.Kind.the-variants as K
 use Rattle.message.specs.declared.Message.{Message}
 use Rattle.message.specs.declared.Message.the-variants as M
 use Rattle.wire.specs.Reading.{statusAt}
-use Rattle.walk.proofs.Laws.{cond-elim}
 use Rattle.blocks.specs.Blocks.{sideOf}
 use Rattle.blocks.specs.Writable.{writableRow, ordered, writableRows, writableNumbers}
-use Rattle.blocks.specs.Writable as Writable
 use Rattle.codec.specs.Writing.{rowsFit, roomFor}
 use Rattle.codec.proofs.Laws.{octets-fit, room-most}
 use Rattle.neighbour.specs.declared.Phase.{Phase}
@@ -42,12 +42,9 @@ use Rattle.machine.specs.Table.{followed, quiet, answers, says, helloIf, doesA,
 use Rattle.machine.specs.Tick.{expired, repeats, listens, polls, pollsOnEntry, takesT2, pollsInUp, runs, onTick}
 use Rattle.machine.specs.Step.{onMessage, stepOf}
 use Rattle.state.specs.declared.State.{State}
-use Rattle.state.specs.Lists.{every}
 use Rattle.state.specs.Slots.{slotOf}
 use Rattle.state.specs.Formed.{stateFormed}
 use Rattle.state.specs.Outcomes.{refusedOf}
-use Rattle.state.proofs.ListLaws.{and-left, and-right}
-use Rattle.state.proofs.OutcomeLaws.{check-passed}
 use Rattle.state.proofs.Theorems.{formed-settings}
 use Rattle.calls.specs.declared.Verdict.{Verdict}
 use Rattle.calls.specs.Verdict.{stepped, refuses, headAt, errorTo, refuseTo, carriedOut, receiveVerdict}
@@ -76,8 +73,8 @@ module _ (net : ℕ) where
       let d : row .third ≤ 511 = omega arith in
       rw (a, b, le-leb (row .third) 511 d)
 
-  home-rows : (rows : List Row) → every (homeRow net) rows ≡ true → Writable.every (writableRow net) rows ≡ true
-  unfolding every Writable.every
+  home-rows : (rows : List Row) → every (homeRow net) rows ≡ true → every (writableRow net) rows ≡ true
+  unfolding every
   home-rows [] h = refl
   home-rows (row ∷ rest) h =
       rw (home-row row (and-left (homeRow net row) (every (homeRow net) rest) h), home-rows rest (and-right (homeRow net row) (every (homeRow net) rest) h))
@@ -104,7 +101,7 @@ home-writable g home h =
     rw (a, le-leb (length (rowsOf home)) 128 d, home-rows (g .net) (rowsOf home) c, home-ordered (g .net) (rowsOf home) c)
 
 none-writable : (net : ℕ) → writableNumbers net [] ≡ true
-unfolding writableNumbers writableRows rowsOf Writable.every ordered
+unfolding writableNumbers writableRows rowsOf every ordered
 none-writable net = refl
 
 -- the Updates that a gateway with these settings sends can be written with this home list

@@ -5,6 +5,7 @@ use mathlib.Core.Path.{_≡_, refl, sym, _∙_, ap}
 use mathlib.Core.Bool.{Bool, true, false, cond, _&&_, true≢false}
 use mathlib.Core.List.{List, []}
 use lib.ListN.{length}
+use Rattle.neighbour.specs.Record.{isUp}
 use Rattle.nets.specs.Rows.{Row, rowsOf}
 use Rattle.message.specs.declared.Message.the-variants.{Update}
 use Rattle.wire.specs.Reading.{decodeOf}
@@ -24,7 +25,6 @@ use Rattle.machine.proofs.Theorems.{update-stays-up}
 use Rattle.state.specs.declared.Slot.{Slot}
 use Rattle.state.specs.declared.State.{State}
 use Rattle.state.specs.Slots.{slotAt, withSlot, slotOf}
-use Rattle.state.specs.Formed.{isUp}
 use Rattle.state.specs.Outcomes.{refusedOf}
 use Rattle.state.proofs.Theorems.{written-slot}
 use Rattle.calls.specs.declared.Effect.{Effect}

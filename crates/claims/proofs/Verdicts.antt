@@ -6,6 +6,9 @@ use mathlib.Core.List.{List}
 use lib.Dec.{leb, eqb}
 use lib.ListN.{length, getD}
 use borrow.Author.Tests.{eqb-true, eqb-false}
+use Rattle.checks.specs.Checks.{check, ifOk}
+use Rattle.neighbour.specs.Record.{isUp}
+use Rattle.checks.proofs.Laws.{cond-elim}
 use Rattle.octets.specs.Numbers.{word16}
 use Rattle.octets.specs.Checksum.{checksumOf}
 use Rattle.nets.specs.Rows.{Row}
@@ -19,7 +22,6 @@ use Rattle.wire.specs.declared.Decoded.{Decoded}
 use Rattle.wire.specs.declared.Decoded.the-variants as D
 use Rattle.walk.specs.Body.{UpdateRead, accepted, brokenAt, tooMany, updateOf}
 use Rattle.walk.specs.Body as Body
-use Rattle.walk.proofs.Laws.{cond-elim}
 use Rattle.codec.specs.Reading.{most}
 use Rattle.neighbour.specs.declared.Phase.{Phase}
 use Rattle.neighbour.specs.declared.Phase.the-variants as Phases
@@ -31,8 +33,6 @@ use Rattle.machine.specs.declared.Reply.the-variants.{Nothing}
 use Rattle.machine.specs.declared.After.{After}
 use Rattle.machine.specs.Step.{stepOf}
 use Rattle.state.specs.declared.Outcome.{Outcome}
-use Rattle.state.specs.Formed.{isUp}
-use Rattle.state.specs.Outcomes.{check, ifOk}
 use Rattle.calls.specs.declared.Effect.the-variants.{Replace}
 use Rattle.calls.specs.declared.Verdict.{Verdict}
 use Rattle.calls.specs.Verdict.{refuses, headAt, errorTo, refuseTo, updateVerdict, carriedOut, phaseVerdict, bodyVerdict, kindVerdict, receiveVerdict}
@@ -66,9 +66,9 @@ pub record Cases (g : Settings) (asn : ℕ) (n : Neighbour) (o : List ℕ) (P : 
       (a q s net : ℕ) (rows : List Row) → decodeOf o ≡ D.Good (Update a q s net) → isUp (n .phase) ≡ true → updateOf most (g .net) o ≡ accepted rows
       → P (replaced (stepOf g asn n (Received (Update a q s net)) (headAt o)) rows)
 
-three-checks : (a b c : Bool) (Q : ℕ → Type 0) → Q 6 → Q 7 → Q 8 → (Wire.check a 6 (Wire.check b 7 (Wire.check c 8 0)) ≡ 0 → ⊥)
-    → Q (Wire.check a 6 (Wire.check b 7 (Wire.check c 8 0)))
-unfolding Wire.check
+three-checks : (a b c : Bool) (Q : ℕ → Type 0) → Q 6 → Q 7 → Q 8 → (check a 6 (check b 7 (check c 8 0)) ≡ 0 → ⊥)
+    → Q (check a 6 (check b 7 (check c 8 0)))
+unfolding check
 three-checks false b c Q six seven eight n = six
 three-checks true false c Q six seven eight n = seven
 three-checks true true false Q six seven eight n = eight

@@ -5,6 +5,7 @@ use mathlib.Core.Bool.{Bool, true, false, cond, _&&_, _||_}
 use mathlib.Core.List.{List, []}
 use lib.Dec.{leb, eqb}
 use lib.ListN.{length, drop}
+use Rattle.neighbour.specs.Record.{isUp}
 use Rattle.octets.specs.Buffer.{over}
 use Rattle.nets.specs.Rows.{Row, rowsOf, flat}
 use Rattle.message.specs.Kinds.{kindOf}
@@ -24,7 +25,7 @@ use Rattle.machine.specs.declared.Reply.the-variants.{Nothing}
 use Rattle.state.specs.declared.State.{State}
 use Rattle.state.specs.declared.Outcome.{Outcome}
 use Rattle.state.specs.Slots.{slotAt, slotOf, lowestFree}
-use Rattle.state.specs.Formed.{isUp, stateFormed}
+use Rattle.state.specs.Formed.{stateFormed}
 use Rattle.state.specs.Outcomes.{refusedOf}
 use Rattle.slots.specs.Calls.{freshOf, addOf, removeOf}
 use Rattle.calls.specs.Verdict.{errorTo, refuseTo}

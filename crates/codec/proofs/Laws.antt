@@ -10,6 +10,8 @@ use lib.Seq.{sets, sets-eq, drop-at, take-at, length-take-le, length-sets}
 use lib.Dec.{leb, eqb}
 use types.Run.{OneOf, miss}
 use denote.Enum.Declared.{tagOf}
+use Rattle.checks.proofs.Laws.{and-left, and-right, check-holds, check-fails}
+use Rattle.checks.specs.Checks.{check, ifOk}
 use Rattle.octets.specs.Buffer.{over}
 use Rattle.octets.specs.Checksum.{sealed}
 use Rattle.octets.proofs.Laws.{sealed-length, over-length, over-nothing}
@@ -19,14 +21,12 @@ use Rattle.message.specs.Kinds.{kindOf, statusOf, statusAllowed}
 use Rattle.message.specs.declared.Message.{Message}
 use Rattle.message.specs.declared.Message.the-variants.{Request, Confirm, Refuse, Cease, CeaseAck, Hello, IHeardYou, Poll, Update, Error}
 use Rattle.message.proofs.Message.{the-type}
-use Rattle.wire.specs.Reading.{check}
 use Rattle.fixed.specs.Writing.{headOf, plainOctets, fixedOctets}
-use Rattle.wire.proofs.Laws.{and-left, and-right, check-holds, check-fails}
 use Rattle.blocks.specs.Blocks.{blocksOf, internalBlocks, externalBlocks}
 use Rattle.blocks.specs.Writable.{writableNumbers, writableRows}
 use Rattle.blocks.proofs.Claims.{short, rows-most}
 use Rattle.codec.specs.Octets.{updateOctets, octetsOf}
-use Rattle.codec.specs.Writing.{rowsFit, roomFor, rowsAllowed, writable, writeAnswer, ifOk, writeOctets, writeOf}
+use Rattle.codec.specs.Writing.{rowsFit, roomFor, rowsAllowed, writable, writeAnswer, writeOctets, writeOf}
 use Rattle.codec.specs.declared.Written.{Written}
 
 -- ---- blocks first, then the head, then the checksum

@@ -4,13 +4,13 @@ use mathlib.Core.Bool.{Bool, true, cond, _&&_}
 use mathlib.Core.List.{List, []}
 use lib.Dec.{leb, eqb}
 use lib.ListN.{length}
+use Rattle.checks.specs.Checks.{check, ifOk}
 use Rattle.octets.specs.Buffer.{over}
 use Rattle.nets.specs.Classes.{goodNet}
 use Rattle.nets.specs.Rows.{rowsOf}
 use Rattle.message.specs.Kinds.{kindOf, statusOf, statusAllowed}
 use Rattle.message.specs.declared.Message.{Message}
 use Rattle.message.specs.declared.Message.the-variants.{Request, Confirm, Refuse, Cease, CeaseAck, Hello, IHeardYou, Poll, Update, Error}
-use Rattle.wire.specs.Reading.{check}
 use Rattle.blocks.specs.Writable.{writableNumbers}
 use Rattle.codec.specs.Octets.{octetsOf}
 use Rattle.codec.specs.declared.Written.{Written}
@@ -61,10 +61,6 @@ writable m numbers = statusAllowed (kindOf m) (statusOf m) && rowsAllowed m numb
 -- 01: 3 "buffer too short", then 16 "writer: bad meaning"
 unfoldable pub writeAnswer : Message → List ℕ → List ℕ → ℕ
 writeAnswer m numbers buffer = check (leb 2048 (length buffer)) 3 (check (writable m numbers) 16 0)
-
--- what a call makes where its answer is 0, else what there was
-unfoldable pub ifOk : {A : Type 0} → ℕ → A → A → A
-ifOk answer new old = cond (eqb answer 0) new old
 
 -- the octets that the call writes: none where it refuses
 unfoldable pub writeOctets : Message → List ℕ → List ℕ → List ℕ

@@ -4,9 +4,11 @@ use mathlib.Core.Path.{_≡_, refl, sym, ap, _∙_}
 use mathlib.Core.Bool.{Bool, true, false, not, _&&_}
 use mathlib.Core.List.{List, []}
 use lib.ListN.{length}
+use Rattle.checks.specs.Checks.{ifOk}
+use Rattle.neighbour.specs.Record.{isUp}
+use Rattle.checks.proofs.Laws.{cond-elim, ifOk-new, ifOk-old}
 use Rattle.nets.specs.Rows.{Row, rowsOf}
 use Rattle.walk.specs.Body.{updateOf, rowsRead}
-use Rattle.walk.proofs.Laws.{cond-elim}
 use Rattle.codec.specs.Reading.{most}
 use Rattle.neighbour.specs.declared.Phase.{Phase}
 use Rattle.neighbour.specs.declared.Neighbour.{Neighbour}
@@ -18,9 +20,7 @@ use Rattle.state.specs.declared.Slot.{Slot}
 use Rattle.state.specs.declared.State.{State}
 use Rattle.state.specs.declared.Outcome.{Outcome}
 use Rattle.state.specs.Slots.{slotAt, slotOf}
-use Rattle.state.specs.Formed.{isUp}
-use Rattle.state.specs.Outcomes.{ifOk, refusedOf}
-use Rattle.state.proofs.OutcomeLaws.{ifOk-new, ifOk-old}
+use Rattle.state.specs.Outcomes.{refusedOf}
 use Rattle.state.proofs.Theorems.{formed-settings}
 use Rattle.calls.specs.declared.Effect.{Effect}
 use Rattle.calls.specs.declared.Effect.the-variants.{Keep, Clear, Replace}

@@ -6,11 +6,11 @@ use mathlib.Core.Bool.{Bool, true, false}
 use mathlib.Core.List.{List}
 use lib.Dec.{leb, eqb, ltb}
 use lib.ListN.{length}
+use Rattle.checks.proofs.Laws.{check-passed, check-holds, check-fails}
+use Rattle.checks.specs.Checks.{check}
 use Rattle.state.specs.declared.State.{State}
 use Rattle.state.specs.Slots.{slotOf, present}
 use Rattle.state.specs.Formed.{stateFormed}
-use Rattle.state.specs.Outcomes.{check}
-use Rattle.state.proofs.OutcomeLaws.{check-passed, check-holds, check-fails}
 use Rattle.calls.specs.Home.{goodHome}
 use Rattle.calls.specs.Calls.{eventChecks, messageChecks}
 

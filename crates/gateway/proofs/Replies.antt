@@ -5,6 +5,7 @@ use mathlib.Core.Bool.{Bool, true, false, cond, not, _&&_, false≢true}
 use mathlib.Core.List.{List}
 use lib.Dec.{leb, eqb}
 use lib.ListN.{length, getD}
+use Rattle.checks.proofs.Laws.{and-left, and-right, and-both, cond-elim}
 use Rattle.nets.specs.Classes.{goodNet}
 use Rattle.message.specs.Kinds.{plainStatus}
 use Rattle.message.specs.declared.Message.{Message}
@@ -14,14 +15,11 @@ use Rattle.wire.specs.declared.Decoded.{Decoded}
 use Rattle.wire.specs.declared.Decoded.the-variants as D
 use Rattle.walk.specs.Body.{UpdateRead, accepted, brokenAt, tooMany, updateOf}
 use Rattle.codec.specs.Reading.{most}
-use Rattle.state.specs.Formed.{isUp}
 use Rattle.calls.specs.declared.Effect.{Effect}
 use Rattle.calls.specs.declared.Effect.the-variants.{Keep, Clear, Replace}
 use Rattle.calls.specs.declared.Verdict.{Verdict}
 use Rattle.calls.specs.Verdict.{effectOf, stepped, refuses, headAt, errorTo, refuseTo, updateVerdict, carriedOut, phaseVerdict, bodyVerdict, kindVerdict, receiveVerdict}
 use Rattle.blocks.specs.Writable.{writableNumbers}
-use Rattle.blocks.proofs.Lists.{and-left, and-right, and-both}
-use Rattle.walk.proofs.Laws.{cond-elim}
 use Rattle.codec.specs.Writing.{rowsFit, roomFor}
 use Rattle.neighbour.specs.declared.Phase.{Phase}
 use Rattle.neighbour.specs.declared.Phase.the-variants.{Idle, Acquisition, Down, Up, Cease}
@@ -31,7 +29,7 @@ use Rattle.neighbour.specs.declared.Offer.{Offer}
 use Rattle.neighbour.specs.declared.Offer.the-variants.{Acceptable, Unacceptable}
 use Rattle.neighbour.specs.declared.Settings.{Settings}
 use Rattle.neighbour.specs.declared.Neighbour.{Neighbour}
-use Rattle.neighbour.specs.Record.{P3, under, isIdle, acquired, idle, waiting, withTimers, shifted, polled, leftIdle, initialised}
+use Rattle.neighbour.specs.Record.{P3, under, isIdle, acquired, idle, waiting, withTimers, shifted, polled, leftIdle, initialised, isUp}
 use Rattle.neighbour.specs.Rules.{judged, offerOf, inSequence, commanded, noted}
 use Rattle.sent.specs.declared.Head.{Head}
 use Rattle.sent.specs.Sent.{requestMessage, confirmMessage, refuseMessage, ceaseMessage, ceaseAckMessage, helloMessage, iHeardYouMessage, pollMessage, updateMessage, errorMessage}

@@ -9,13 +9,12 @@ use mathlib.Core.List.{List, [], _∷_, _++_, append-nil, append-assoc}
 use lib.Dec.{leb}
 use lib.ListN.{length, take, drop, length-append, length-drop, drop-of-length-le}
 use lib.Seq.{drop-drop, drop-at, take-at}
+use Rattle.checks.proofs.Laws.{part-from, and-left, and-right}
 use Rattle.octets.specs.Buffer.{over}
 use Rattle.octets.proofs.Laws.{over-length, over-nothing}
 use Rattle.nets.specs.Rows.{Row, rowsOf}
 use Rattle.message.specs.declared.Message.{Message}
 use Rattle.message.specs.declared.Message.the-variants.{Request, Confirm, Refuse, Cease, CeaseAck, Hello, IHeardYou, Poll, Update, Error}
-use Rattle.walk.proofs.Laws.{part-from}
-use Rattle.blocks.proofs.Lists.{and-left, and-right}
 use Rattle.codec.specs.Octets.{octetsOf}
 use Rattle.codec.specs.Writing.{rowsFit, roomFor}
 use Rattle.codec.proofs.Laws.{octets-fit, room-most}

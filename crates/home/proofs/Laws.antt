@@ -7,14 +7,14 @@ use mathlib.Core.Bool.{Bool, true, false, _&&_}
 use mathlib.Core.List.{List, [], _∷_}
 use lib.Dec.{leb, eqb}
 use lib.ListN.{length, drop, getD}
+use Rattle.checks.specs.Lists.{every}
+use Rattle.checks.proofs.Laws.{and-left, and-right, and-both}
 use Rattle.nets.specs.Classes.{goodNet, onNet}
 use Rattle.nets.specs.Rows.{Row, rowsOf}
 use Rattle.neighbour.specs.declared.Settings.{Settings}
 use Rattle.blocks.specs.Blocks.{sideOf}
 use Rattle.blocks.specs.Writable.{ordered, writableRow, writableRows, writableNumbers}
-use Rattle.blocks.specs.Writable as Writable
-use Rattle.blocks.proofs.Lists.{and-left, and-right, and-both, rows-turn, rows-short, rows-length}
-use Rattle.state.specs.Lists.{every}
+use Rattle.blocks.proofs.Lists.{rows-turn, rows-short, rows-length}
 use Rattle.calls.specs.Home.{homeRow, ownFirst, goodHome}
 
 abbrev pub rowAt : List ℕ → Row
@@ -71,8 +71,8 @@ row-writable net row e =
     let c : row .third ≤ 255 = leb-true _ _ (search (and-left, and-right)) in
     (rw (a, b, le-leb (row .third) 511 (omega arith)), omega arith)
 
-rows-writable : (net : ℕ) (rows : List Row) → every (homeRow net) rows ≡ true → (Writable.every (writableRow net) rows ≡ true) × (ordered 0 rows ≡ true)
-unfolding every Writable.every ordered
+rows-writable : (net : ℕ) (rows : List Row) → every (homeRow net) rows ≡ true → (every (writableRow net) rows ≡ true) × (ordered 0 rows ≡ true)
+unfolding every ordered
 rows-writable net [] e = (refl, refl)
 rows-writable net (row ∷ rest) e =
     let a = row-writable net row (and-left (homeRow net row) (every (homeRow net) rest) e) in
@@ -89,5 +89,5 @@ home-writable g home e =
     rw (a, le-leb (length (rowsOf home)) 128 (rw (rows-length home) (omega arith)), d .0, d .1)
 
 pub none-writable : (net : ℕ) → writableNumbers net [] ≡ true
-unfolding writableNumbers writableRows rowsOf Writable.every ordered
+unfolding writableNumbers writableRows rowsOf every ordered
 none-writable net = refl

@@ -4,6 +4,7 @@ use mathlib.Core.Bool.{Bool, cond}
 use mathlib.Core.List.{List, [], _∷_, _++_, map}
 use lib.Dec.{leb}
 use lib.ListN.{length}
+use Rattle.checks.specs.Lists.{join}
 use Rattle.text.specs.Text.{text, decimal, dotted, line}
 use Rattle.nets.specs.Rows.{Row}
 use Rattle.neighbour.specs.declared.Phase.{Phase}
@@ -19,10 +20,6 @@ pub record Entry : Type 0 where
   pub phase : Phase
   pub mode : Mode
   pub rows : List Row
-
-unfoldable pub join : List (List ℕ) → List ℕ
-join [] = []
-join (l ∷ rest) = l ++ join rest
 
 -- 01: "States: idle, acquisition, down, up, cease."
 unfoldable pub stateWord : Phase → List ℕ

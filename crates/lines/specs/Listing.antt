@@ -4,14 +4,15 @@ use mathlib.Core.Bool.{Bool, cond, _&&_}
 use mathlib.Core.List.{List, [], _∷_}
 use lib.Dec.{leb, eqb}
 use lib.ListN.{length, take}
+use Rattle.checks.specs.Checks.{check, ifOk}
+use Rattle.checks.specs.Lists.{every}
 use Rattle.octets.specs.Buffer.{over}
 use Rattle.nets.specs.Rows.{Row, rowsOf}
 use Rattle.state.specs.declared.Slot.{Slot}
 use Rattle.state.specs.declared.State.{State}
 use Rattle.state.specs.declared.Outcome.{Outcome}
-use Rattle.state.specs.Lists.{every}
 use Rattle.state.specs.Formed.{stateFormed}
-use Rattle.state.specs.Outcomes.{check, ifOk, refusedOf}
+use Rattle.state.specs.Outcomes.{refusedOf}
 use Rattle.calls.specs.Carried.{partAt}
 use Rattle.calls.specs.Calls.{tableFits}
 use Rattle.lines.specs.Lines.{Entry, listingText}

@@ -5,6 +5,7 @@ use mathlib.Core.Path.{_≡_, refl, sym, subst, ap, _∙_}
 use mathlib.Core.Bool.{Bool, true, false, cond, not, _&&_, _||_, and-false}
 use lib.Dec.{eqb}
 use borrow.Author.Tests.{eqb-false}
+use Rattle.checks.proofs.Laws.{cond-elim, and-left}
 use Rattle.message.specs.Kinds.{kindOf, sequenceOf, statusOf}
 use Rattle.message.specs.declared.Message.{Message}
 use Rattle.message.specs.declared.Message.the-variants as M
@@ -16,11 +17,11 @@ use Rattle.neighbour.specs.declared.Mode.the-variants.{Unset, Active, Passive}
 use Rattle.neighbour.specs.declared.Settings.{Settings}
 use Rattle.neighbour.specs.declared.Neighbour.{Neighbour}
 use Rattle.sent.specs.declared.Head.{Head}
-use Rattle.neighbour.specs.Record.{under, isIdle, acquired, idle, leftIdle, waiting, initialised, withNumbers, withTimers, withReach, heardFrom, shifted, enterUp, leaveUp, polled}
+use Rattle.neighbour.specs.Record.{under, isIdle, acquired, idle, leftIdle, waiting, initialised, withNumbers, withTimers, withReach, heardFrom, shifted, enterUp, leaveUp, polled, isUp}
 use Rattle.neighbour.specs.Rules.{isCommand, commanded, indicates, noted, offerOf, goesUp, goesDown, onesOf, judged}
 use Rattle.sent.specs.Sent.{helloMessage, pollMessage}
 use Rattle.wellformed.specs.Formed.{isUnset, wellFormed}
-use Rattle.wellformed.proofs.Formed.{at, Fine, cond-elim, offer-elim, idle-ok, idle-only, acquisition-ok, cease-5-ok, cease-6-ok, initialised-ok, numbers-ok, heard-ok, timers-ok, timer-bounds, fine-down, fine-up, t2-down, t2-up, t2-elsewhere, down-ok, up-ok, moded}
+use Rattle.wellformed.proofs.Formed.{at, Fine, offer-elim, idle-ok, idle-only, acquisition-ok, cease-5-ok, cease-6-ok, initialised-ok, numbers-ok, heard-ok, timers-ok, timer-bounds, fine-down, fine-up, t2-down, t2-up, t2-elsewhere, down-ok, up-ok, moded}
 use Rattle.machine.specs.declared.Event.{Event}
 use Rattle.machine.specs.declared.Event.the-variants.{Received, Start, Stop, Tick}
 use Rattle.machine.specs.declared.Reply.{Reply}
@@ -29,7 +30,7 @@ use Rattle.machine.specs.declared.After.{After}
 use Rattle.machine.specs.Table.{followed, quiet, answers, says, helloIf, doesA, doesB, ceases, repeatsCease, acquires, stray, onRequest, settles, onConfirm, onRefuse, onCease, onCeaseAck, onHello, onIHeardYou, answersPoll, onPoll, onUpdate, onStart, onStop}
 use Rattle.machine.specs.Tick.{expired, repeats, listens, polls, pollsOnEntry, takesT2, pollsInUp, runs, onTick}
 use Rattle.machine.specs.Step.{onMessage, stepOf}
-use Rattle.machine.specs.Laws.{isUp, isPoll, sendsPoll, brought, isTick, Lawful, StepLawful, IdleIsZero, T2OnlyInUp, ErrorIgnored, UpdateStaysUp}
+use Rattle.machine.specs.Laws.{isPoll, sendsPoll, brought, isTick, Lawful, StepLawful, IdleIsZero, T2OnlyInUp, ErrorIgnored, UpdateStaysUp}
 
 never : {A : Type 0} → true ≡ false → A
 never e = let z : _≡_ {A = ℕ} 0 1 = cc in absurd (omega arith)
@@ -193,12 +194,8 @@ module _ (g : Settings) where
   noted-lawful asn n p m head i f =
       cond-elim (λ k. Lawful p (n .s) (n .r) false (onMessage g asn k m head))
       (acquired p && indicates (n .mode) (kindOf m) (statusOf m)) (heardFrom (at n p)) (at n p)
-      (λ e. message-lawful asn (heardFrom (at n p)) p m head i (heard-ok n p (left (acquired p) _ e) f))
+      (λ e. message-lawful asn (heardFrom (at n p)) p m head i (heard-ok n p (and-left (acquired p) _ e) f))
       (λ _. message-lawful asn n p m head i f)
-    where
-      left : (a b : Bool) → (a && b) ≡ true → a ≡ true
-      left true b e = refl
-      left false b e = e
 
   -- a command sets R, and a message that is no command leaves it
   received-lawful : (asn : ℕ) (n : Neighbour) (p : Phase) (m : Message) (head : Head) → isIdle p ≡ false → wellFormed (at n p) ≡ true

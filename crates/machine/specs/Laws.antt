@@ -11,7 +11,7 @@ use Rattle.neighbour.specs.declared.Phase.the-variants.{Idle, Acquisition, Down
 use Rattle.neighbour.specs.declared.Settings.{Settings}
 use Rattle.neighbour.specs.declared.Neighbour.{Neighbour}
 use Rattle.sent.specs.declared.Head.{Head}
-use Rattle.neighbour.specs.Record.{isIdle, idle}
+use Rattle.neighbour.specs.Record.{isIdle, idle, isUp}
 use Rattle.neighbour.specs.Rules.{same, isCommand}
 use Rattle.wellformed.specs.Formed.{wellFormed}
 use Rattle.machine.specs.declared.Event.{Event}
@@ -28,13 +28,6 @@ isDown Acquisition = false
 isDown Down = true
 isDown Up = false
 isDown Cease = false
-
-abbrev pub isUp : Phase → Bool
-isUp Idle = false
-isUp Acquisition = false
-isUp Down = false
-isUp Up = true
-isUp Cease = false
 
 abbrev pub isTick : Event → Bool
 isTick (Received m) = false

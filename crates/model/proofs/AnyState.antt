@@ -8,16 +8,16 @@ use lib.Dec.{eqb}
 use lib.ListN.{length, take, drop, getD, length-drop, length-map, take-append-drop}
 use lib.Seq.{length-take-le, drop-drop}
 use borrow.Author.Tests.{eqb-true}
+use Rattle.checks.specs.Lists.{every, join}
 use Rattle.nets.specs.Rows.{rowsOf, flat}
 use Rattle.rows.specs.Storing.{zeros, padded}
 use Rattle.state.specs.declared.Slot as Stored
-use Rattle.state.specs.Lists.{every}
 use Rattle.state.specs.Slots.{freeSlot, slotAt}
 use Rattle.state.specs.Formed.{stateFormed}
 use Rattle.state.proofs.Theorems.{formed-slot, free-is-zero}
 use Rattle.calls.specs.Carried.{partAt}
 use Rattle.model.specs.Model.{Call, Slot, free, used, modelFrom, saidFrom}
-use Rattle.model.specs.Theorem.{Gateway, gatewayFrom, seenFrom, cell, stateOf, rowsHeld, part, join, tableOf, shown, unused, Sensible, slotFrom, slotsFrom, modelOf, FromAnyState}
+use Rattle.model.specs.Theorem.{Gateway, gatewayFrom, seenFrom, cell, stateOf, rowsHeld, part, tableOf, shown, unused, Sensible, slotFrom, slotsFrom, modelOf, FromAnyState}
 use Rattle.model.proofs.Represent.{sound, Good}
 use Rattle.model.proofs.Simulation.{represent}
 use Rattle.model.proofs.Theorem.{run-from, seen-from}

@@ -8,6 +8,8 @@ use lib.Dec.{eqb}
 use lib.ListN.{getD, replicate}
 use lib.Seq.{getD-set-same, getD-set-other}
 use borrow.Author.Tests.{eq-eqb, ne-eqb, eqb-true, eqb-false, not-true}
+use Rattle.checks.proofs.Laws.{and-left, and-right}
+use Rattle.checks.specs.Lists.{every}
 use Rattle.nets.specs.Rows.{Row}
 use Rattle.wire.specs.Reading.{decodeOf}
 use Rattle.wire.specs.declared.Decoded.{Decoded}
@@ -15,20 +17,17 @@ use Rattle.wire.specs.declared.Decoded.the-variants as D
 use Rattle.walk.specs.Body.{updateOf, rowsRead}
 use Rattle.neighbour.specs.declared.Settings.{Settings}
 use Rattle.neighbour.specs.declared.Neighbour.{Neighbour}
-use Rattle.neighbour.specs.Record.{idle}
+use Rattle.neighbour.specs.Record.{idle, isUp}
 use Rattle.machine.specs.declared.Event.{Event}
 use Rattle.machine.specs.declared.Event.the-variants.{Start, Stop, Tick}
-use Rattle.machine.specs.Laws.{isUp}
 use Rattle.machine.specs.Step.{stepOf}
-use Rattle.state.specs.Lists.{every}
 use Rattle.state.specs.Slots.{freeSlot}
 use Rattle.state.specs.Claims.{SlotGood}
-use Rattle.state.proofs.ListLaws.{and-left, and-right}
 use Rattle.model.specs.Model.{isFree, hasAddress, noOctets, Said, Call, add, remove, start, stop, tick, receive, Slot, free, used, Model, slotIn, put, placeOf, vacancy, silent, whenOk, addAnswer, removeAnswer, addTurn, removeTurn, noMove, rowsIn, moved, eventMove, isUpdate, answerTo, refusalReply, afterMessage, rowsAfter, messageMove, eventAnswer, messageAnswer, turnAt, eventTurn, messageTurn, step, model, modelFrom, empty}
 use Rattle.model.specs.History.{isUpSlot, saysUpdate, accepts, rowsSaid, upAfter, told, lastFrom, lastAccepted, about, isElsewhere, takesNoSlot}
 use Rattle.model.specs.Theorem.{cell, rowsHeld}
 use Rattle.model.proofs.Represent.{sound, Good, good-at}
-use Rattle.model.proofs.Moves.{no-rows, up-same}
+use Rattle.model.proofs.Moves.{no-rows}
 use Rattle.model.proofs.Simulation.{good-step, spoken-answer, found-used, found-free, add-free, remove-below, event-below, message-below}
 
 -- the rows of a slot after a call, by the slot before it and whether an Update was accepted that says these
@@ -39,7 +38,7 @@ Tells old new took read = rowsHeld new ≡ cond (isUpSlot new) (cond took read (
 none-held : (slot : Slot) → SlotGood (cell slot) → isUpSlot slot ≡ false → rowsHeld slot ≡ []
 unfolding cell isUpSlot rowsHeld
 none-held free good e = refl
-none-held (used address asn n rows) good e = no-rows rows (good .none (sym (up-same (n .phase)) ∙ e))
+none-held (used address asn n rows) good e = no-rows rows (good .none e)
 
 still-tells : (slot : Slot) (read : List Row) → SlotGood (cell slot) → Tells slot slot false read
 still-tells slot read good = go (isUpSlot slot) refl

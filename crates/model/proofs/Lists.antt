@@ -9,11 +9,10 @@ use lib.Dec.{eqb}
 use lib.ListN.{length, getD, set, length-append}
 use lib.Seq.{take-at, drop-at, take-append-add, drop-append-add}
 use borrow.Author.Tests.{eqb-true}
-use Rattle.state.specs.Lists.{first, every}
-use Rattle.state.proofs.ListLaws.{and-left, and-right}
+use Rattle.checks.proofs.Laws.{and-left, and-right}
+use Rattle.checks.specs.Lists.{first, every, join}
 use Rattle.calls.specs.Carried.{partAt, withPart}
 use Rattle.model.specs.Model.{Slot, index}
-use Rattle.model.specs.Theorem.{join}
 
 -- the model's search is the gateway's, through what a slot is shown as
 pub index-map : (p : ℕ → Bool) (q : Slot → Bool) (f : Slot → ℕ) (r : Slot → Bool) → ((x : Slot) → r x ≡ true → p (f x) ≡ q x)

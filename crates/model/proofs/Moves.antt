@@ -7,18 +7,20 @@ use mathlib.Core.List.{List, [], _∷_}
 use lib.Dec.{leb, eqb}
 use lib.ListN.{length, getD}
 use borrow.Author.Tests.{eqb-false}
+use Rattle.neighbour.specs.Record.{isUp}
+use Rattle.checks.proofs.Laws.{cond-elim}
+use Rattle.checks.specs.Checks.{check}
 use Rattle.octets.specs.Numbers.{word16}
 use Rattle.octets.specs.Checksum.{checksumOf}
 use Rattle.nets.specs.Rows.{Row, flat}
 use Rattle.message.specs.declared.Message.{Message}
 use Rattle.message.specs.declared.Message.the-variants.{Request, Confirm, Refuse, Cease, CeaseAck, Hello, IHeardYou, Poll, Update, Error}
-use Rattle.wire.specs.Reading.{check, headerAnswer, asnAt, decodeOf}
+use Rattle.wire.specs.Reading.{headerAnswer, asnAt, decodeOf}
 use Rattle.wire.specs.Reading as Wire
 use Rattle.wire.specs.declared.Decoded.{Decoded}
 use Rattle.wire.specs.declared.Decoded.the-variants as D
 use Rattle.walk.specs.Body.{UpdateRead, accepted, brokenAt, tooMany, updateOf, rowsRead}
 use Rattle.walk.specs.Body as Body
-use Rattle.walk.proofs.Laws.{cond-elim}
 use Rattle.rows.specs.Storing.{zeros, padded}
 use Rattle.neighbour.specs.declared.Phase.{Phase}
 use Rattle.neighbour.specs.declared.Phase.the-variants as Phases
@@ -30,10 +32,8 @@ use Rattle.machine.specs.declared.Event.the-variants.{Received}
 use Rattle.machine.specs.declared.Reply.{Reply}
 use Rattle.machine.specs.declared.Reply.the-variants.{Nothing}
 use Rattle.machine.specs.declared.After.{After}
-use Rattle.machine.specs.Laws as Machine
 use Rattle.machine.specs.Step.{stepOf}
 use Rattle.machine.proofs.Theorems.{update-stays-up}
-use Rattle.state.specs.Formed.{isUp}
 use Rattle.state.specs.Claims.{SlotGood}
 use Rattle.calls.specs.declared.Effect.{Effect}
 use Rattle.calls.specs.declared.Effect.the-variants.{Keep, Clear, Replace}
@@ -44,13 +44,6 @@ use Rattle.calls.specs.Calls.{noHead}
 use Rattle.claims.proofs.Verdicts.{is-up}
 use Rattle.model.specs.Model.{Slot, used, Move, whenOk, rowsIn, moved, noOctets, eventMove, bodyAnswer, isUpdate, kindAnswer, answerTo, firstTwelve, errorReply, refuseReply, refusalReply, afterMessage, rowsAfter, messageMove}
 use Rattle.model.specs.Theorem.{cell, rowsHeld, part}
-
-pub up-same : (p : Phase) → Machine.isUp p ≡ isUp p
-up-same Phases.Idle = refl
-up-same Phases.Acquisition = refl
-up-same Phases.Down = refl
-up-same Phases.Up = refl
-up-same Phases.Cease = refl
 
 pub no-rows : (rows : List Row) → length rows ≡ 0 → rows ≡ []
 no-rows [] e = refl
@@ -104,11 +97,11 @@ rows-step : (before now : Phase) (rows read : List Row) → (isUp before ≡ fal
 unfolding rowsIn effectOf rowsFrom
 rows-step before now rows read none = go (isUp before) refl (isUp now) refl
   where
-    go : (b : Bool) → isUp before ≡ b → (c : Bool) → isUp now ≡ c → cond (Machine.isUp now) rows [] ≡ rowsFrom (cond (isUp before && not (isUp now)) Clear Keep) rows read
-    go true e true f = rw (up-same now, e, f)
-    go true e false f = rw (up-same now, e, f)
-    go false e true f = rw (up-same now, e, f)
-    go false e false f = rw (up-same now, e, f) (sym (no-rows rows (none e)))
+    go : (b : Bool) → isUp before ≡ b → (c : Bool) → isUp now ≡ c → cond (isUp now) rows [] ≡ rowsFrom (cond (isUp before && not (isUp now)) Clear Keep) rows read
+    go true e true f = rw (e, f)
+    go true e false f = rw (e, f)
+    go false e true f = rw (e, f)
+    go false e false f = rw (e, f) (sym (no-rows rows (none e)))
 
 count-step : (before now : Phase) (rows read : List Row) → countAfter (length rows) (effectOf before now) ≡ length (rowsFrom (effectOf before now) rows read)
 unfolding effectOf rowsFrom countAfter
@@ -157,7 +150,7 @@ module _ (address asn : ℕ) (n : Neighbour) (rows : List Row) (good : SlotGood 
         (agrees address asn n rows (refuses n k reply) (rowsRead (updateOf 128 (g .net) o)) (record { answer = k; reply = refusalReply g n o k; slot = used address asn n rows })
         refl r refl refl)
 
-    carried-right : (m : Message) → decodeOf o ≡ D.Good m → (isUpdate m && Machine.isUp (n .phase)) ≡ false → answerTo g asn n o ≡ 0 → Right (carriedOut g asn n o m)
+    carried-right : (m : Message) → decodeOf o ≡ D.Good m → (isUpdate m && isUp (n .phase)) ≡ false → answerTo g asn n o ≡ 0 → Right (carriedOut g asn n o m)
     unfolding carriedOut afterMessage rowsAfter headAt firstTwelve
     carried-right m d k e = rw (move-done e, d, k) (stepped-agrees (stepOf g asn n (Received m) (firstTwelve o)) (rowsRead (updateOf 128 (g .net) o)))
 
@@ -166,9 +159,9 @@ module _ (address asn : ℕ) (n : Neighbour) (rows : List Row) (good : SlotGood 
         → answerTo g asn n o ≡ 0 → Right (updateVerdict g asn n o (Update a q s net) (accepted new))
     unfolding updateVerdict afterMessage rowsAfter headAt firstTwelve isUpdate moved rowsIn rowsRead rowsFrom countAfter
     update-right a q s net new d up u e =
-        let stays : Machine.isUp ((stepOf g asn n (Received (Update a q s net)) (firstTwelve o)) .neighbour .phase) ≡ true =
-        ap Machine.isUp (update-stays-up g asn n a q s net (firstTwelve o) (is-up (n .phase) up) .0) in
-        let mine : Machine.isUp (n .phase) ≡ true = up-same (n .phase) ∙ up in
+        let stays : isUp ((stepOf g asn n (Received (Update a q s net)) (firstTwelve o)) .neighbour .phase) ≡ true =
+        ap isUp (update-stays-up g asn n a q s net (firstTwelve o) (is-up (n .phase) up) .0) in
+        let mine : isUp (n .phase) ≡ true = up in
         rw (move-done e, d, mine, u)
         (agrees address asn n rows _ new _ refl refl (rw stays) refl)
 
@@ -187,11 +180,11 @@ module _ (address asn : ℕ) (n : Neighbour) (rows : List Row) (good : SlotGood 
     answer-header h = rw h
 
     module _ (m : Message) (i : inSequence n m ≡ true) where
-      kind-passed : (isUpdate m && Machine.isUp (n .phase)) ≡ false → kindAnswer g n o (D.Good m) ≡ 0
+      kind-passed : (isUpdate m && isUp (n .phase)) ≡ false → kindAnswer g n o (D.Good m) ≡ 0
       unfolding kindAnswer check
       kind-passed k = rw (i, k)
 
-      kind-body : (isUpdate m && Machine.isUp (n .phase)) ≡ true → kindAnswer g n o (D.Good m) ≡ bodyAnswer (updateOf 128 (g .net) o)
+      kind-body : (isUpdate m && isUp (n .phase)) ≡ true → kindAnswer g n o (D.Good m) ≡ bodyAnswer (updateOf 128 (g .net) o)
       unfolding kindAnswer check
       kind-body k = rw (i, k)
 
@@ -218,20 +211,20 @@ module _ (address asn : ℕ) (n : Neighbour) (rows : List Row) (good : SlotGood 
       unfolding bodyAnswer isUpdate updateVerdict Body.numberOf refusalReply errorReply errorTo headAt firstTwelve
       read-right a q s net d i up (accepted new) u =
           update-right a q s net new d up u
-          (answer-kind h _ as₀ d ∙ kind-body (Update a q s net) i (up-same (n .phase) ∙ up) ∙ ap bodyAnswer u)
+          (answer-kind h _ as₀ d ∙ kind-body (Update a q s net) i up ∙ ap bodyAnswer u)
       read-right a q s net d i up (brokenAt k) u =
-          refused-right 14 (errorTo g n o 2) (answer-kind h _ as₀ d ∙ kind-body (Update a q s net) i (up-same (n .phase) ∙ up) ∙ ap bodyAnswer u) refl refl
+          refused-right 14 (errorTo g n o 2) (answer-kind h _ as₀ d ∙ kind-body (Update a q s net) i up ∙ ap bodyAnswer u) refl refl
       read-right a q s net d i up tooMany u =
-          refused-right 15 (errorTo g n o 0) (answer-kind h _ as₀ d ∙ kind-body (Update a q s net) i (up-same (n .phase) ∙ up) ∙ ap bodyAnswer u) refl refl
+          refused-right 15 (errorTo g n o 0) (answer-kind h _ as₀ d ∙ kind-body (Update a q s net) i up ∙ ap bodyAnswer u) refl refl
 
-      plain : (m : Message) → decodeOf o ≡ D.Good m → inSequence n m ≡ true → (isUpdate m && Machine.isUp (n .phase)) ≡ false → Right (carriedOut g asn n o m)
+      plain : (m : Message) → decodeOf o ≡ D.Good m → inSequence n m ≡ true → (isUpdate m && isUp (n .phase)) ≡ false → Right (carriedOut g asn n o m)
       plain m d i k = carried-right m d k (answer-kind h _ as₀ d ∙ kind-passed m i k)
 
       body-right : (m : Message) → decodeOf o ≡ D.Good m → inSequence n m ≡ true → Right (bodyVerdict g asn n o m)
       unfolding bodyVerdict phaseVerdict isUpdate
       body-right (Update a q s net) d i =
           cond-elim Right (isUp (n .phase)) _ _ (λ up. read-right a q s net d i up (updateOf 128 (g .net) o) refl)
-          (λ down. plain (Update a q s net) d i (up-same (n .phase) ∙ down))
+          (λ down. plain (Update a q s net) d i down)
       body-right (Request a q s hello poll) d i = plain (Request a q s hello poll) d i refl
       body-right (Confirm a q s hello poll) d i = plain (Confirm a q s hello poll) d i refl
       body-right (Refuse a q s) d i = plain (Refuse a q s) d i refl

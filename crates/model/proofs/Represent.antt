@@ -8,11 +8,11 @@ use lib.Dec.{eqb}
 use lib.ListN.{length, getD, length-map, List·getD-map}
 use lib.Seq.{map-set-same}
 use borrow.Author.Tests.{eq-eqb, eqb-true, eqb-false, not-true}
+use Rattle.checks.specs.Lists.{first, every, join}
 use Rattle.nets.specs.Rows.{Row, flat}
 use Rattle.rows.proofs.Laws.{flat-length, padded-length}
 use Rattle.neighbour.specs.declared.Neighbour.{Neighbour}
 use Rattle.state.specs.declared.Slot as Stored
-use Rattle.state.specs.Lists.{first, every}
 use Rattle.state.specs.Slots.{freeSlot, slotAt, withSlot, addressOf, addresses, clash, slotOf, isNone, lowestFree}
 use Rattle.state.specs.Formed.{stateFormed}
 use Rattle.state.specs.Claims.{SlotGood}
@@ -22,7 +22,7 @@ use Rattle.state.proofs.Theorems.{formed-slot}
 use Rattle.calls.specs.Carried.{partAt, withPart}
 use Rattle.claims.specs.Claims.{FormedState}
 use Rattle.model.specs.Model.{Slot, free, used, Model, slotIn, put, isFree, hasAddress, placeOf, vacancy}
-use Rattle.model.specs.Theorem.{cell, stateOf, rowsHeld, part, join, tableOf}
+use Rattle.model.specs.Theorem.{cell, stateOf, rowsHeld, part, tableOf}
 use Rattle.model.proofs.Lists.{index-map, map-map, isPart, join-length, join-put, join-part}
 
 -- a used slot has an address

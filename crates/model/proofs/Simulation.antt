@@ -7,16 +7,18 @@ use mathlib.Core.List.{List, [], _++_}
 use lib.Dec.{ltb, eqb}
 use lib.ListN.{length, length-set}
 use borrow.Author.Tests.{eq-eqb, eqb-true, eqb-false, ltb-true}
+use Rattle.checks.proofs.Laws.{check-passed, and-left, and-right, check-holds}
+use Rattle.checks.specs.Checks.{check, ifOk}
+use Rattle.checks.specs.Lists.{every}
 use Rattle.octets.specs.Buffer.{over}
 use Rattle.nets.specs.Rows.{Row, rowsOf}
-use Rattle.wire.specs.Reading as Wire
 use Rattle.wire.specs.Reading.{decodeOf}
 use Rattle.walk.specs.Body.{updateOf, rowsRead}
 use Rattle.neighbour.specs.declared.Phase.{Phase}
 use Rattle.neighbour.specs.declared.Phase.the-variants as Phases
 use Rattle.neighbour.specs.declared.Settings.{Settings}
 use Rattle.neighbour.specs.declared.Neighbour.{Neighbour}
-use Rattle.neighbour.specs.Record.{idle, isIdle}
+use Rattle.neighbour.specs.Record.{idle, isIdle, isUp}
 use Rattle.machine.specs.declared.Event.{Event}
 use Rattle.machine.specs.declared.Event.the-variants.{Start, Stop, Tick}
 use Rattle.machine.specs.declared.Reply.{Reply}
@@ -24,13 +26,11 @@ use Rattle.machine.specs.declared.Reply.the-variants.{Nothing, One, Two}
 use Rattle.machine.specs.Step.{stepOf}
 use Rattle.state.specs.declared.State.{State}
 use Rattle.state.specs.declared.Outcome.{Outcome}
-use Rattle.state.specs.Lists.{every}
 use Rattle.state.specs.Slots.{freeSlot, slotAt, slotOf, present}
-use Rattle.state.specs.Formed.{isUp, goodPeer, stateFormed}
+use Rattle.state.specs.Formed.{goodPeer, stateFormed}
 use Rattle.state.specs.Claims.{SlotGood}
-use Rattle.state.specs.Outcomes.{check, ifOk, refusedOf, silentOf}
-use Rattle.state.proofs.ListLaws.{and-left, and-right, every-set}
-use Rattle.state.proofs.OutcomeLaws.{check-holds}
+use Rattle.state.specs.Outcomes.{refusedOf, silentOf}
+use Rattle.state.proofs.ListLaws.{every-set}
 use Rattle.slots.specs.Calls as Slots
 use Rattle.slots.specs.Calls.{newcomer, addOf, removeOf}
 use Rattle.calls.specs.declared.Effect.{Effect}
@@ -179,30 +179,25 @@ module _ (m : Model) (ok : Good m) where
   -- ---- Start, Stop, tick
 
   event-answer : (a : ℕ) (buffer : List ℕ) → eventChecks (stateOf m) (tableOf m) buffer a ≡ eventAnswer m a buffer
-  unfolding eventChecks eventAnswer check Wire.check
+  unfolding eventChecks eventAnswer check
   event-answer a buffer =
       check-holds (stateFormed (stateOf m)) 1 _ (ok .formed) ∙ check-holds (tableFits (tableOf m)) 2 _ (eq-eqb (length (tableOf m)) 3072 (table-length m ok))
       ∙ rw (present-of a)
 
   message-answer : (a : ℕ) (home buffer : List ℕ) → messageChecks (stateOf m) (tableOf m) buffer home a ≡ messageAnswer m a home buffer
-  unfolding messageChecks messageAnswer stateOf check Wire.check
+  unfolding messageChecks messageAnswer stateOf check
   message-answer a home buffer =
       check-holds (stateFormed (stateOf m)) 1 _ (ok .formed) ∙ check-holds (tableFits (tableOf m)) 2 _ (eq-eqb (length (tableOf m)) 3072 (table-length m ok))
       ∙ rw (present-of a)
 
-  wire-passed : (b : Bool) (k rest : ℕ) → eqb k 0 ≡ false → Wire.check b k rest ≡ 0 → (b ≡ true) × (rest ≡ 0)
-  unfolding Wire.check
-  wire-passed true k rest z e = (refl, e)
-  wire-passed false k rest z e = absurd (eqb-false k 0 z e)
-
   pub event-below : (a : ℕ) (buffer : List ℕ) → eventAnswer m a buffer ≡ 0 → placeOf m a < 8
   unfolding eventAnswer
-  event-below a buffer z = found-below a (wire-passed (isPresent m a) 5 0 refl (wire-passed _ 3 _ refl z .1) .0)
+  event-below a buffer z = found-below a (check-passed (isPresent m a) 5 0 refl (check-passed _ 3 _ refl z .1) .0)
 
   pub message-below : (a : ℕ) (home buffer : List ℕ) → messageAnswer m a home buffer ≡ 0 → placeOf m a < 8
   unfolding messageAnswer
   message-below a home buffer z =
-      found-below a (wire-passed (isPresent m a) 5 0 refl (wire-passed (goodHome (m .settings) home) 4 _ refl (wire-passed _ 3 _ refl z .1) .1) .0)
+      found-below a (check-passed (isPresent m a) 5 0 refl (check-passed (goodHome (m .settings) home) 4 _ refl (check-passed _ 3 _ refl z .1) .1) .0)
 
   settings-of : (stateOf m) .settings ≡ m .settings
   unfolding stateOf
@@ -264,14 +259,14 @@ module _ (m : Model) (ok : Good m) where
   -- ---- add and remove
 
   add-answer : (address asn : ℕ) → Slots.addAnswer (stateOf m) address asn ≡ addAnswer m address asn
-  unfolding Slots.addAnswer addAnswer addable goodPeer check Wire.check
+  unfolding Slots.addAnswer addAnswer addable goodPeer check
   add-answer address asn =
       check-holds (stateFormed (stateOf m)) 1 _ (ok .formed)
       ∙ rw (present-of address, lowest-of m ok, settings-of)
 
   pub add-free : (address asn : ℕ) → addAnswer m address asn ≡ 0 → vacancy m < 8
   unfolding addAnswer
-  add-free address asn z = ltb-true (vacancy m) 8 (wire-passed (ltb (vacancy m) 8) 17 0 refl (wire-passed (addable m address asn) 16 _ refl z .1) .0)
+  add-free address asn z = ltb-true (vacancy m) 8 (check-passed (ltb (vacancy m) 8) 17 0 refl (check-passed (addable m address asn) 16 _ refl z .1) .0)
 
   -- a slot without rows in place of another without rows
   same-part : (i : ℕ) (slot : Slot) → rowsHeld slot ≡ [] → rowsHeld (slotIn m i) ≡ [] → tableOf m ≡ tableOf (put m i slot)
@@ -325,24 +320,24 @@ module _ (m : Model) (ok : Good m) where
       (used-at (λ s. isIdle ((cell s) .neighbour .phase) ≡ isIdleSlot s) a idle-used (slotIn m (placeOf m a)) (found-used a h))
 
   remove-answer : (address : ℕ) → Slots.removeAnswer (stateOf m) address ≡ removeAnswer m address
-  unfolding Slots.removeAnswer removeAnswer check Wire.check
+  unfolding Slots.removeAnswer removeAnswer check
   remove-answer address =
       check-holds (stateFormed (stateOf m)) 1 _ (ok .formed)
       ∙ rw (present-of address) (go (isPresent m address) refl)
     where
       go : (b : Bool) → isPresent m address ≡ b
-          → Wire.check b 5 (Wire.check (isIdle ((slotAt (stateOf m) (slotOf (stateOf m) address)) .neighbour .phase)) 18 0)
-          ≡ Wire.check b 5 (Wire.check (isIdleSlot (slotIn m (placeOf m address))) 18 0)
+          → check b 5 (check (isIdle ((slotAt (stateOf m) (slotOf (stateOf m) address)) .neighbour .phase)) 18 0)
+          ≡ check b 5 (check (isIdleSlot (slotIn m (placeOf m address))) 18 0)
       go true e = rw (idle-same address (found-below address e))
       go false e = refl
 
   pub remove-below : (address : ℕ) → removeAnswer m address ≡ 0 → placeOf m address < 8
   unfolding removeAnswer
-  remove-below address z = found-below address (wire-passed (isPresent m address) 5 _ refl z .0)
+  remove-below address z = found-below address (check-passed (isPresent m address) 5 _ refl z .0)
 
   remove-idle : (address : ℕ) → removeAnswer m address ≡ 0 → isIdleSlot (slotIn m (placeOf m address)) ≡ true
   unfolding removeAnswer
-  remove-idle address z = wire-passed (isIdleSlot (slotIn m (placeOf m address))) 18 0 refl (wire-passed (isPresent m address) 5 _ refl z .1) .0
+  remove-idle address z = check-passed (isIdleSlot (slotIn m (placeOf m address))) 18 0 refl (check-passed (isPresent m address) 5 _ refl z .1) .0
 
   pub remove-shown : (address : ℕ) → Shown (removeOf (stateOf m) address) (tableOf m) [] ((removeTurn m address) .model) ((removeTurn m address) .said) []
   unfolding removeOf removeTurn
@@ -384,7 +379,7 @@ module _ (m : Model) (ok : Good m) where
   add-sound : (address asn : ℕ) → addAnswer m address asn ≡ 0 → sound (used address asn idle []) ≡ true
   unfolding addAnswer addable sound
   add-sound address asn z =
-      let p : addable m address asn ≡ true = wire-passed (addable m address asn) 16 _ refl z .0 in
+      let p : addable m address asn ≡ true = check-passed (addable m address asn) 16 _ refl z .0 in
       search (and-left, and-right)
 
   event-rest : (event : Event) (a : ℕ) (buffer : List ℕ) → Rest ((eventTurn event m a buffer) .model)

@@ -5,6 +5,8 @@ use mathlib.Core.Bool.{true}
 use mathlib.Core.List.{List, [], _∷_, _++_}
 use lib.ListN.{length, take}
 use lib.Seq.{take-at}
+use Rattle.checks.specs.Checks.{check, ifOk}
+use Rattle.checks.specs.Lists.{every, join}
 use Rattle.nets.specs.Classes.{netWidth, hostSpan, goodNet, onNet}
 use Rattle.nets.specs.Rows.{Row, rowsOf, flat}
 use Rattle.rows.specs.Storing.{zeros, padded}
@@ -12,15 +14,14 @@ use Rattle.rows.proofs.Laws.{flat-length}
 use Rattle.neighbour.specs.declared.Settings.{Settings}
 use Rattle.state.specs.declared.State.{State}
 use Rattle.state.specs.declared.Slot as Stored
-use Rattle.state.specs.Lists.{every}
 use Rattle.state.specs.Slots.{freeSlot, slotAt}
 use Rattle.calls.specs.Carried.{partAt}
 use Rattle.state.specs.Formed.{goodSettings, stateFormed}
-use Rattle.state.specs.Outcomes.{check, ifOk, silentOf}
+use Rattle.state.specs.Outcomes.{silentOf}
 use Rattle.slots.specs.Calls.{freeSlots, emptyState, freshAnswer, freshOf}
 use Rattle.claims.proofs.Formed.{well-formed-kept}
 use Rattle.model.specs.Model.{Call, Slot, free, used, Model, slotIn, empty, model, modelFrom, saidFrom, step}
-use Rattle.model.specs.Theorem.{Gateway, gatewayStep, gatewayFrom, Seen, seenOf, seenFrom, emptyTable, begun, run, seenBy, cell, stateOf, rowsHeld, part, join, tableOf, bufferOf, shownIn, shown, rowsAt, ListOfCalls}
+use Rattle.model.specs.Theorem.{Gateway, gatewayStep, gatewayFrom, Seen, seenOf, seenFrom, emptyTable, begun, run, seenBy, cell, stateOf, rowsHeld, part, tableOf, bufferOf, shownIn, shown, rowsAt, ListOfCalls}
 use Rattle.model.specs.History.{lastAccepted, isElsewhere, takesNoSlot}
 use Rattle.model.proofs.Represent.{sound, Good, at-of, sound-at, part-of}
 use Rattle.model.proofs.History.{model-append, last-is, others-slot, free-from, shown-free}

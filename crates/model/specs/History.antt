@@ -3,13 +3,13 @@ use Prim.Native.Nat.{ℕ}
 use mathlib.Core.Bool.{Bool, true, false, cond, not, _&&_}
 use mathlib.Core.List.{List, [], _∷_, _++_}
 use lib.Dec.{eqb}
+use Rattle.neighbour.specs.Record.{isUp}
 use Rattle.nets.specs.Rows.{Row}
 use Rattle.wire.specs.Reading.{decodeOf}
 use Rattle.wire.specs.declared.Decoded.{Decoded}
 use Rattle.wire.specs.declared.Decoded.the-variants as D
 use Rattle.walk.specs.Body.{updateOf, rowsRead}
 use Rattle.neighbour.specs.declared.Settings.{Settings}
-use Rattle.machine.specs.Laws.{isUp}
 use Rattle.model.specs.Model.{Call, add, remove, start, stop, tick, receive, Slot, free, used, Model, slotIn, placeOf, isUpdate, step, model}
 
 unfoldable pub isUpSlot : Slot → Bool

@@ -4,12 +4,13 @@ use mathlib.Core.Bool.{Bool, true, false, cond, not, _&&_}
 use mathlib.Core.List.{List, [], _∷_}
 use lib.Dec.{ltb, leb, eqb}
 use lib.ListN.{length, getD, set, replicate}
+use Rattle.checks.specs.Checks.{check}
 use Rattle.octets.specs.Numbers.{word32}
 use Rattle.nets.specs.Rows.{Row, rowsOf}
 use Rattle.message.specs.Kinds.{kindOf, plainStatus}
 use Rattle.message.specs.declared.Kind.the-variants as K
 use Rattle.message.specs.declared.Message.{Message}
-use Rattle.wire.specs.Reading.{check, headerAnswer, asnAt, statusAt, sequenceAt, decodeOf}
+use Rattle.wire.specs.Reading.{headerAnswer, asnAt, statusAt, sequenceAt, decodeOf}
 use Rattle.wire.specs.declared.Decoded.{Decoded}
 use Rattle.wire.specs.declared.Decoded.the-variants as D
 use Rattle.walk.specs.Body.{UpdateRead, accepted, brokenAt, tooMany, updateOf, rowsRead}
@@ -17,7 +18,7 @@ use Rattle.codec.specs.Octets.{octetsOf}
 use Rattle.neighbour.specs.declared.Phase.{Phase}
 use Rattle.neighbour.specs.declared.Settings.{Settings}
 use Rattle.neighbour.specs.declared.Neighbour.{Neighbour}
-use Rattle.neighbour.specs.Record.{idle, isIdle, acquired}
+use Rattle.neighbour.specs.Record.{idle, isIdle, acquired, isUp}
 use Rattle.neighbour.specs.Rules.{same, inSequence}
 use Rattle.sent.specs.declared.Head.{Head}
 use Rattle.sent.specs.Sent.{refuseMessage, errorMessage}
@@ -27,7 +28,6 @@ use Rattle.machine.specs.declared.Reply.{Reply}
 use Rattle.machine.specs.declared.Reply.the-variants.{Nothing, One, Two}
 use Rattle.machine.specs.declared.After.{After}
 use Rattle.machine.specs.Table.{quiet}
-use Rattle.machine.specs.Laws.{isUp}
 use Rattle.machine.specs.Step.{stepOf}
 use Rattle.calls.specs.Home.{goodHome}
 

@@ -5,6 +5,7 @@ use mathlib.Core.Bool.{true, cond}
 use mathlib.Core.List.{List, [], _∷_, _++_, map}
 use lib.Dec.{eqb}
 use lib.ListN.{length, take, drop}
+use Rattle.checks.specs.Lists.{every, join}
 use Rattle.octets.specs.Buffer.{over}
 use Rattle.nets.specs.Rows.{Row, rowsOf, flat}
 use Rattle.rows.specs.Storing.{zeros, padded}
@@ -15,7 +16,6 @@ use Rattle.state.specs.declared.State.{State}
 use Rattle.state.specs.declared.Slot as Stored
 use Rattle.state.specs.declared.Outcome.{Outcome}
 use Rattle.state.specs.Slots.{freeSlot, slotAt}
-use Rattle.state.specs.Lists.{every}
 use Rattle.state.specs.Formed.{stateFormed}
 use Rattle.calls.specs.Carried.{partAt}
 use Rattle.slots.specs.Calls.{freshOf, addOf, removeOf}
@@ -122,10 +122,6 @@ rowsHeld (used address asn n rows) = rows
 -- 01: "the table has them as under Numbers": "slot by slot, three a row .. Unused rows are zero"
 unfoldable pub part : Slot → List ℕ
 part slot = padded mostNumbers (flat (rowsHeld slot))
-
-unfoldable pub join : List (List ℕ) → List ℕ
-join [] = []
-join (l ∷ rest) = l ++ join rest
 
 unfoldable pub tableOf : Model → List ℕ
 tableOf m = join (map part (m .slots))

@@ -38,6 +38,13 @@ isIdle Down = false
 isIdle Up = false
 isIdle Cease = false
 
+abbrev pub isUp : Phase → Bool
+isUp Idle = false
+isUp Acquisition = false
+isUp Down = false
+isUp Up = true
+isUp Cease = false
+
 -- 01: "Down and Up"
 abbrev pub acquired : Phase → Bool
 acquired Idle = false

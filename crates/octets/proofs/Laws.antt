@@ -9,13 +9,10 @@ use mathlib.Core.List.{List, [], _∷_, _++_, append-assoc}
 use lib.ListN.{length, take, drop, getD, set, length-drop, length-append, length-set}
 use lib.Seq.{take-all, set-out, set-set, set-comm, set-getD, getD-set-same, getD-set-other, take-length, drop-drop, drop-append-add, sets, sets-eq}
 use lib.Dec.{ltb}
+use Rattle.checks.proofs.Laws.{part-from}
 use Rattle.octets.specs.Numbers.{pairOf, Octets}
 use Rattle.octets.specs.Buffer.{over}
 use Rattle.octets.specs.Checksum.{onesAdd, onesSum, blanked, checksumOf, sealed, wordTotal, folded, FoldLaws}
-
--- a part to the end
-pub part-from : (a : ℕ) (t : List ℕ) → take (length t - a) (drop a t) ≡ drop a t
-part-from a t = take-all (length t - a) (drop a t) (simp length-drop (le-refl (length t - a)))
 
 -- ---- octets over a buffer
 

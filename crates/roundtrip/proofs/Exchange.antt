@@ -10,6 +10,8 @@ use mathlib.Core.List.{List, [], _∷_, _++_}
 use lib.Dec.{ltb, leb, eqb}
 use lib.ListN.{length, take, drop, getD}
 use lib.Seq.{drop-cons, take-at}
+use Rattle.checks.proofs.Laws.{and-left, and-right, and-both}
+use Rattle.checks.specs.Lists.{every}
 use Rattle.octets.specs.Numbers.{Octets, word16, word32}
 use Rattle.octets.specs.Checksum.{checksumOf, sealed, blanked}
 use Rattle.octets.proofs.Laws.{sealed-right, sealed-blanked}
@@ -33,8 +35,7 @@ use Rattle.walk.proofs.Accepted.{whole-is, accepted-is, accepted-of}
 use Rattle.rows.specs.Storing.{zeros, padded}
 use Rattle.rows.proofs.Laws.{flat-length}
 use Rattle.blocks.specs.Blocks.{sideOf, sideRows, gatewayRuns, distanceRuns, blocksOf, internalBlocks, externalBlocks}
-use Rattle.blocks.specs.Writable.{every, writableRows, writableNumbers}
-use Rattle.blocks.proofs.Lists.{and-left, and-right, and-both}
+use Rattle.blocks.specs.Writable.{writableRows, writableNumbers}
 use Rattle.blocks.proofs.Claims.{counts}
 use Rattle.trip.specs.Canonical.{canonical}
 use Rattle.trip.specs.Trip.{octetsOnly, Read}

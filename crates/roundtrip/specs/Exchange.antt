@@ -6,13 +6,13 @@ use mathlib.Core.Bool.{true}
 use mathlib.Core.List.{List}
 use lib.Dec.{leb}
 use lib.ListN.{length, drop, getD}
+use Rattle.checks.specs.Lists.{every}
 use Rattle.octets.specs.Numbers.{Octets}
 use Rattle.nets.specs.Rows.{Row, flat, rowsOf}
 use Rattle.message.specs.declared.Message.{Message}
 use Rattle.message.specs.declared.Message.the-variants.{Request, Confirm, Refuse, Cease, CeaseAck, Hello, IHeardYou, Poll, Update, Error}
 use Rattle.rows.specs.Storing.{padded}
 use Rattle.blocks.specs.Blocks.{sideRows, gatewayRuns, distanceRuns, internalBlocks, externalBlocks}
-use Rattle.blocks.specs.Writable.{every}
 use Rattle.trip.specs.Canonical.{canonical}
 use Rattle.codec.specs.Octets.{octetsOf}
 use Rattle.codec.specs.Writing.{writable}

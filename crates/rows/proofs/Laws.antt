@@ -10,11 +10,12 @@ use mathlib.Core.List.{List, [], _∷_, _++_, append-nil}
 use lib.Dec.{leb}
 use lib.ListN.{length, take, drop, getD, set, replicate, length-append, length-replicate, drop-of-length-le}
 use lib.Seq.{sets, length-sets, sets-eq, length-take-le}
+use Rattle.checks.proofs.Laws.{part-from, cond-elim}
 use Rattle.nets.specs.Classes.{netWidth, hostSpan, goodNet}
 use Rattle.nets.specs.Rows.{Row, flat}
 use Rattle.walk.specs.Body.{Got, got, stop, andThen, after, many, bigEndian, leftJustified, netRow, groupRows, hostWidth, gatewayOf, blockRows, bothSides, Walk, whole, broken, blocksOf, updateOf, accepted}
 use Rattle.walk.specs.Walked.{groupNets}
-use Rattle.walk.proofs.Laws.{part-from, cond-elim, never, Front, Sounds, front-fits, front-rest, many-next, many-stop, many-none, many-sound, block-sound}
+use Rattle.walk.proofs.Laws.{never, Front, Sounds, front-fits, front-rest, many-next, many-stop, many-none, many-sound, block-sound}
 use Rattle.walk.proofs.Turns.{Stepped, rowAt}
 use Rattle.walk.proofs.Groups.{net-good, Alone, group-alone}
 use Rattle.walk.proofs.Accepted.{Whole, whole-is, accepted-is}

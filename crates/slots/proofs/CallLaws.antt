@@ -3,12 +3,13 @@ use Prim.Native.Nat.{ℕ, _≤_, _<_}
 use mathlib.Core.Path.{_≡_, refl, _∙_}
 use mathlib.Core.Bool.{true, false, not, _&&_}
 use borrow.Author.Tests.{lt-ltb, le-ltb}
+use Rattle.checks.proofs.Laws.{check-holds, check-fails}
 use Rattle.neighbour.specs.Record.{isIdle}
 use Rattle.state.specs.declared.State.{State}
 use Rattle.state.specs.Slots.{freeSlot, slotAt, withSlot, slotOf, present, lowestFree}
 use Rattle.state.specs.Formed.{goodSettings, goodPeer, stateFormed}
 use Rattle.state.specs.Outcomes.{refusedOf, silentOf}
-use Rattle.state.proofs.OutcomeLaws.{check-holds, check-fails, silent-refused, silent-done}
+use Rattle.state.proofs.OutcomeLaws.{silent-refused, silent-done}
 use Rattle.slots.specs.Calls.{emptyState, zeroState, newcomer, freshAnswer, freshOf, addAnswer, addOf, removeAnswer, removeOf}
 
 module _ (asn own capability net : ℕ) where

@@ -6,19 +6,20 @@ use mathlib.Core.Bool.{Bool, true, false, not, _&&_}
 use lib.ListN.{length, getD}
 use lib.Dec.{ltb, eqb}
 use borrow.Author.Tests.{eq-eqb, ne-eqb, eqb-true, eqb-false, lt-ltb, ltb-true, ltb-false, not-true}
+use Rattle.checks.proofs.Laws.{and-left, and-right, check-passed, check-holds, ifOk-new, ifOk-old, ifOk-holds}
+use Rattle.checks.specs.Checks.{check}
+use Rattle.checks.specs.Lists.{first, every, distinct}
 use Rattle.neighbour.specs.declared.Settings.{Settings}
-use Rattle.neighbour.specs.Record.{idle}
+use Rattle.neighbour.specs.Record.{idle, isUp}
 use Rattle.state.specs.declared.Slot.{Slot}
 use Rattle.state.specs.declared.State.{State}
 use Rattle.state.specs.declared.Outcome.{Outcome}
-use Rattle.state.specs.Lists.{first, every, distinct}
 use Rattle.state.specs.Slots.{freeSlot, slotAt, withSlot, addressOf, addresses, clash, apart, slotOf, present, isNone, lowestFree}
-use Rattle.state.specs.Formed.{goodSettings, goodPeer, isUp, rowsFormed, usedFormed, slotFormed, stateFormed}
-use Rattle.state.specs.Outcomes.{check, refusedOf, silentOf}
-use Rattle.state.proofs.ListLaws.{and-left, and-right, first-in, first-before, first-least, first-none, every-always, map-set, distinct-set}
+use Rattle.state.specs.Formed.{goodSettings, goodPeer, rowsFormed, usedFormed, slotFormed, stateFormed}
+use Rattle.state.specs.Outcomes.{refusedOf, silentOf}
+use Rattle.state.proofs.ListLaws.{first-in, first-before, first-least, first-none, every-always, map-set, distinct-set}
 use Rattle.state.proofs.SlotLaws.{clash-zero, apart-both, address-at, addresses-length, slot-set-same, slot-set-other, slots-length}
 use Rattle.state.proofs.FormedLaws.{idle-formed}
-use Rattle.state.proofs.OutcomeLaws.{check-passed, check-holds, ifOk-new, ifOk-old, ifOk-holds}
 use Rattle.state.proofs.Theorems.{slot-found, slot-unique, free-slot-formed, formed-of, formed-distinct, free-is-zero, written-formed}
 use Rattle.slots.specs.Calls.{freeSlots, emptyState, zeroState, newcomer, freshAnswer, freshOf, addAnswer, addOf, removeAnswer, removeOf}
 use Rattle.slots.proofs.CallLaws.{fresh-16, fresh-done}

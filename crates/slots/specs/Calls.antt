@@ -4,6 +4,7 @@ use mathlib.Core.Bool.{not, _&&_}
 use mathlib.Core.List.{List}
 use lib.ListN.{replicate}
 use lib.Dec.{ltb}
+use Rattle.checks.specs.Checks.{check}
 use Rattle.neighbour.specs.declared.Settings.{Settings}
 use Rattle.neighbour.specs.Record.{idle, isIdle}
 use Rattle.state.specs.declared.Slot.{Slot}
@@ -11,7 +12,7 @@ use Rattle.state.specs.declared.State.{State}
 use Rattle.state.specs.declared.Outcome.{Outcome}
 use Rattle.state.specs.Slots.{freeSlot, slotAt, withSlot, slotOf, present, lowestFree}
 use Rattle.state.specs.Formed.{goodSettings, goodPeer, stateFormed}
-use Rattle.state.specs.Outcomes.{check, silentOf}
+use Rattle.state.specs.Outcomes.{silentOf}
 
 unfoldable pub freeSlots : List Slot
 freeSlots = replicate 8 freeSlot

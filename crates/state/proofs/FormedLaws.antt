@@ -4,6 +4,7 @@ use mathlib.Core.Path.{_≡_, refl, sym, _∙_, ap}
 use mathlib.Core.Bool.{Bool, true, false, not, false≢true}
 use lib.Dec.{eqb}
 use borrow.Author.Tests.{eqb-true, ne-eqb}
+use Rattle.checks.proofs.Laws.{and-left, and-right}
 use Rattle.neighbour.specs.declared.Phase.{Phase}
 use Rattle.neighbour.specs.declared.Phase.the-variants.{Idle, Acquisition, Down, Up, Cease}
 use Rattle.neighbour.specs.declared.Mode.{Mode}
@@ -13,7 +14,6 @@ use Rattle.neighbour.specs.declared.Settings.{Settings}
 use Rattle.neighbour.specs.Record.{idle, isIdle, under}
 use Rattle.wellformed.specs.Formed.{isUnset, allZero, idleFormed, timersBelow, timersRun, t2Formed, registerFormed, intervalsFormed, causeFormed, wellFormed}
 use Rattle.state.specs.Formed.{goodPeer}
-use Rattle.state.proofs.ListLaws.{and-left, and-right}
 
 is-idle : (phase : Phase) → isIdle phase ≡ true → phase ≡ Idle
 is-idle Idle e = refl

@@ -7,11 +7,12 @@ use lib.ListN.{length, drop, getD, length-map, length-set, List·getD-map}
 use lib.Dec.{eqb}
 use lib.Seq.{getD-set-same, getD-set-other}
 use borrow.Author.Tests.{eq-eqb, ne-eqb, eqb-true, eqb-false, not-true}
+use Rattle.checks.proofs.Laws.{and-left, and-right}
+use Rattle.checks.specs.Lists.{first, every, distinct}
 use Rattle.state.specs.declared.Slot.{Slot}
 use Rattle.state.specs.declared.State.{State}
-use Rattle.state.specs.Lists.{first, every, distinct}
 use Rattle.state.specs.Slots.{freeSlot, slotAt, withSlot, addressOf, addresses, clash, apart, slotOf}
-use Rattle.state.proofs.ListLaws.{and-left, and-right, first-here, first-next, first-end, every-here, every-next, every-end, distinct-here, distinct-next, distinct-end, first-never, every-always}
+use Rattle.state.proofs.ListLaws.{first-here, first-next, first-end, every-here, every-next, every-end, distinct-here, distinct-next, distinct-end, first-never, every-always}
 
 pub clash-is : (a b : ℕ) → (a ≡ 0 → ⊥) → a ≡ b → clash a b ≡ true
 unfolding clash

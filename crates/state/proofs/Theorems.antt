@@ -7,16 +7,17 @@ use lib.ListN.{getD}
 use lib.Dec.{ltb, eqb}
 use lib.Seq.{map-set-same}
 use borrow.Author.Tests.{eq-eqb, ne-eqb, eqb-true, eqb-false, leb-true, ltb-true, ltb-false, not-true}
+use Rattle.checks.proofs.Laws.{and-left, and-right}
+use Rattle.checks.specs.Lists.{first, every, distinct}
 use Rattle.neighbour.specs.declared.Settings.{Settings}
-use Rattle.neighbour.specs.Record.{idle, isIdle}
+use Rattle.neighbour.specs.Record.{idle, isIdle, isUp}
 use Rattle.wellformed.specs.Formed.{allZero}
 use Rattle.state.specs.declared.Slot.{Slot}
 use Rattle.state.specs.declared.State.{State}
-use Rattle.state.specs.Lists.{first, every, distinct}
 use Rattle.state.specs.Slots.{freeSlot, slotAt, withSlot, addressOf, addresses, clash, apart, slotOf}
-use Rattle.state.specs.Formed.{goodSettings, goodPeer, isUp, rowsFormed, freeFormed, usedFormed, slotFormed, stateFormed}
+use Rattle.state.specs.Formed.{goodSettings, goodPeer, rowsFormed, freeFormed, usedFormed, slotFormed, stateFormed}
 use Rattle.state.specs.Claims.{WrittenSlot, OtherSlots, SlotFound, SlotBelow, SlotUnique, SlotStays, FormedSettings, SlotGood, FormedSlot, FreeIsZero, WithSlotFormed, StepFormed}
-use Rattle.state.proofs.ListLaws.{and-left, and-right, first-in, first-least, first-bound, every-set, every-getD, distinct-apart}
+use Rattle.state.proofs.ListLaws.{first-in, first-least, first-bound, every-set, every-getD, distinct-apart}
 use Rattle.state.proofs.SlotLaws.{
   clash-is,
   clash-used,

@@ -3,13 +3,14 @@ use Prim.Native.Nat.{ℕ, _≤_, _<_}
 use mathlib.Core.Path.{_≡_}
 use mathlib.Core.Bool.{true, false}
 use lib.ListN.{length}
+use Rattle.neighbour.specs.Record.{isUp}
 use Rattle.nets.specs.Classes.{goodNet, onNet}
 use Rattle.neighbour.specs.declared.Settings.{Settings}
 use Rattle.wellformed.specs.Formed.{wellFormed}
 use Rattle.state.specs.declared.Slot.{Slot}
 use Rattle.state.specs.declared.State.{State}
 use Rattle.state.specs.Slots.{freeSlot, slotAt, withSlot, slotOf}
-use Rattle.state.specs.Formed.{isUp, rowsFormed, slotFormed, stateFormed}
+use Rattle.state.specs.Formed.{rowsFormed, slotFormed, stateFormed}
 
 -- a slot that is written is read back, and every other is untouched
 abbrev pub WrittenSlot : Type 0

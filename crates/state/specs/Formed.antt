@@ -2,15 +2,15 @@
 use Prim.Native.Nat.{ℕ}
 use mathlib.Core.Bool.{Bool, true, false, cond, not, _&&_, _||_}
 use lib.Dec.{leb, eqb}
+use Rattle.checks.specs.Lists.{every, distinct}
 use Rattle.nets.specs.Classes.{goodNet, onNet}
 use Rattle.neighbour.specs.declared.Phase.{Phase}
 use Rattle.neighbour.specs.declared.Phase.the-variants.{Idle, Acquisition, Down, Up, Cease}
 use Rattle.neighbour.specs.declared.Settings.{Settings}
-use Rattle.neighbour.specs.Record.{isIdle}
+use Rattle.neighbour.specs.Record.{isIdle, isUp}
 use Rattle.wellformed.specs.Formed.{allZero, wellFormed}
 use Rattle.state.specs.declared.Slot.{Slot}
 use Rattle.state.specs.declared.State.{State}
-use Rattle.state.specs.Lists.{every, distinct}
 use Rattle.state.specs.Slots.{addresses, apart}
 
 -- 01: "Fresh refuses 16 for own AS 0, capability above 2, a common net that isn't a left-justified class A, B or C net, or an own address off that net"
@@ -20,13 +20,6 @@ goodSettings g = not (eqb (g .asn) 0) && leb (g .capability) 2 && goodNet (g .ne
 -- 01: "Add refuses 16 for AS 0 or own AS, or an address that is 0, our own"; "or present" is judged of the state
 unfoldable pub goodPeer : Settings → ℕ → ℕ → Bool
 goodPeer g address asn = not (eqb asn 0) && not (eqb asn (g .asn)) && not (eqb address 0) && not (eqb address (g .own))
-
-abbrev pub isUp : Phase → Bool
-isUp Idle = false
-isUp Acquisition = false
-isUp Down = false
-isUp Up = true
-isUp Cease = false
 
 -- 01: "row count at most 128 and 0 unless Up"
 unfoldable pub rowsFormed : Phase → ℕ → Bool

@@ -4,10 +4,10 @@ use mathlib.Core.Bool.{Bool, not, _&&_}
 use mathlib.Core.List.{List, map}
 use lib.ListN.{getD, set}
 use lib.Dec.{ltb, eqb}
+use Rattle.checks.specs.Lists.{first}
 use Rattle.neighbour.specs.Record.{idle}
 use Rattle.state.specs.declared.Slot.{Slot}
 use Rattle.state.specs.declared.State.{State}
-use Rattle.state.specs.Lists.{first}
 
 -- 01: "free slots are all zero"; Idle and no mode are the first of their kinds
 unfoldable pub freeSlot : Slot

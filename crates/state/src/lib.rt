@@ -2,9 +2,10 @@
 ghost use mathlib.Core.Path.{_≡_};
 ghost use Prim.Native.Nat.{_≤_, _<_};
 ghost use lib.ListN.{drop};
-ghost use Rattle.state.specs.Lists.{every, distinct};
+ghost use Rattle.neighbour.specs.Record.{isUp};
+ghost use Rattle.checks.specs.Lists.{every, distinct};
 ghost use Rattle.state.specs.Slots.{freeSlot, slotAt, withSlot, addresses, apart, slotOf, lowestFree};
-ghost use Rattle.state.specs.Formed.{goodSettings, goodPeer, isUp, rowsFormed, freeFormed, usedFormed, slotFormed, stateFormed};
+ghost use Rattle.state.specs.Formed.{goodSettings, goodPeer, rowsFormed, freeFormed, usedFormed, slotFormed, stateFormed};
 ghost use Rattle.state.specs.Outcomes.{refusedOf};
 use neighbour::Neighbour;
 use neighbour::Phase;

@@ -3,11 +3,12 @@ use Prim.Native.Nat.{ℕ}
 use mathlib.Core.Bool.{true, false}
 use mathlib.Core.Path.{_≡_, refl}
 use mathlib.Core.List.{List, [], _∷_}
+use Rattle.checks.specs.Lists.{every}
 use Rattle.nets.specs.Classes.{netWidth, hostSpan, goodNet, onNet}
 use Rattle.nets.specs.Rows.{Row}
 use Rattle.walk.specs.Body.{digits, many, leftJustified, rowOfWidth, netRow, groupRows, hostWidth, gatewayOf, blockRows, bothSides, whole, nothingLeft, bodyOf}
 use Rattle.blocks.specs.Blocks.{sideRows, joined, runs, each, addressOctets, netOctets, hostOctets, netsOctets, groupOctets, groupsOctets, blockOctets, sideOctets, blocksOf, internalBlocks, externalBlocks}
-use Rattle.blocks.specs.Writable.{every, ordered, writableRow, writableRows}
+use Rattle.blocks.specs.Writable.{ordered, writableRow, writableRows}
 use Rattle.trip.specs.Canonical.{groupAt, blockAt, some, apart, fullBlock, fullSide, fullExternal, fullSides, canonical}
 
 -- 128.9.0.0, and its gateways 128.9.0.5 and 128.9.0.6

@@ -6,11 +6,11 @@ use mathlib.Core.List.{List, [], _∷_, _++_, map}
 use borrow.Author.Tests.{eqb-true, eqb-false, eq-eqb, ne-eqb, not-true}
 use lib.Dec.{eqb}
 use lib.ListN.{length, length-map}
+use Rattle.checks.proofs.Laws.{and-left, and-right, and-both}
+use Rattle.checks.specs.Lists.{every}
 use Rattle.nets.specs.Classes.{goodNet, onNet}
 use Rattle.nets.specs.Rows.{Row}
 use Rattle.blocks.specs.Blocks.{joined, runs, gatewayRuns, distanceRuns, each, groupOctets, groupsOctets, hostOctets, blockOctets, sideOctets}
-use Rattle.blocks.specs.Writable.{every}
-use Rattle.blocks.proofs.Lists.{and-left, and-right, and-both}
 use Rattle.blocks.proofs.Runs.{runs-whole}
 use Rattle.trip.specs.Canonical.{Group, Block, some, apart, fullBlock, fullSide}
 use Rattle.trip.proofs.Readings.{AllOf, every-all, all-every, all-map, all-each, each-map, each-same}

@@ -9,12 +9,12 @@ use borrow.Author.Tests.{ltb-true, ltb-false, eqb-true, eqb-false, eq-eqb, ne-eq
 use lib.Dec.{ltb, eqb}
 use lib.ListN.{length, take, drop, getD, length-append, take-append-drop}
 use lib.Seq.{take-at, drop-at}
+use Rattle.checks.proofs.Laws.{and-left, and-right, cond-elim}
+use Rattle.checks.specs.Lists.{every}
 use Rattle.nets.specs.Classes.{netWidth, firstOctet, widthOf, hostSpan, goodNet, onNet}
 use Rattle.nets.specs.Rows.{Row}
 use Rattle.walk.specs.Body.{Got, got, stop, digits, bigEndian, leftJustified, rowOfWidth, netRow, hostWidth, gatewayOf}
 use Rattle.blocks.specs.Blocks.{addressOctets, netOctets, hostOctets}
-use Rattle.blocks.specs.Writable.{every}
-use Rattle.blocks.proofs.Lists.{and-left, and-right}
 use Rattle.blocks.proofs.Claims.{width-most, width-least, net-octets, host-octets}
 use Rattle.trip.specs.Trip.{octetsOnly}
 use Rattle.trip.proofs.Readings.{octets-right, Reads, Ones, One, never}
@@ -164,10 +164,6 @@ trailing-back (suc (suc (suc zero))) net (x ∷ t) a b l o j =
     let u : g % 256 ≡ x = omega arith in
     record { on = omega arith; octets = ap (λ (i : ℕ). i ∷ []) u }
 trailing-back (suc (suc (suc (suc k)))) net t a b l o j = absurd (omega arith)
-
-pub cond-elim : {A : Type 0} (P : A → Type 0) (b : Bool) (x y : A) → (b ≡ true → P x) → (b ≡ false → P y) → P (cond b x y)
-cond-elim P true x y p q = p refl
-cond-elim P false x y p q = q refl
 
 -- one net, written and read
 front : (width a b c d : ℕ) (q : List ℕ) → 0 < width → getD (take width (a ∷ b ∷ c ∷ d ∷ []) ++ q) 0 0 ≡ a

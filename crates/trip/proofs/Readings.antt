@@ -6,10 +6,10 @@ use mathlib.Core.List.{List, [], _∷_, _++_, map, append-assoc}
 use native.Mathlib.Omega.{arith}
 use lib.Dec.{ltb}
 use lib.ListN.{length}
+use Rattle.checks.proofs.Laws.{and-left, and-right, and-both}
+use Rattle.checks.specs.Lists.{every}
 use Rattle.walk.specs.Body.{Got, got, stop, andThen, after, many}
 use Rattle.blocks.specs.Blocks.{each}
-use Rattle.blocks.specs.Writable.{every}
-use Rattle.blocks.proofs.Lists.{and-left, and-right, and-both}
 use Rattle.trip.specs.Trip.{octetsOnly}
 
 -- every item of a list has a property

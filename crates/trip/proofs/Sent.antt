@@ -9,6 +9,7 @@ use borrow.Author.Tests.{leb-false, le-ltb, lt-leb}
 use lib.Dec.{ltb, leb}
 use lib.ListN.{length, drop, getD, length-append, take-append-drop}
 use lib.Seq.{getD-at, drop-cons, drop-append-add}
+use Rattle.checks.proofs.Laws.{cond-elim}
 use Rattle.nets.specs.Classes.{goodNet, onNet}
 use Rattle.nets.specs.Rows.{Row}
 use Rattle.walk.specs.Body.{Got, got, stop, andThen, many, netRow, groupRows, hostWidth, gatewayOf, blockRows}
@@ -16,7 +17,7 @@ use Rattle.blocks.specs.Blocks.{each, netOctets, netsOctets, hostOctets}
 use Rattle.trip.specs.Canonical.{Group, Block, groupAt, blockAt}
 use Rattle.trip.specs.Trip.{octetsOnly}
 use Rattle.trip.proofs.Readings.{AllOf, all-map, each-single, Reads, many-reads, spread, many-spread, One, Several, Ones, never, many-unreads}
-use Rattle.trip.proofs.Octets.{octet-at, octets-drop, cond-elim, net-reads, RowFact, net-unreads, host-length, host-reads, host-unreads}
+use Rattle.trip.proofs.Octets.{octet-at, octets-drop, net-reads, RowFact, net-unreads, host-length, host-reads, host-unreads}
 
 -- the octets of a group and of a block
 unfoldable pub groupSent : Group → List ℕ

@@ -7,12 +7,13 @@ use native.Mathlib.Omega.{arith}
 use borrow.Author.Tests.{eqb-true, le-leb}
 use lib.Dec.{eqb, leb}
 use lib.ListN.{length}
+use Rattle.checks.proofs.Laws.{and-left, and-right}
+use Rattle.checks.specs.Lists.{every}
 use Rattle.nets.specs.Classes.{goodNet, onNet}
 use Rattle.nets.specs.Rows.{Row}
 use Rattle.walk.specs.Body.{Got, got, stop, andThen, after, many, blockRows, bothSides, whole, nothingLeft, bodyOf}
 use Rattle.blocks.specs.Blocks.{sideOf, sideRows, gatewayRuns, each, sideOctets, blocksOf, internalBlocks, externalBlocks}
-use Rattle.blocks.specs.Writable.{every, ordered, writableRow, writableRows}
-use Rattle.blocks.proofs.Lists.{and-left, and-right}
+use Rattle.blocks.specs.Writable.{ordered, writableRow, writableRows}
 use Rattle.blocks.proofs.Claims.{writable-sides}
 use Rattle.trip.specs.Canonical.{Block, blockAt, fullSide, fullExternal, fullSides, canonical}
 use Rattle.trip.specs.Trip.{octetsOnly, WritesReadBack, Read, WrittenBack, ReadsWriteBack}

@@ -4,9 +4,9 @@ use mathlib.Core.Bool.{Bool, true, false, cond, not, _&&_}
 use mathlib.Core.List.{List, [], _∷_}
 use lib.Dec.{ltb, leb, eqb}
 use lib.ListN.{length, drop, getD}
+use Rattle.checks.specs.Lists.{every}
 use Rattle.nets.specs.Rows.{Row}
 use Rattle.walk.specs.Body.{Got, got, stop, andThen, many, netRow, hostWidth, gatewayOf}
-use Rattle.blocks.specs.Writable.{every}
 
 -- the nets of one distance, as rows
 pub record Group : Type 0 where

@@ -5,11 +5,12 @@ use mathlib.Core.Path.{_≡_}
 use mathlib.Core.List.{List}
 use lib.Dec.{ltb}
 use lib.ListN.{length}
+use Rattle.checks.specs.Lists.{every}
 use Rattle.nets.specs.Classes.{goodNet}
 use Rattle.nets.specs.Rows.{Row}
 use Rattle.walk.specs.Body.{bodyOf, whole}
 use Rattle.blocks.specs.Blocks.{blocksOf, internalBlocks, externalBlocks}
-use Rattle.blocks.specs.Writable.{every, writableRows}
+use Rattle.blocks.specs.Writable.{writableRows}
 use Rattle.trip.specs.Canonical.{canonical}
 
 -- a list of octets

@@ -8,14 +8,15 @@ use mathlib.Core.List.{List, [], _∷_}
 use lib.Dec.{ltb, leb, eqb}
 use lib.ListN.{length, take, drop, getD, length-drop}
 use lib.Seq.{length-take-le}
+use Rattle.checks.proofs.Laws.{cond-elim, and-left, and-right}
 use Rattle.nets.specs.Classes.{goodNet}
 use Rattle.nets.specs.Rows.{Row}
 use Rattle.walk.specs.Body.{bigEndian, Got, got, stop, bothSides, Walk, whole, broken, nothingLeft, bodyOf, further, netAt, blocksOf, UpdateRead, accepted, brokenAt, tooMany, judged, updateOf, numberOf, rowsRead}
 use Rattle.walk.specs.Walked.{walkedOf, walkedNumber}
 use Rattle.walk.specs.declared.Walked.the-variants.{Rows}
-use Rattle.walk.proofs.Laws.{cond-elim, Front, front-fits, sides-sound}
+use Rattle.walk.proofs.Laws.{Front, front-fits, sides-sound}
 use Rattle.walk.proofs.Digits.{Octets, octets-drop, octets-take, big-below}
-use Rattle.walk.proofs.Good.{and-left, and-right, GoodRow, All, sides-good}
+use Rattle.walk.proofs.Good.{GoodRow, All, sides-good}
 
 -- blocks that are whole: of a message long enough, of a good net that is the common net, and with nothing left
 pub record Whole (net : ℕ) (message : List ℕ) (rs : List Row) : Type 0 where

@@ -10,11 +10,12 @@ use mathlib.Core.List.{List, [], _∷_, _++_}
 use lib.Dec.{ltb, leb, eqb}
 use lib.ListN.{length, take, drop, getD}
 use lib.Seq.{length-take-le}
+use Rattle.checks.proofs.Laws.{cond-elim, and-left, and-right}
 use Rattle.nets.specs.Classes.{netWidth, firstOctet, widthOf, hostSpan, goodNet, onNet}
 use Rattle.nets.specs.Rows.{Row}
 use Rattle.nets.proofs.Laws.{span-positive}
 use Rattle.walk.specs.Body.{digits, bigEndian, Got, got, stop, andThen, after, many, leftJustified, rowOfWidth, netRow, groupRows, hostWidth, gatewayOf, blockRows, bothSides}
-use Rattle.walk.proofs.Laws.{never, width-small, cond-elim, nonzero}
+use Rattle.walk.proofs.Laws.{never, width-small, nonzero}
 use Rattle.walk.proofs.Digits.{Octets, octets-drop, octets-take, digits-split, big-below}
 
 -- net part and host part make up the four octets
@@ -35,14 +36,6 @@ host-span net = refl
 pub record Net (net : ℕ) : Type 0 where
   pub classed : widthOf net ≡ 0 → ⊥
   pub justified : net % hostSpan (widthOf net) ≡ 0
-
-pub and-left : (a b : Bool) → (a && b) ≡ true → a ≡ true
-and-left true b e = refl
-and-left false b e = e
-
-pub and-right : (a b : Bool) → (a && b) ≡ true → b ≡ true
-and-right true b e = e
-and-right false b e = never e
 
 pub net-of : (net : ℕ) → goodNet net ≡ true → Net net
 unfolding goodNet

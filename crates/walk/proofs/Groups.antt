@@ -7,11 +7,12 @@ use mathlib.Core.Bool.{Bool, true, false, cond}
 use mathlib.Core.List.{List, [], _∷_, append-nil}
 use lib.Dec.{ltb, eqb}
 use lib.ListN.{length, take, drop, getD, length-append}
+use Rattle.checks.proofs.Laws.{cond-elim}
 use Rattle.nets.specs.Classes.{netWidth}
 use Rattle.nets.specs.Rows.{Row}
 use Rattle.walk.specs.Body.{Got, got, stop, andThen, after, many, leftJustified, rowOfWidth, netRow, groupRows}
 use Rattle.walk.specs.Walked.{taken, groupEnd, groupNets}
-use Rattle.walk.proofs.Laws.{cond-elim, nonzero, Front, front-fits, front-part, many-sound, net-sound}
+use Rattle.walk.proofs.Laws.{nonzero, Front, front-fits, front-part, many-sound, net-sound}
 use Rattle.walk.proofs.Turns.{Stepped}
 
 -- as many rows, and the same octets left

@@ -10,17 +10,10 @@ use mathlib.Core.List.{List, [], _∷_, _++_, append-assoc}
 use lib.Dec.{ltb, leb, eqb}
 use lib.ListN.{length, take, drop, getD, length-append, length-drop, take-append-drop}
 use lib.Seq.{take-all, take-at, drop-at, drop-cons, take-append-seam, getD-append-seam, drop-append-add, length-take-le, getD-take}
+use Rattle.checks.proofs.Laws.{cond-elim}
 use Rattle.nets.specs.Classes.{netWidth, hostSpan}
 use Rattle.nets.specs.Rows.{Row}
 use Rattle.walk.specs.Body.{bigEndian, Got, got, stop, andThen, after, many, leftJustified, rowOfWidth, netRow, groupRows, hostWidth, gatewayOf, blockRows, bothSides}
-
--- a part to the end
-pub part-from : (a : ℕ) (t : List ℕ) → take (length t - a) (drop a t) ≡ drop a t
-part-from a t = take-all (length t - a) (drop a t) (simp length-drop (le-refl (length t - a)))
-
-pub cond-elim : {A : Type 0} (P : A → Type 0) (b : Bool) (x y : A) → (b ≡ true → P x) → (b ≡ false → P y) → P (cond b x y)
-cond-elim P true x y p q = p refl
-cond-elim P false x y p q = q refl
 
 pub never : {A : Type 0} → false ≡ true → A
 never e = let z : _≡_ {A = ℕ} 0 1 = cc in absurd (omega arith)

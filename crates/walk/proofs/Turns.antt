@@ -8,6 +8,7 @@ use mathlib.Core.Bool.{Bool, true, false, cond}
 use mathlib.Core.List.{List, [], _∷_, _++_}
 use lib.Dec.{ltb, leb, eqb}
 use lib.ListN.{length, take, drop, getD, length-append, length-drop}
+use Rattle.checks.proofs.Laws.{part-from, cond-elim}
 use Rattle.nets.specs.Classes.{netWidth, goodNet}
 use Rattle.nets.specs.Rows.{Row}
 use Rattle.walk.specs.Body.{Got, got, stop, after, many, leftJustified, rowOfWidth, netRow, groupRows, hostWidth, gatewayOf, blockRows, bothSides, nothingLeft, bodyOf, further, netAt, blocksOf, judged, updateOf, bigEndian, accepted, tooMany}
@@ -15,7 +16,7 @@ use Rattle.walk.specs.Walked.{skipOf, netStep, verdict, WithinEnd, taken
 use Rattle.walk.specs.declared.Skip.{Skip}
 use Rattle.walk.specs.declared.Skip.the-variants.{Past, Stop}
 use Rattle.walk.specs.declared.Walked.the-variants.{Rows, Broken, TooMany}
-use Rattle.walk.proofs.Laws.{part-from, cond-elim, nonzero, width-small, Sound, Sounds, front-fits, front-rest, many-next, many-stop, many-none, many-sound, block-sound, sides-sound}
+use Rattle.walk.proofs.Laws.{nonzero, width-small, Sound, Sounds, front-fits, front-rest, many-next, many-stop, many-none, many-sound, block-sound, sides-sound}
 
 -- so many rows more
 unfoldable pub plus : ℕ → Skip → Skip

@@ -5,6 +5,7 @@ use mathlib.Core.Path.{_≡_, refl}
 use mathlib.Core.Bool.{Bool, true, false, cond, not, _&&_, _||_}
 use lib.Dec.{ltb, leb, eqb}
 use borrow.Author.Tests.{le-leb, leb-true, eqb-true, not-true}
+use Rattle.checks.proofs.Laws.{and-left, and-right, cond-elim}
 use Rattle.neighbour.specs.declared.Phase.{Phase}
 use Rattle.neighbour.specs.declared.Phase.the-variants.{Idle, Acquisition, Down, Up, Cease}
 use Rattle.neighbour.specs.declared.Mode.{Mode}
@@ -17,14 +18,6 @@ use Rattle.neighbour.specs.Record.{under, isIdle, acquired, idle, waiting, init
 use Rattle.neighbour.specs.Rules.{larger, unacceptable, helloInterval, pollInterval, modeOf, offerOf}
 use Rattle.wellformed.specs.Formed.{isUnset, within, allZero, idleFormed, timersBelow, timersRun, t2Formed, registerFormed, agreed, intervalsFormed, causeFormed, wellFormed}
 use Rattle.neighbour.proofs.Laws.{larger-fits, hello-fits, poll-fits}
-
-and-left : (a b : Bool) → (a && b) ≡ true → a ≡ true
-and-left true b e = refl
-and-left false b e = e
-
-and-right : (a b : Bool) → (a && b) ≡ true → b ≡ true
-and-right true b e = e
-and-right false b e = let z : _≡_ {A = ℕ} 0 1 = cc in absurd (omega arith)
 
 or-true : (a : Bool) → (a || true) ≡ true
 or-true true = refl
@@ -280,11 +273,6 @@ module _ (n : Neighbour) where
 pub idle-ok : wellFormed idle ≡ true
 unfolding idle wellFormed idleFormed allZero timersBelow timersRun t2Formed registerFormed agreed intervalsFormed causeFormed under
 idle-ok = refl
-
--- a choice by a test, case by case
-pub cond-elim : {A : Type 0} (P : A → Type 0) (b : Bool) (x y : A) → (b ≡ true → P x) → (b ≡ false → P y) → P (cond b x y)
-cond-elim P true x y p q = p refl
-cond-elim P false x y p q = q refl
 
 abbrev Set : Mode → Type 0
 Set m = isUnset m ≡ false

@@ -6,9 +6,11 @@ use mathlib.Core.Bool.{Bool, true, false, _&&_, and-false, false≢true}
 use mathlib.Core.List.{List}
 use lib.ListN.{length, getD}
 use lib.Dec.{leb, eqb}
+use Rattle.checks.proofs.Laws.{and-left, and-right, check-passed}
+use Rattle.checks.specs.Checks.{check}
 use Rattle.octets.specs.Numbers.{word16}
 use Rattle.octets.specs.Checksum.{checksumOf}
-use Rattle.wire.specs.Reading.{check, headerAnswer}
+use Rattle.wire.specs.Reading.{headerAnswer}
 
 -- the header stage, check by check
 module _ (o : List ℕ) where
@@ -35,30 +37,6 @@ module _ (o : List ℕ) where
       unfolding headerAnswer check
       header-good q =
           rw (le-leb 10 (length o) low, le-leb (length o) 2048 high, ← e, eq-eqb v 2 t, ← we, ← se, eq-eqb w s q)
-
--- ---- laws of checks and conjunctions
-
-pub and-left : (a b : Bool) → (a && b) ≡ true → a ≡ true
-and-left true b e = refl
-and-left false b e = absurd (false≢true e)
-
-pub and-right : (a b : Bool) → (a && b) ≡ true → b ≡ true
-and-right true b e = e
-and-right false b e = absurd (false≢true e)
-
--- a chain of checks that answers 0 passed its first check
-pub check-passed : (ok : Bool) (number rest : ℕ) → eqb number 0 ≡ false → check ok number rest ≡ 0 → (ok ≡ true) × (rest ≡ 0)
-unfolding check
-check-passed true number rest n e = (refl, e)
-check-passed false number rest n e = absurd (eqb-false number 0 n e)
-
-pub check-holds : (ok : Bool) (number rest : ℕ) → ok ≡ true → check ok number rest ≡ rest
-unfolding check
-check-holds ok number rest e = rw e
-
-pub check-fails : (ok : Bool) (number rest : ℕ) → ok ≡ false → check ok number rest ≡ number
-unfolding check
-check-fails ok number rest e = rw e
 
 -- what the header stage found where it passed
 pub record HeaderGood (o : List ℕ) : Type 0 where

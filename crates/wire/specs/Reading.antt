@@ -4,6 +4,7 @@ use mathlib.Core.Bool.{Bool, cond, _&&_}
 use mathlib.Core.List.{List}
 use lib.ListN.{length, getD}
 use lib.Dec.{leb, eqb}
+use Rattle.checks.specs.Checks.{check}
 use Rattle.octets.specs.Numbers.{word16, word32}
 use Rattle.octets.specs.Checksum.{checksumOf}
 use Rattle.message.specs.Kinds.{kindAt, statusAllowed, lengthAllowed}
@@ -15,10 +16,6 @@ use Rattle.message.specs.declared.Message.{Message}
 use Rattle.message.specs.declared.Message.the-variants as M
 use Rattle.wire.specs.declared.Decoded.{Decoded}
 use Rattle.wire.specs.declared.Decoded.the-variants.{Good, UnknownKind, BadStatus, BadLength}
-
--- 01: "Checks go in this order; the first that fails answers": this number where the test fails, else what the rest says
-unfoldable pub check : Bool → ℕ → ℕ → ℕ
-check ok number rest = cond ok rest number
 
 -- 01: 6 "message below 10 or above 2,048 octets", 7 "version not 2", 8 "checksum field wrong"
 unfoldable pub headerAnswer : List ℕ → ℕ

@@ -4,9 +4,9 @@ use native.Mathlib.Omega.{arith}
 use mathlib.Core.Logic.{⊎-elim}
 use mathlib.Core.Path.{_≡_}
 use lib.ListN.{length, length-drop}
+use Rattle.checks.proofs.Laws.{part-from}
 use Rattle.nets.specs.Rows.{rowsOf}
 use Rattle.blocks.proofs.Loops.{internal-more, internal-same, internal-end}
-use Rattle.blocks.proofs.Lists.{part-from}
 use Rattle.blocks.specs.Blocks.{sideRows}
 use Rattle.blocks.proofs.internal_numbers.Statement.{statement}
 use Rattle.blocks.proofs.internal_numbers.Tie as tie

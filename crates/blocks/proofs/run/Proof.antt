@@ -4,9 +4,9 @@ use native.Mathlib.Omega.{arith}
 use borrow.Author.Needs.{needs}
 use mathlib.Core.Path.{_≡_}
 use lib.ListN.{length, getD, length-drop}
+use Rattle.checks.proofs.Laws.{part-from}
 use Rattle.nets.specs.Rows.{rowsOf}
 use Rattle.blocks.proofs.Loops.{run-start, run-same, run-other, run-end}
-use Rattle.blocks.proofs.Lists.{part-from}
 use Rattle.blocks.specs.Steps.{column, agreeing, runLength}
 use Rattle.blocks.proofs.run.Statement.{statement}
 use Rattle.blocks.proofs.run.Tie as tie

@@ -3,9 +3,9 @@ use native.Mathlib.Omega.{arith}
 use borrow.Author.Needs.{needs}
 use mathlib.Core.Path.{_≡_, sym, _∙_}
 use lib.ListN.{length, length-drop}
+use Rattle.checks.proofs.Laws.{part-from}
 use Rattle.nets.specs.Rows.{rowsOf}
 use Rattle.blocks.proofs.Loops.{allowed, ragged, long, tested, bad-row, bad-side, good-row, no-row}
-use Rattle.blocks.proofs.Lists.{part-from}
 use Rattle.blocks.specs.Writable.{writableNumbers}
 use borrow.Author.Tests.{not-true, not-false}
 use Rattle.blocks.proofs.writable.Statement.{statement}

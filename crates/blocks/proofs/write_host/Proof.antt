@@ -1,8 +1,8 @@
 -- `blocks::write_host` meets its contract: the trailing octets, by the width. Assumes nothing.
 use native.Mathlib.Omega.{arith}
 use borrow.Author.Needs.{needs}
+use Rattle.checks.proofs.Laws.{part-from}
 use Rattle.blocks.proofs.Claims.{width-fits}
-use Rattle.blocks.proofs.Lists.{part-from}
 use Rattle.nets.specs.Classes.{widthOf}
 use Rattle.blocks.specs.Blocks.{hostOctets, addressOctets}
 use Rattle.blocks.proofs.write_host.Statement.{statement}

@@ -1,9 +1,10 @@
 -- `blocks::write_nets` meets its contract. The loop keeps what is left to write. Assumes nothing.
 use native.Mathlib.Omega.{arith}
 use lib.ListN.{length, length-drop}
+use Rattle.checks.proofs.Laws.{part-from}
 use Rattle.nets.specs.Rows.{rowsOf}
 use Rattle.blocks.proofs.Loops.{nets-turn, nets-room, nets-end}
-use Rattle.blocks.proofs.Lists.{part-from, Writing, start, turn, done}
+use Rattle.blocks.proofs.Lists.{Writing, start, turn, done}
 use Rattle.blocks.specs.Blocks.{netsOctets}
 use Rattle.blocks.proofs.write_nets.Statement.{statement}
 use Rattle.blocks.proofs.write_nets.Tie as tie

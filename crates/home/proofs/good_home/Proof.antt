@@ -4,7 +4,7 @@ use borrow.Author.Needs.{needs}
 use borrow.Author.Tests.{not-true, not-false}
 use mathlib.Core.Path.{_≡_, sym, _∙_}
 use lib.ListN.{length, length-drop}
-use Rattle.blocks.proofs.Lists.{part-from}
+use Rattle.checks.proofs.Laws.{part-from}
 use Rattle.calls.specs.Home.{goodHome}
 use Rattle.home.proofs.Laws.{left, ragged, long, tested, bad-row, good-row, no-row}
 use Rattle.home.proofs.good_home.Statement.{statement}

@@ -1,5 +1,6 @@
 use mathlib.Core.Path.{_∙_}
-use Rattle.octets.proofs.Laws.{over-copied, sum-turn, sum-odd, sum-done, part-from}
+use Rattle.checks.proofs.Laws.{part-from}
+use Rattle.octets.proofs.Laws.{over-copied, sum-turn, sum-odd, sum-done}
 use borrow.Author.Needs.{needs}
 use Rattle.octets.proofs.store.Statement.{statement}
 use Rattle.octets.proofs.store.Tie as tie

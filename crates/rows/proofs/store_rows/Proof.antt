@@ -1,6 +1,6 @@
 -- `rows::store_rows` meets its contract: both sides stored one after the other, then zeros. Assumes nothing.
+use Rattle.checks.proofs.Laws.{part-from}
 use Rattle.rows.proofs.Laws.{store-whole, first-room, first-left, second-room, second-end, store-done}
-use Rattle.walk.proofs.Laws.{part-from}
 use Prim.Native.Nat.{zero-le}
 use native.Mathlib.Omega.{arith}
 use borrow.Author.Needs.{needs}

@@ -1,5 +1,6 @@
 use mathlib.Core.Path.{refl}
-use Rattle.state.specs.Outcomes.{ifOk, silentOf}
+use Rattle.checks.specs.Checks.{ifOk}
+use Rattle.state.specs.Outcomes.{silentOf}
 use Rattle.slots.proofs.carried_out.Statement.{statement}
 use Rattle.slots.proofs.carried_out.Tie as tie
 

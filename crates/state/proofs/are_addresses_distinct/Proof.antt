@@ -4,8 +4,8 @@ use Prim.Native.Nat.{_-_, _≤_}
 use mathlib.Core.Path.{_≡_, refl, sym, _∙_}
 use lib.ListN.{length, drop}
 use borrow.Author.Tests.{not-true, not-false}
+use Rattle.checks.specs.Lists.{distinct}
 use Rattle.neighbour.specs.Record.{idle}
-use Rattle.state.specs.Lists.{distinct}
 use Rattle.state.specs.Slots.{freeSlot, slotAt, addresses, apart}
 use Rattle.state.proofs.ListLaws.{unmapped}
 use Rattle.state.proofs.SlotLaws.{distinct-slot-here, distinct-slot-next, distinct-slot-end}

@@ -4,8 +4,8 @@ use Prim.Native.Nat.{_-_, _≤_}
 use mathlib.Core.Path.{_≡_, refl, sym, _∙_}
 use lib.ListN.{length, drop}
 use borrow.Author.Tests.{not-true, not-false}
+use Rattle.checks.specs.Lists.{every}
 use Rattle.neighbour.specs.Record.{idle}
-use Rattle.state.specs.Lists.{every}
 use Rattle.state.specs.Slots.{freeSlot}
 use Rattle.state.specs.Formed.{slotFormed}
 use Rattle.state.proofs.ListLaws.{unmapped, every-here, every-next, every-end}

@@ -3,8 +3,8 @@ use borrow.Author.Needs.{needs}
 use Prim.Native.Nat.{_-_, _≤_}
 use mathlib.Core.Path.{_≡_, refl, sym, _∙_}
 use lib.ListN.{length, drop}
+use Rattle.checks.specs.Lists.{every}
 use Rattle.neighbour.specs.Record.{idle}
-use Rattle.state.specs.Lists.{every}
 use Rattle.state.specs.Slots.{freeSlot, slotAt, addresses, apart}
 use Rattle.state.proofs.ListLaws.{unmapped}
 use Rattle.state.proofs.SlotLaws.{clash-is, clash-not, apart-zero, apart-here, apart-next, apart-end}

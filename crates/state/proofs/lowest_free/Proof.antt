@@ -4,8 +4,8 @@ use Prim.Native.Nat.{_+_, _-_, _≤_}
 use mathlib.Core.Path.{_≡_}
 use lib.ListN.{length, drop}
 use borrow.Author.Tests.{eq-eqb, ne-eqb}
+use Rattle.checks.specs.Lists.{first}
 use Rattle.neighbour.specs.Record.{idle}
-use Rattle.state.specs.Lists.{first}
 use Rattle.state.specs.Slots.{freeSlot, slotAt, addresses, isNone, lowestFree}
 use Rattle.state.proofs.ListLaws.{unmapped}
 use Rattle.state.proofs.SlotLaws.{find-here, find-next, find-end}

@@ -3,8 +3,8 @@ use borrow.Author.Needs.{needs}
 use Prim.Native.Nat.{_+_, _-_, _≤_}
 use mathlib.Core.Path.{_≡_}
 use lib.ListN.{length, drop}
+use Rattle.checks.specs.Lists.{first}
 use Rattle.neighbour.specs.Record.{idle}
-use Rattle.state.specs.Lists.{first}
 use Rattle.state.specs.Slots.{freeSlot, slotAt, addresses, clash, slotOf}
 use Rattle.state.proofs.ListLaws.{unmapped}
 use Rattle.state.proofs.SlotLaws.{clash-is, clash-not, find-zero, find-here, find-next, find-end}

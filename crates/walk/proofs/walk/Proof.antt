@@ -1,7 +1,8 @@
 -- `walk::walk` meets its contract: the definition's tests, then what the walk of the blocks came to. Assumes nothing.
 use borrow.Author.Tests.{not-true, not-false}
+use Rattle.checks.proofs.Laws.{part-from}
 use Rattle.walk.proofs.Turns.{walk-short, walk-classless, walk-other, within-end, walk-judged}
-use Rattle.walk.proofs.Laws.{part-from, sides-sound}
+use Rattle.walk.proofs.Laws.{sides-sound}
 use lib.ListN.{length-drop}
 use mathlib.Core.Path.{sym, _∙_}
 use native.Mathlib.Omega.{arith}

@@ -1,7 +1,7 @@
--- Lists: a search, a test of each element, a test of each pair.
+-- Lists: a search, a test of each element, a test of each pair, lists one after the other.
 use Prim.Native.Nat.{ℕ, suc}
 use mathlib.Core.Bool.{Bool, true, cond, _&&_}
-use mathlib.Core.List.{List, [], _∷_}
+use mathlib.Core.List.{List, [], _∷_, _++_}
 
 module _ {A : Type 0} where
   -- the index of the first element that passes, or the length
@@ -18,3 +18,8 @@ module _ {A : Type 0} where
   unfoldable pub distinct : (A → A → Bool) → List A → Bool
   distinct apart [] = true
   distinct apart (x ∷ xs) = every (apart x) xs && distinct apart xs
+
+  -- the lists, one after the other
+  unfoldable pub join : List (List A) → List A
+  join [] = []
+  join (l ∷ rest) = l ++ join rest

@@ -1,12 +1,12 @@
 -- Laws of octets stored in a list, of rows read from numbers, and of truth values. Assumes nothing.
 use Prim.Native.Nat.{ℕ, zero, suc, _+_, _-_, _*_, _/_, _≤_, _<_}
-use native.Mathlib.Nat.{le-refl, add-zero}
+use native.Mathlib.Nat.{add-zero}
 use native.Mathlib.Omega.{arith}
-use mathlib.Core.Bool.{Bool, true, false, _&&_, false≢true}
+use mathlib.Core.Bool.{Bool, true, false, _&&_}
 use mathlib.Core.Path.{_≡_, refl, sym, ap, _∙_}
 use mathlib.Core.List.{List, [], _∷_, _++_}
-use lib.ListN.{length, take, drop, getD, set, length-append, length-drop}
-use lib.Seq.{take-all, take-nil, drop-nil, sets, length-sets, set-comm}
+use lib.ListN.{length, take, drop, getD, set, length-append}
+use lib.Seq.{take-nil, drop-nil, sets, length-sets, set-comm}
 use Rattle.nets.specs.Rows.{Row, rowsOf}
 use Rattle.blocks.specs.Steps.{Written}
 

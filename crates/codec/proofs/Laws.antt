@@ -1,12 +1,12 @@
 -- Laws of writing a message of any kind. Assumes nothing.
-use Prim.Native.Nat.{ℕ, _+_, _*_, _%_, _≤_, _<_}
+use Prim.Native.Nat.{ℕ, _+_, _%_, _≤_, _<_}
 use native.Mathlib.Omega.{arith}
 use borrow.Author.Tests.{le-leb, lt-leb, ne-eqb}
-use mathlib.Core.Path.{_≡_, refl, sym, ap, _∙_}
-use mathlib.Core.Bool.{Bool, true, false, cond, _&&_}
+use mathlib.Core.Path.{_≡_, refl, sym, _∙_}
+use mathlib.Core.Bool.{true, false}
 use mathlib.Core.List.{List, [], _∷_, _++_, append-assoc}
 use lib.ListN.{length, take, drop, length-append}
-use lib.Seq.{sets, sets-eq, drop-at, take-at, length-take-le, length-sets}
+use lib.Seq.{sets, sets-eq, drop-at, take-at, length-take-le}
 use lib.Dec.{leb, eqb}
 use types.Run.{OneOf, miss}
 use denote.Enum.Declared.{tagOf}
@@ -14,7 +14,7 @@ use Rattle.checks.proofs.Laws.{and-left, and-right, check-holds, check-fails}
 use Rattle.checks.specs.Checks.{check, ifOk}
 use Rattle.octets.specs.Buffer.{over}
 use Rattle.octets.specs.Checksum.{sealed}
-use Rattle.octets.proofs.Laws.{sealed-length, over-length, over-nothing}
+use Rattle.octets.proofs.Laws.{sealed-length, over-nothing}
 use Rattle.nets.specs.Classes.{goodNet}
 use Rattle.nets.specs.Rows.{Row, rowsOf}
 use Rattle.message.specs.Kinds.{kindOf, statusOf, statusAllowed}
@@ -27,7 +27,6 @@ use Rattle.blocks.specs.Writable.{writableNumbers, writableRows}
 use Rattle.blocks.proofs.Claims.{short, rows-most}
 use Rattle.codec.specs.Octets.{updateOctets, octetsOf}
 use Rattle.codec.specs.Writing.{rowsFit, roomFor, rowsAllowed, writable, writeAnswer, writeOctets, writeOf}
-use Rattle.codec.specs.declared.Written.{Written}
 
 -- ---- blocks first, then the head, then the checksum
 

@@ -1,15 +1,15 @@
 -- Laws of reading alone. Assumes nothing.
-use Prim.Native.Nat.{ℕ, _*_, _≤_}
+use Prim.Native.Nat.{ℕ, _≤_}
 use native.Mathlib.Omega.{arith}
 use borrow.Author.Tests.{leb-true, eq-eqb, ne-eqb}
-use mathlib.Core.Path.{_≡_, refl, sym, ap, _∙_}
+use mathlib.Core.Path.{_≡_, refl}
 use mathlib.Core.Bool.{Bool, true, false, cond}
 use mathlib.Core.List.{List, [], _∷_}
-use lib.ListN.{length, replicate}
-use lib.Dec.{leb, eqb}
+use lib.ListN.{length}
+use lib.Dec.{leb}
 use types.Run.{OneOf, miss}
 use denote.Enum.Declared.{tagOf}
-use Rattle.nets.specs.Rows.{Row, flat}
+use Rattle.nets.specs.Rows.{flat}
 use Rattle.message.specs.declared.Message.{Message}
 use Rattle.message.specs.declared.Message.the-variants.{Request, Confirm, Refuse, Cease, CeaseAck, Hello, IHeardYou, Poll, Update, Error}
 use Rattle.wire.specs.Reading.{headerAnswer, decodeOf}
@@ -23,9 +23,9 @@ use Rattle.walk.specs.Walked.{walkedOf, walkedNumber}
 use Rattle.walk.specs.declared.Walked.{Walked}
 use Rattle.walk.specs.declared.Walked.the-variants.{Rows, Broken, TooMany}
 use Rattle.walk.proofs.Walked as WalkedType
-use Rattle.rows.specs.Storing.{zeros, padded, isWhole, rowsIn, Storable}
-use Rattle.codec.specs.Reading.{most, mostNumbers, refusal, rowless, updateReading, meaningReading, kindReading, readOf}
-use Rattle.codec.specs.declared.Meaning.the-variants.{Good, Refused}
+use Rattle.rows.specs.Storing.{padded, isWhole, rowsIn, Storable}
+use Rattle.codec.specs.Reading.{most, refusal, rowless, updateReading, meaningReading, kindReading, readOf}
+use Rattle.codec.specs.declared.Meaning.the-variants.{Good}
 use Rattle.codec.specs.declared.Reading.{Reading}
 use Rattle.codec.proofs.Laws.{OtherKind}
 

@@ -1,18 +1,15 @@
 -- Laws of the calls: a refusal, and a verdict carried out. Assumes nothing.
 use Prim.Native.Nat.{ℕ, _≤_, _<_}
 use mathlib.Core.Path.{_≡_, refl, sym, ap, _∙_}
-use mathlib.Core.Bool.{Bool, true, false, not, _&&_}
+use mathlib.Core.Bool.{true, not, _&&_}
 use mathlib.Core.List.{List, []}
 use lib.ListN.{length}
-use Rattle.checks.specs.Checks.{ifOk}
 use Rattle.neighbour.specs.Record.{isUp}
 use Rattle.checks.proofs.Laws.{cond-elim, ifOk-new, ifOk-old}
 use Rattle.nets.specs.Rows.{Row, rowsOf}
 use Rattle.walk.specs.Body.{updateOf, rowsRead}
 use Rattle.codec.specs.Reading.{most}
 use Rattle.neighbour.specs.declared.Phase.{Phase}
-use Rattle.neighbour.specs.declared.Neighbour.{Neighbour}
-use Rattle.sent.specs.declared.Head.{Head}
 use Rattle.machine.specs.declared.Event.{Event}
 use Rattle.machine.specs.declared.After.{After}
 use Rattle.machine.specs.Step.{stepOf}
@@ -23,14 +20,13 @@ use Rattle.state.specs.Slots.{slotAt, slotOf}
 use Rattle.state.specs.Outcomes.{refusedOf}
 use Rattle.state.proofs.Theorems.{formed-settings}
 use Rattle.calls.specs.declared.Effect.{Effect}
-use Rattle.calls.specs.declared.Effect.the-variants.{Keep, Clear, Replace}
 use Rattle.calls.specs.declared.Verdict.{Verdict}
 use Rattle.calls.specs.Verdict.{effectOf, stepped, receiveVerdict}
 use Rattle.calls.specs.Carried.{outcomeAfter, tableAfter, bufferAfter}
 use Rattle.calls.specs.Calls.{eventChecks, messageChecks, noHead, eventVerdict, messageVerdict, eventOutcome, eventTable, eventBuffer, messageOutcome, messageTable, messageBuffer}
 use Rattle.home.proofs.Laws.{home-writable, none-writable}
 use Rattle.gateway.specs.Asked.{sendable, takes}
-use Rattle.gateway.proofs.Replies.{Fine, stepped-fine, receive-fine}
+use Rattle.gateway.proofs.Replies.{stepped-fine, receive-fine}
 use Rattle.gateway.proofs.Checks.{Passed, event-passed, message-passed}
 
 -- an event never replaces rows

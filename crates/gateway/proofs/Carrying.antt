@@ -1,6 +1,6 @@
 -- Laws of carrying a verdict out. Assumes nothing.
 use Prim.Native.Nat.{ℕ}
-use mathlib.Core.Path.{_≡_, refl, sym, ap, _∙_}
+use mathlib.Core.Path.{_≡_}
 use mathlib.Core.List.{List}
 use Rattle.nets.specs.Rows.{Row}
 use Rattle.state.specs.declared.Slot.{Slot}

@@ -1,15 +1,15 @@
 -- Laws of the checks that come before anything is done: the first that fails answers. Assumes nothing.
 use Prim.Native.Nat.{ℕ, _≤_, _<_}
 use borrow.Author.Tests.{eq-eqb, ne-eqb, eqb-true, le-leb, lt-leb, leb-true, lt-ltb, le-ltb, ltb-true}
-use mathlib.Core.Path.{_≡_, refl, sym, ap, _∙_}
-use mathlib.Core.Bool.{Bool, true, false}
+use mathlib.Core.Path.{_≡_, refl, sym, _∙_}
+use mathlib.Core.Bool.{true, false}
 use mathlib.Core.List.{List}
 use lib.Dec.{leb, eqb, ltb}
 use lib.ListN.{length}
 use Rattle.checks.proofs.Laws.{check-passed, check-holds, check-fails}
 use Rattle.checks.specs.Checks.{check}
 use Rattle.state.specs.declared.State.{State}
-use Rattle.state.specs.Slots.{slotOf, present}
+use Rattle.state.specs.Slots.{slotOf}
 use Rattle.state.specs.Formed.{stateFormed}
 use Rattle.calls.specs.Home.{goodHome}
 use Rattle.calls.specs.Calls.{eventChecks, messageChecks}

@@ -1,11 +1,11 @@
 -- Which replies there are: what the machine and a refusal send can be sent. Assumes nothing.
 use Prim.Native.Nat.{ℕ, _-_}
-use mathlib.Core.Path.{_≡_, refl, sym, ap, _∙_}
-use mathlib.Core.Bool.{Bool, true, false, cond, not, _&&_, false≢true}
+use mathlib.Core.Path.{_≡_, refl}
+use mathlib.Core.Bool.{Bool, true, false, not, _&&_, false≢true}
 use mathlib.Core.List.{List}
-use lib.Dec.{leb, eqb}
+use lib.Dec.{eqb}
 use lib.ListN.{length, getD}
-use Rattle.checks.proofs.Laws.{and-left, and-right, and-both, cond-elim}
+use Rattle.checks.proofs.Laws.{and-both, cond-elim}
 use Rattle.nets.specs.Classes.{goodNet}
 use Rattle.message.specs.Kinds.{plainStatus}
 use Rattle.message.specs.declared.Message.{Message}
@@ -16,7 +16,6 @@ use Rattle.wire.specs.declared.Decoded.the-variants as D
 use Rattle.walk.specs.Body.{UpdateRead, accepted, brokenAt, tooMany, updateOf}
 use Rattle.codec.specs.Reading.{most}
 use Rattle.calls.specs.declared.Effect.{Effect}
-use Rattle.calls.specs.declared.Effect.the-variants.{Keep, Clear, Replace}
 use Rattle.calls.specs.declared.Verdict.{Verdict}
 use Rattle.calls.specs.Verdict.{effectOf, stepped, refuses, headAt, errorTo, refuseTo, updateVerdict, carriedOut, phaseVerdict, bodyVerdict, kindVerdict, receiveVerdict}
 use Rattle.blocks.specs.Writable.{writableNumbers}
@@ -29,7 +28,7 @@ use Rattle.neighbour.specs.declared.Offer.{Offer}
 use Rattle.neighbour.specs.declared.Offer.the-variants.{Acceptable, Unacceptable}
 use Rattle.neighbour.specs.declared.Settings.{Settings}
 use Rattle.neighbour.specs.declared.Neighbour.{Neighbour}
-use Rattle.neighbour.specs.Record.{P3, under, isIdle, acquired, idle, waiting, withTimers, shifted, polled, leftIdle, initialised, isUp}
+use Rattle.neighbour.specs.Record.{under, isIdle, acquired, idle, waiting, shifted, polled, initialised, isUp}
 use Rattle.neighbour.specs.Rules.{judged, offerOf, inSequence, commanded, noted}
 use Rattle.sent.specs.declared.Head.{Head}
 use Rattle.sent.specs.Sent.{requestMessage, confirmMessage, refuseMessage, ceaseMessage, ceaseAckMessage, helloMessage, iHeardYouMessage, pollMessage, updateMessage, errorMessage}

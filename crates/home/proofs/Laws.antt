@@ -1,14 +1,14 @@
 -- Laws of a home list: its test along a loop over tails, and that an Update can carry a good one. Assumes nothing.
-use Prim.Native.Nat.{ℕ, _/_, _%_, _≤_, _<_}
+use Prim.Native.Nat.{ℕ, _%_, _≤_, _<_}
 use native.Mathlib.Omega.{arith}
-use borrow.Author.Tests.{eq-eqb, ne-eqb, eqb-true, leb-true, le-leb, lt-leb}
-use mathlib.Core.Path.{_≡_, refl, sym, ap, _∙_}
+use borrow.Author.Tests.{ne-eqb, eqb-true, leb-true, le-leb, lt-leb}
+use mathlib.Core.Path.{_≡_, refl}
 use mathlib.Core.Bool.{Bool, true, false, _&&_}
 use mathlib.Core.List.{List, [], _∷_}
-use lib.Dec.{leb, eqb}
+use lib.Dec.{eqb}
 use lib.ListN.{length, drop, getD}
 use Rattle.checks.specs.Lists.{every}
-use Rattle.checks.proofs.Laws.{and-left, and-right, and-both}
+use Rattle.checks.proofs.Laws.{and-left, and-right}
 use Rattle.nets.specs.Classes.{goodNet, onNet}
 use Rattle.nets.specs.Rows.{Row, rowsOf}
 use Rattle.neighbour.specs.declared.Settings.{Settings}

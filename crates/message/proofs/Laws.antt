@@ -9,8 +9,7 @@ use lib.Dec.{eqb}
 use Rattle.message.specs.Kinds.{typeOf, codeOf, among, allKinds, kindAt}
 use Rattle.message.specs.declared.Kind.{Kind}
 use Rattle.message.specs.declared.Kind.the-variants.{Request, Confirm, Refuse, Cease, CeaseAck, Hello, IHeardYou, Poll, Update, Error}
-use Rattle.message.specs.declared.Known.{Known}
-use Rattle.message.specs.declared.Known.the-variants.{Is, Unknown}
+use Rattle.message.specs.declared.Known.the-variants.{Is}
 
 among-pair : (ks : List Kind) (number code : ℕ) (k : Kind) → among ks number code ≡ Is k → (number ≡ typeOf k) × (code ≡ codeOf k)
 among-pair [] number code k e = let z : _≡_ {A = ℕ} 0 1 = cc in absurd (omega arith)

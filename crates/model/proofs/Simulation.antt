@@ -6,7 +6,7 @@ use mathlib.Core.Bool.{Bool, true, false, cond, false≢true}
 use mathlib.Core.List.{List, [], _++_}
 use lib.Dec.{ltb, eqb}
 use lib.ListN.{length, length-set}
-use borrow.Author.Tests.{eq-eqb, eqb-true, eqb-false, ltb-true}
+use borrow.Author.Tests.{eq-eqb, eqb-true, ltb-true}
 use Rattle.checks.proofs.Laws.{check-passed, and-left, and-right, check-holds}
 use Rattle.checks.specs.Checks.{check, ifOk}
 use Rattle.checks.specs.Lists.{every}

@@ -1,10 +1,10 @@
 -- Laws of net classes, over the width. Assumes nothing.
-use Prim.Native.Nat.{ℕ, _/_, _%_, _<_, _-_, _^_}
+use Prim.Native.Nat.{ℕ, _/_, _%_, _<_, _-_}
 use native.Mathlib.Nat.{one-le-pow}
 use native.Mathlib.Omega.{arith}
 use borrow.Author.Tests.{eq-eqb, ne-eqb}
-use mathlib.Core.Path.{_≡_, refl}
-use mathlib.Core.Bool.{Bool, true, false}
+use mathlib.Core.Path.{_≡_}
+use mathlib.Core.Bool.{true, false}
 use Rattle.nets.specs.Classes.{widthOf, hostSpan, goodNet, onNet}
 
 pub span-positive : (width : ℕ) → 0 < hostSpan width

@@ -1,13 +1,13 @@
 -- Laws of octets laid over a buffer, and of the one's complement sum. Assumes nothing.
-use Prim.Native.Nat.{ℕ, zero, suc, _+_, _-_, _*_, _/_, _%_, _≤_, _<_}
-use native.Mathlib.Nat.{le-refl, add-zero, zero-add}
+use Prim.Native.Nat.{ℕ, zero, suc, _+_, _-_, _/_, _%_, _≤_, _<_}
+use native.Mathlib.Nat.{add-zero, zero-add}
 use native.Mathlib.Omega.{arith}
-use borrow.Author.Tests.{lt-ltb, le-ltb, ltb-true, ltb-false}
+use borrow.Author.Tests.{lt-ltb, ltb-true, ltb-false}
 use mathlib.Core.Path.{_≡_, refl, sym, ap, _∙_}
 use mathlib.Core.Bool.{Bool, true, false, cond}
-use mathlib.Core.List.{List, [], _∷_, _++_, append-assoc}
+use mathlib.Core.List.{List, [], _∷_, _++_}
 use lib.ListN.{length, take, drop, getD, set, length-drop, length-append, length-set}
-use lib.Seq.{take-all, set-out, set-set, set-comm, set-getD, getD-set-same, getD-set-other, take-length, drop-drop, drop-append-add, sets, sets-eq}
+use lib.Seq.{set-out, take-length}
 use lib.Dec.{ltb}
 use Rattle.checks.proofs.Laws.{part-from}
 use Rattle.octets.specs.Numbers.{pairOf, Octets}

@@ -1,17 +1,16 @@
 -- Reading and writing undo each other. Assumes nothing.
-use Prim.Native.Nat.{ℕ, zero, suc, _+_, _*_, _/_, _%_, _≤_, _<_}
+use Prim.Native.Nat.{ℕ, zero, suc, _+_, _/_, _%_, _≤_, _<_}
 use native.Mathlib.Nat.{div-div-eq-div-mul, div-add-mod', mod-eq-of-lt}
 use native.Mathlib.Omega.{arith}
-use borrow.Author.Tests.{eqb-true, leb-true, leb-false}
+use borrow.Author.Tests.{eqb-true}
 use mathlib.Core.Path.{_≡_, refl, sym, ap, _∙_}
 use mathlib.Core.Bool.{Bool, true, false, cond}
 use mathlib.Core.List.{List, [], _∷_}
-use lib.ListN.{length, getD, set, drop, drop-of-length-le}
+use lib.ListN.{length, getD, drop, drop-of-length-le}
 use lib.Seq.{drop-cons}
-use lib.Dec.{eqb, leb}
 use Rattle.octets.specs.Numbers.{Octets, pairOf, quadOf, word16, word32, octets16, octets32}
 use Rattle.octets.specs.Checksum.{checksumOf, sealed, blanked}
-use Rattle.octets.proofs.Laws.{sealed-length, field-sealed, sealed-first, sealed-right, sealed-blanked, six-or-more}
+use Rattle.octets.proofs.Laws.{sealed-length, field-sealed, sealed-first, sealed-right, sealed-blanked}
 use Rattle.message.proofs.Laws.{kind-pair}
 use Rattle.message.specs.Kinds.{typeOf, codeOf, kindAt, kindOf, statusOf, statusAllowed, lengthAllowed}
 use Rattle.message.specs.declared.Kind.{Kind}
@@ -20,12 +19,11 @@ use Rattle.message.specs.declared.Known.{Known}
 use Rattle.message.specs.declared.Known.the-variants.{Is, Unknown}
 use Rattle.message.specs.declared.Message.{Message}
 use Rattle.message.specs.declared.Message.the-variants.{Request, Confirm, Refuse, Cease, CeaseAck, Hello, IHeardYou, Poll, Update, Error}
-use Rattle.wire.specs.declared.Decoded.{Decoded}
-use Rattle.wire.specs.declared.Decoded.the-variants.{Good, UnknownKind, BadStatus, BadLength}
+use Rattle.wire.specs.declared.Decoded.the-variants.{Good, BadStatus, BadLength}
 use Rattle.wire.specs.Reading.{statusAt, asnAt, sequenceAt, headerAnswer, meaningOf, decodeAs, decodeOf}
 use Rattle.fixed.specs.Writing.{headed, headOf, plainOctets, fixedOctets}
 use Rattle.roundtrip.specs.Fixed.{HeadFits, Fits, Allowed, ReservedZero, WritesReadBack, ReadsWriteBack}
-use Rattle.wire.proofs.Laws.{header-good, HeaderGood, header-passed}
+use Rattle.wire.proofs.Laws.{header-good, header-passed}
 
 -- ---- numbers and their octets
 

@@ -1,11 +1,10 @@
 -- Check 1, "state not well formed": 01's paragraph "Well formed means", with what fresh and add ask of their settings. It reads no table.
 use Prim.Native.Nat.{ℕ}
-use mathlib.Core.Bool.{Bool, true, false, cond, not, _&&_, _||_}
+use mathlib.Core.Bool.{Bool, cond, not, _&&_, _||_}
 use lib.Dec.{leb, eqb}
 use Rattle.checks.specs.Lists.{every, distinct}
 use Rattle.nets.specs.Classes.{goodNet, onNet}
 use Rattle.neighbour.specs.declared.Phase.{Phase}
-use Rattle.neighbour.specs.declared.Phase.the-variants.{Idle, Acquisition, Down, Up, Cease}
 use Rattle.neighbour.specs.declared.Settings.{Settings}
 use Rattle.neighbour.specs.Record.{isIdle, isUp}
 use Rattle.wellformed.specs.Formed.{allZero, wellFormed}

@@ -1,7 +1,5 @@
 -- What a call answers: a number, the lengths of its reply's two messages, and the state after it.
 use Prim.Native.Nat.{ℕ}
-use mathlib.Core.Bool.{Bool, cond}
-use lib.Dec.{eqb}
 use Rattle.checks.specs.Checks.{ifOk}
 use Rattle.state.specs.declared.State.{State}
 use Rattle.state.specs.declared.Outcome.{Outcome}

@@ -1,10 +1,8 @@
 -- Laws of a verdict on one neighbour. Assumes nothing.
 use Prim.Native.Nat.{ℕ}
 use native.Mathlib.Omega.{arith}
-use mathlib.Core.Path.{_≡_, refl, sym, ap, _∙_}
+use mathlib.Core.Path.{_≡_, refl}
 use mathlib.Core.List.{List, [], _∷_}
-use mathlib.Core.Bool.{Bool, true, false, cond}
-use lib.ListN.{length}
 use types.Run.{OneOf, miss}
 use denote.Enum.Declared.{tagOf}
 use Rattle.message.specs.declared.Message.{Message}
@@ -17,13 +15,11 @@ use Rattle.wire.proofs.Decoded as DecodedType
 use Rattle.walk.specs.Body.{UpdateRead, accepted, brokenAt, tooMany, updateOf}
 use Rattle.walk.specs.Body as Body
 use Rattle.walk.specs.Walked.{walkedOf}
-use Rattle.walk.specs.declared.Walked.{Walked}
-use Rattle.walk.specs.declared.Walked.the-variants.{Rows, Broken, TooMany}
+use Rattle.walk.specs.declared.Walked.the-variants.{Broken, TooMany}
 use Rattle.codec.specs.Reading.{most}
 use Rattle.codec.proofs.Laws.{OtherKind}
 use Rattle.neighbour.specs.declared.Settings.{Settings}
 use Rattle.neighbour.specs.declared.Neighbour.{Neighbour}
-use Rattle.calls.specs.declared.Verdict.{Verdict}
 use Rattle.calls.specs.Verdict.{refuses, errorTo, updateVerdict, carriedOut, phaseVerdict, bodyVerdict, kindVerdict}
 
 -- ---- what the walk said of an Update

@@ -5,7 +5,7 @@ use native.Mathlib.Omega.{arith}
 use lib.Pow.{pow-add}
 use borrow.Author.Tests.{ltb-false, leb-false, eqb-true, eqb-false, eq-eqb, ne-eqb, not-true}
 use mathlib.Core.Path.{_≡_, refl, sym, ap, subst, _∙_}
-use mathlib.Core.Bool.{Bool, true, false, not, _&&_}
+use mathlib.Core.Bool.{true, not}
 use mathlib.Core.List.{List, [], _∷_, _++_}
 use lib.Dec.{ltb, leb, eqb}
 use lib.ListN.{length, take, drop, getD}
@@ -15,7 +15,7 @@ use Rattle.nets.specs.Classes.{netWidth, firstOctet, widthOf, hostSpan, goodNet
 use Rattle.nets.specs.Rows.{Row}
 use Rattle.nets.proofs.Laws.{span-positive}
 use Rattle.walk.specs.Body.{digits, bigEndian, Got, got, stop, andThen, after, many, leftJustified, rowOfWidth, netRow, groupRows, hostWidth, gatewayOf, blockRows, bothSides}
-use Rattle.walk.proofs.Laws.{never, width-small, nonzero}
+use Rattle.walk.proofs.Laws.{width-small, nonzero}
 use Rattle.walk.proofs.Digits.{Octets, octets-drop, octets-take, digits-split, big-below}
 
 -- net part and host part make up the four octets

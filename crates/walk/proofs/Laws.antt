@@ -5,11 +5,11 @@ use native.Mathlib.Numerals.{add-one}
 use native.Mathlib.Omega.{arith}
 use borrow.Author.Tests.{ltb-false, leb-false, eqb-false, le-ltb, lt-leb, ne-eqb}
 use mathlib.Core.Path.{_≡_, refl, sym, ap, _∙_}
-use mathlib.Core.Bool.{Bool, true, false, cond}
+use mathlib.Core.Bool.{true, false}
 use mathlib.Core.List.{List, [], _∷_, _++_, append-assoc}
 use lib.Dec.{ltb, leb, eqb}
 use lib.ListN.{length, take, drop, getD, length-append, length-drop, take-append-drop}
-use lib.Seq.{take-all, take-at, drop-at, drop-cons, take-append-seam, getD-append-seam, drop-append-add, length-take-le, getD-take}
+use lib.Seq.{take-at, drop-at, drop-cons, take-append-seam, getD-append-seam, drop-append-add, length-take-le, getD-take}
 use Rattle.checks.proofs.Laws.{cond-elim}
 use Rattle.nets.specs.Classes.{netWidth, hostSpan}
 use Rattle.nets.specs.Rows.{Row}

@@ -1,4 +1,4 @@
-use Rattle.codec.specs.Writing.{rowsAllowed, writable}
+use Rattle.codec.specs.Writing.{writable}
 use borrow.Author.Needs.{needs}
 use Rattle.codec.proofs.is_writable.Statement.{statement}
 use Rattle.codec.proofs.is_writable.Tie as tie

@@ -1,6 +1,6 @@
 use Rattle.rows.specs.Storing.{zeros}
-use Rattle.codec.proofs.ReadLaws.{rows-accepted, accepted-room, update-read, update-refused, rowless-read, read-header-bad, read-kind-bad, read-kind-good}
-use Rattle.codec.specs.Reading.{refusal, rowless, updateReading, meaningReading, readOf}
+use Rattle.codec.proofs.ReadLaws.{rowless-read}
+use Rattle.codec.specs.Reading.{rowless, meaningReading}
 use borrow.Author.Needs.{needs}
 use Rattle.codec.proofs.read_rows.Statement.{statement}
 use Rattle.codec.proofs.read_rows.Tie as tie

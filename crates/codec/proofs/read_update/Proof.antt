@@ -1,6 +1,6 @@
-use mathlib.Core.Path.{_≡_, refl, _∙_, sym, ap}
-use Rattle.codec.proofs.ReadLaws.{rows-accepted, accepted-room, update-read, update-refused, rowless-read, read-header-bad, read-kind-bad, read-kind-good}
-use Rattle.codec.specs.Reading.{refusal, rowless, updateReading, meaningReading, readOf}
+use mathlib.Core.Path.{refl, _∙_, sym, ap}
+use Rattle.codec.proofs.ReadLaws.{rows-accepted, accepted-room, update-read, update-refused}
+use Rattle.codec.specs.Reading.{refusal}
 use native.Mathlib.Omega.{arith}
 use borrow.Author.Needs.{needs}
 use Rattle.codec.proofs.read_update.Statement.{statement}

@@ -1,6 +1,6 @@
-use mathlib.Core.Path.{_≡_, refl, _∙_, sym, ap}
+use mathlib.Core.Path.{refl}
 use Rattle.rows.specs.Storing.{zeros}
-use Rattle.codec.specs.Reading.{refusal, rowless, updateReading, meaningReading, readOf}
+use Rattle.codec.specs.Reading.{refusal}
 use Rattle.codec.proofs.refuse.Statement.{statement}
 use Rattle.codec.proofs.refuse.Tie as tie
 use Rattle.codec.proofs.refuse.Reads as reads

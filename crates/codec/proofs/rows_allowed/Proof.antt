@@ -1,6 +1,6 @@
-use mathlib.Core.Path.{_≡_, refl, _∙_, sym, ap}
+use mathlib.Core.Path.{sym}
 use Rattle.codec.specs.Writing.{rowsAllowed, writable}
-use Rattle.codec.proofs.Laws.{rows-few, blocks-few, end-fits, update-end, update-written, other-octets, other-rows, octets-short, write-3, write-16, write-0, write-rows}
+use Rattle.codec.proofs.Laws.{other-rows}
 use borrow.Author.Needs.{needs}
 use Rattle.codec.proofs.rows_allowed.Statement.{statement}
 use Rattle.codec.proofs.rows_allowed.Tie as tie

@@ -1,7 +1,7 @@
-use Rattle.codec.proofs.Laws.{other-room, room-most, allowed-fits}
-use mathlib.Core.Path.{_≡_, refl, _∙_, sym, ap}
+use Rattle.codec.proofs.Laws.{room-most, allowed-fits}
+use mathlib.Core.Path.{_∙_, sym}
 use borrow.Author.Tests.{not-true, not-false}
-use Rattle.codec.proofs.Laws.{rows-few, blocks-few, end-fits, update-end, update-written, other-octets, other-rows, octets-short, write-3, write-16, write-0, write-rows}
+use Rattle.codec.proofs.Laws.{octets-short, write-3, write-16, write-0, write-rows}
 use native.Mathlib.Omega.{arith}
 use borrow.Author.Needs.{needs}
 use Rattle.codec.proofs.write.Statement.{statement}

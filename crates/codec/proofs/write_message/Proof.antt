@@ -1,14 +1,11 @@
 use Rattle.checks.proofs.Laws.{and-left, and-right}
 use Rattle.codec.specs.Writing.{rowsFit, roomFor}
-use Rattle.codec.proofs.Laws.{other-room, room-most, allowed-fits}
+use Rattle.codec.proofs.Laws.{other-room}
 use Rattle.blocks.specs.Writable.{writableNumbers}
 use Rattle.nets.specs.Classes.{goodNet}
 use Rattle.nets.specs.Rows.{rowsOf}
-use mathlib.Core.Path.{_≡_, refl, _∙_, sym, ap}
-use Rattle.codec.specs.Writing.{rowsAllowed, writable}
-use Rattle.codec.specs.Octets.{updateOctets, octetsOf}
-use Rattle.codec.proofs.Laws.{rows-few, blocks-few, end-fits, update-end, update-written, other-octets, other-rows, octets-short, write-3, write-16, write-0, write-rows}
-use native.Mathlib.Omega.{arith}
+use Rattle.codec.specs.Octets.{octetsOf}
+use Rattle.codec.proofs.Laws.{other-octets}
 use borrow.Author.Needs.{needs}
 use Rattle.codec.proofs.write_message.Statement.{statement}
 use Rattle.codec.proofs.write_message.Tie as tie

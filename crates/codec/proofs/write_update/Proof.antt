@@ -1,6 +1,6 @@
 use lib.Seq.{length-take-le}
-use mathlib.Core.Path.{_≡_, refl, _∙_, sym, ap}
-use Rattle.codec.proofs.Laws.{rows-few, blocks-few, end-fits, update-end, update-written, other-octets, other-rows, octets-short, write-3, write-16, write-0, write-rows}
+use mathlib.Core.Path.{sym}
+use Rattle.codec.proofs.Laws.{rows-few, end-fits, update-end, update-written}
 use native.Mathlib.Omega.{arith}
 use borrow.Author.Needs.{needs}
 use Rattle.codec.proofs.write_update.Statement.{statement}

@@ -1,5 +1,5 @@
 use native.Mathlib.Omega.{arith}
-use Rattle.fixed.specs.Writing.{headOf, plainOctets, fixedOctets}
+use Rattle.fixed.specs.Writing.{headOf}
 use borrow.Author.Needs.{needs}
 use Rattle.fixed.proofs.store_head.Statement.{statement}
 use Rattle.fixed.proofs.store_head.Tie as tie

@@ -1,6 +1,6 @@
 use Rattle.fixed.specs.Writing.{headOf, plainOctets, fixedOctets}
 use Rattle.octets.proofs.Laws.{sealed-length}
-use mathlib.Core.Path.{_≡_, refl, _∙_, sym, ap}
+use mathlib.Core.Path.{_∙_, sym}
 use borrow.Author.Needs.{needs}
 use Rattle.fixed.proofs.write_fixed.Statement.{statement}
 use Rattle.fixed.proofs.write_fixed.Tie as tie

@@ -4,7 +4,7 @@ use Rattle.octets.proofs.Laws.{sealed-length}
 use lib.ListN.{length}
 use Prim.Native.Nat.{ℕ}
 use mathlib.Core.List.{List}
-use mathlib.Core.Path.{_≡_, refl, _∙_, sym, ap}
+use mathlib.Core.Path.{_∙_, ap}
 use borrow.Author.Needs.{needs}
 use Rattle.fixed.proofs.write_intervals.Statement.{statement}
 use Rattle.fixed.proofs.write_intervals.Tie as tie

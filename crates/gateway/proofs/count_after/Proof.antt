@@ -1,5 +1,5 @@
 -- `gateway::count_after` meets its contract. Assumes nothing.
-use Rattle.calls.specs.Carried.{countAfter, slotAfter, outcomeAfter}
+use Rattle.calls.specs.Carried.{countAfter}
 use borrow.Author.Needs.{needs}
 use Rattle.gateway.proofs.count_after.Statement.{statement}
 use Rattle.gateway.proofs.count_after.Tie as tie

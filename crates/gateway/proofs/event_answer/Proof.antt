@@ -1,6 +1,6 @@
 -- `gateway::event_answer` meets its contract, check by check. Assumes nothing.
 use borrow.Author.Tests.{not-true, not-false}
-use mathlib.Core.Path.{_≡_, refl, sym, _∙_}
+use mathlib.Core.Path.{sym, _∙_}
 use Rattle.gateway.proofs.Checks.{event-1, event-2, event-3, event-5, event-0}
 use borrow.Author.Needs.{needs}
 use Rattle.gateway.proofs.event_answer.Statement.{statement}

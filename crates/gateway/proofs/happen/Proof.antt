@@ -1,5 +1,5 @@
 -- `gateway::happen` meets its contract: a refusal, or the verdict carried out. Assumes nothing.
-use mathlib.Core.Path.{_≡_, refl, sym, _∙_}
+use mathlib.Core.Path.{refl}
 use borrow.Author.Needs.{needs}
 use mathlib.Core.List.{[]}
 use Rattle.gateway.proofs.Calls.{event-refused, event-index, event-asked, event-done}

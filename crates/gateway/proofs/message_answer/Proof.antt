@@ -1,6 +1,6 @@
 -- `gateway::message_answer` meets its contract, check by check. Assumes nothing.
 use borrow.Author.Tests.{not-true, not-false}
-use mathlib.Core.Path.{_≡_, refl, sym, _∙_}
+use mathlib.Core.Path.{sym, _∙_}
 use Rattle.gateway.proofs.Checks.{message-1, message-2, message-3, message-4, message-5, message-0}
 use borrow.Author.Needs.{needs}
 use Rattle.gateway.proofs.message_answer.Statement.{statement}

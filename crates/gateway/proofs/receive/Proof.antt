@@ -1,5 +1,5 @@
 -- `gateway::receive` meets its contract: a refusal, or the verdict carried out. Assumes nothing.
-use mathlib.Core.Path.{_≡_, refl, sym, _∙_}
+use mathlib.Core.Path.{refl}
 use borrow.Author.Needs.{needs}
 use Rattle.gateway.proofs.Calls.{message-refused, message-index, message-asked, message-done}
 use Rattle.gateway.proofs.receive.Statement.{statement}

@@ -1,5 +1,5 @@
 -- `gateway::slot_after` meets its contract. Assumes nothing.
-use Rattle.calls.specs.Carried.{countAfter, slotAfter, outcomeAfter}
+use Rattle.calls.specs.Carried.{slotAfter}
 use borrow.Author.Needs.{needs}
 use Rattle.gateway.proofs.slot_after.Statement.{statement}
 use Rattle.gateway.proofs.slot_after.Tie as tie

@@ -1,6 +1,6 @@
 use mathlib.Core.Bool.{and-false}
-use Rattle.message.specs.Kinds.{kindAt, plainStatus, refusalStatus, markedStatus}
-use borrow.Author.Tests.{lt-ltb, le-ltb, le-leb, lt-leb, eq-eqb, ne-eqb}
+use Rattle.message.specs.Kinds.{kindAt}
+use borrow.Author.Tests.{ne-eqb}
 use borrow.Author.Needs.{needs}
 use Rattle.message.proofs.kind_at.Statement.{statement}
 use Rattle.message.proofs.kind_at.Tie as tie

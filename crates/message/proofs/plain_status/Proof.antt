@@ -1,5 +1,5 @@
 use mathlib.Core.Path.{refl}
-use Rattle.message.specs.Kinds.{kindAt, plainStatus, refusalStatus, markedStatus}
+use Rattle.message.specs.Kinds.{plainStatus}
 use Rattle.message.proofs.plain_status.Statement.{statement}
 use Rattle.message.proofs.plain_status.Tie as tie
 use Rattle.message.proofs.plain_status.Reads as reads

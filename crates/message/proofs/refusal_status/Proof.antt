@@ -1,5 +1,5 @@
-use Rattle.message.specs.Kinds.{kindAt, plainStatus, refusalStatus, markedStatus}
-use borrow.Author.Tests.{lt-ltb, le-ltb, le-leb, lt-leb, eq-eqb, ne-eqb}
+use Rattle.message.specs.Kinds.{refusalStatus}
+use borrow.Author.Tests.{le-leb, lt-leb, ne-eqb}
 use Rattle.message.proofs.refusal_status.Statement.{statement}
 use Rattle.message.proofs.refusal_status.Tie as tie
 use Rattle.message.proofs.refusal_status.Reads as reads

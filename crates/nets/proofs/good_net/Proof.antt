@@ -1,4 +1,4 @@
-use Rattle.nets.proofs.Laws.{span-positive, good-classless, off-classless, good-yes, good-no, on-yes, on-no}
+use Rattle.nets.proofs.Laws.{span-positive, good-classless, good-yes, good-no}
 use borrow.Author.Needs.{needs}
 use Rattle.nets.proofs.good_net.Statement.{statement}
 use Rattle.nets.proofs.good_net.Tie as tie

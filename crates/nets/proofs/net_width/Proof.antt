@@ -1,5 +1,5 @@
 use Rattle.nets.specs.Classes.{netWidth}
-use borrow.Author.Tests.{lt-ltb, le-ltb, le-leb, lt-leb, eq-eqb, ne-eqb}
+use borrow.Author.Tests.{lt-ltb, le-ltb}
 use Rattle.nets.proofs.net_width.Statement.{statement}
 use Rattle.nets.proofs.net_width.Tie as tie
 use Rattle.nets.proofs.net_width.Reads as reads

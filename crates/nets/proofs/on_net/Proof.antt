@@ -1,4 +1,4 @@
-use Rattle.nets.proofs.Laws.{span-positive, good-classless, off-classless, good-yes, good-no, on-yes, on-no}
+use Rattle.nets.proofs.Laws.{span-positive, off-classless, on-yes, on-no}
 use borrow.Author.Needs.{needs}
 use Rattle.nets.proofs.on_net.Statement.{statement}
 use Rattle.nets.proofs.on_net.Tie as tie

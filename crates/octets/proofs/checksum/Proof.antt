@@ -1,11 +1,10 @@
 use lib.Seq.{length-take-le}
 use native.Mathlib.Omega.{arith}
-use lib.ListN.{length, length-take, length-drop, take, drop, set}
-use Prim.Native.Nat.{ℕ, _-_, _<_, _≤_}
-use mathlib.Core.Path.{_≡_, refl, _∙_, sym, ap}
+use Prim.Native.Nat.{ℕ, _-_, _<_}
+use mathlib.Core.Path.{_∙_, sym, ap}
 use Rattle.checks.proofs.Laws.{part-from}
 use Rattle.octets.proofs.Laws.{blanked-short, blanked-front, blanked-rest}
-use Rattle.octets.specs.Checksum.{onesAdd, onesSum, checksumOf, sealed}
+use Rattle.octets.specs.Checksum.{checksumOf}
 use borrow.Author.Needs.{needs}
 use Rattle.octets.proofs.checksum.Statement.{statement}
 use Rattle.octets.proofs.checksum.Tie as tie

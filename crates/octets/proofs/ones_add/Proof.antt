@@ -1,5 +1,5 @@
-use Rattle.octets.specs.Checksum.{onesAdd, onesSum, checksumOf, sealed}
-use borrow.Author.Tests.{lt-ltb, le-ltb, le-leb, lt-leb, eq-eqb, ne-eqb}
+use Rattle.octets.specs.Checksum.{onesAdd}
+use borrow.Author.Tests.{lt-ltb, le-ltb}
 use borrow.Author.Needs.{needs}
 use Rattle.octets.proofs.ones_add.Statement.{statement}
 use Rattle.octets.proofs.ones_add.Tie as tie

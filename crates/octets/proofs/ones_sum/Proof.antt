@@ -1,9 +1,9 @@
 use borrow.Author.Needs.{needs}
 use lib.ListN.{length, length-drop}
-use mathlib.Core.Path.{_≡_, refl, _∙_, sym, ap}
+use mathlib.Core.Path.{_≡_, refl, _∙_, sym}
 use Rattle.checks.proofs.Laws.{part-from}
-use Rattle.octets.proofs.Laws.{over-copied, sum-turn, sum-odd, sum-done}
-use Rattle.octets.specs.Checksum.{onesAdd, onesSum, checksumOf, sealed}
+use Rattle.octets.proofs.Laws.{sum-turn, sum-odd, sum-done}
+use Rattle.octets.specs.Checksum.{onesSum}
 use native.Mathlib.Omega.{arith}
 use Rattle.octets.proofs.ones_sum.Statement.{statement}
 use Rattle.octets.proofs.ones_sum.Tie as tie

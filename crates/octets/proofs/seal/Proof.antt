@@ -1,7 +1,6 @@
 use lib.ListN.{length-set}
 use Rattle.octets.proofs.Laws.{sealed-none, sealed-half}
-use mathlib.Core.Path.{_≡_, refl, _∙_, sym, ap}
-use Rattle.octets.specs.Checksum.{onesAdd, onesSum, checksumOf, sealed}
+use Rattle.octets.specs.Checksum.{sealed}
 use borrow.Author.Needs.{needs}
 use Rattle.octets.proofs.seal.Statement.{statement}
 use Rattle.octets.proofs.seal.Tie as tie

@@ -1,6 +1,5 @@
 use mathlib.Core.Path.{_∙_}
-use Rattle.checks.proofs.Laws.{part-from}
-use Rattle.octets.proofs.Laws.{over-copied, sum-turn, sum-odd, sum-done}
+use Rattle.octets.proofs.Laws.{over-copied}
 use borrow.Author.Needs.{needs}
 use Rattle.octets.proofs.store.Statement.{statement}
 use Rattle.octets.proofs.store.Tie as tie

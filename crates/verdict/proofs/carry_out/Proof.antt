@@ -1,5 +1,5 @@
-use mathlib.Core.Path.{_≡_, refl, _∙_, sym, ap}
-use Rattle.calls.specs.Verdict.{effectOf, stepped, refuses, headAt, errorTo, refuseTo, updateVerdict, carriedOut, phaseVerdict, bodyVerdict, kindVerdict, receiveVerdict}
+use mathlib.Core.Path.{_∙_}
+use Rattle.calls.specs.Verdict.{carriedOut}
 use borrow.Author.Needs.{needs}
 use Rattle.verdict.proofs.carry_out.Statement.{statement}
 use Rattle.verdict.proofs.carry_out.Tie as tie

@@ -1,5 +1,5 @@
 use borrow.Author.Tests.{not-true, not-false}
-use Rattle.calls.specs.Verdict.{effectOf, stepped, refuses, headAt, errorTo, refuseTo, updateVerdict, carriedOut, phaseVerdict, bodyVerdict, kindVerdict, receiveVerdict}
+use Rattle.calls.specs.Verdict.{effectOf}
 use borrow.Author.Needs.{needs}
 use Rattle.verdict.proofs.effect_of.Statement.{statement}
 use Rattle.verdict.proofs.effect_of.Tie as tie

@@ -1,4 +1,4 @@
-use Rattle.calls.specs.Verdict.{effectOf, stepped, refuses, headAt, errorTo, refuseTo, updateVerdict, carriedOut, phaseVerdict, bodyVerdict, kindVerdict, receiveVerdict}
+use Rattle.calls.specs.Verdict.{headAt}
 use borrow.Author.Needs.{needs}
 use Rattle.verdict.proofs.head_of.Statement.{statement}
 use Rattle.verdict.proofs.head_of.Tie as tie

@@ -1,8 +1,8 @@
-use borrow.Author.Tests.{lt-ltb, le-ltb, le-leb, lt-leb, eq-eqb, ne-eqb}
+use borrow.Author.Tests.{eq-eqb, ne-eqb}
 use borrow.Author.Tests.{not-true, not-false}
-use Rattle.verdict.proofs.Laws.{update-broken, update-many, other-body, update-body, kind-refused}
-use mathlib.Core.Path.{_≡_, refl, _∙_, sym, ap}
-use Rattle.calls.specs.Verdict.{effectOf, stepped, refuses, headAt, errorTo, refuseTo, updateVerdict, carriedOut, phaseVerdict, bodyVerdict, kindVerdict, receiveVerdict}
+use Rattle.verdict.proofs.Laws.{kind-refused}
+use mathlib.Core.Path.{_∙_, ap}
+use Rattle.calls.specs.Verdict.{refuses, kindVerdict, receiveVerdict}
 use borrow.Author.Needs.{needs}
 use Rattle.verdict.proofs.receive.Statement.{statement}
 use Rattle.verdict.proofs.receive.Tie as tie

@@ -1,5 +1,5 @@
-use mathlib.Core.Path.{_≡_, refl, _∙_, sym, ap}
-use Rattle.calls.specs.Verdict.{effectOf, stepped, refuses, headAt, errorTo, refuseTo, updateVerdict, carriedOut, phaseVerdict, bodyVerdict, kindVerdict, receiveVerdict}
+use mathlib.Core.Path.{refl}
+use Rattle.calls.specs.Verdict.{refuses}
 use Rattle.verdict.proofs.refuse.Statement.{statement}
 use Rattle.verdict.proofs.refuse.Tie as tie
 use Rattle.verdict.proofs.refuse.Reads as reads

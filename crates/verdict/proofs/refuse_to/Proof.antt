@@ -1,7 +1,7 @@
-use borrow.Author.Tests.{lt-ltb, le-ltb, le-leb, lt-leb, eq-eqb, ne-eqb}
+use borrow.Author.Tests.{le-leb, lt-leb, eq-eqb, ne-eqb}
 use borrow.Author.Tests.{not-true, not-false}
 use Rattle.message.specs.Kinds.{plainStatus}
-use Rattle.calls.specs.Verdict.{effectOf, stepped, refuses, headAt, errorTo, refuseTo, updateVerdict, carriedOut, phaseVerdict, bodyVerdict, kindVerdict, receiveVerdict}
+use Rattle.calls.specs.Verdict.{refuseTo}
 use borrow.Author.Needs.{needs}
 use Rattle.verdict.proofs.refuse_to.Statement.{statement}
 use Rattle.verdict.proofs.refuse_to.Tie as tie

@@ -1,4 +1,4 @@
-use Rattle.calls.specs.Verdict.{effectOf, stepped, refuses, headAt, errorTo, refuseTo, updateVerdict, carriedOut, phaseVerdict, bodyVerdict, kindVerdict, receiveVerdict}
+use Rattle.calls.specs.Verdict.{stepped}
 use borrow.Author.Needs.{needs}
 use Rattle.verdict.proofs.step_verdict.Statement.{statement}
 use Rattle.verdict.proofs.step_verdict.Tie as tie

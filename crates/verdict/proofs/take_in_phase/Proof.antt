@@ -1,4 +1,4 @@
-use Rattle.calls.specs.Verdict.{effectOf, stepped, refuses, headAt, errorTo, refuseTo, updateVerdict, carriedOut, phaseVerdict, bodyVerdict, kindVerdict, receiveVerdict}
+use Rattle.calls.specs.Verdict.{phaseVerdict}
 use borrow.Author.Needs.{needs}
 use Rattle.verdict.proofs.take_in_phase.Statement.{statement}
 use Rattle.verdict.proofs.take_in_phase.Tie as tie

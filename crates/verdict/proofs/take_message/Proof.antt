@@ -1,6 +1,5 @@
-use Rattle.verdict.proofs.Laws.{update-broken, update-many, other-body, update-body, kind-refused}
-use mathlib.Core.Path.{_≡_, refl, _∙_, sym, ap}
-use Rattle.calls.specs.Verdict.{effectOf, stepped, refuses, headAt, errorTo, refuseTo, updateVerdict, carriedOut, phaseVerdict, bodyVerdict, kindVerdict, receiveVerdict}
+use Rattle.verdict.proofs.Laws.{other-body, update-body}
+use mathlib.Core.Path.{_∙_}
 use borrow.Author.Needs.{needs}
 use Rattle.verdict.proofs.take_message.Statement.{statement}
 use Rattle.verdict.proofs.take_message.Tie as tie

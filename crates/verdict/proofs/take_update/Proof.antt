@@ -1,8 +1,8 @@
 use native.Mathlib.Omega.{arith}
 use Rattle.codec.proofs.ReadLaws.{rows-accepted}
-use Rattle.verdict.proofs.Laws.{update-broken, update-many, other-body, update-body, kind-refused}
-use mathlib.Core.Path.{_≡_, refl, _∙_, sym, ap}
-use Rattle.calls.specs.Verdict.{effectOf, stepped, refuses, headAt, errorTo, refuseTo, updateVerdict, carriedOut, phaseVerdict, bodyVerdict, kindVerdict, receiveVerdict}
+use Rattle.verdict.proofs.Laws.{update-broken, update-many}
+use mathlib.Core.Path.{_∙_, sym, ap}
+use Rattle.calls.specs.Verdict.{refuses, updateVerdict}
 use borrow.Author.Needs.{needs}
 use Rattle.verdict.proofs.take_update.Statement.{statement}
 use Rattle.verdict.proofs.take_update.Tie as tie

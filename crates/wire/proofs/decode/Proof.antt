@@ -1,5 +1,5 @@
 use borrow.Author.Tests.{not-true, not-false}
-use Rattle.wire.specs.Reading.{headerAnswer, meaningOf, decodeAs, decodeOf, numberOf}
+use Rattle.wire.specs.Reading.{decodeAs, decodeOf}
 use borrow.Author.Needs.{needs}
 use Rattle.wire.proofs.decode.Statement.{statement}
 use Rattle.wire.proofs.decode.Tie as tie

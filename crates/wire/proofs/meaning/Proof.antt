@@ -1,4 +1,4 @@
-use Rattle.wire.specs.Reading.{headerAnswer, meaningOf, decodeAs, decodeOf, numberOf}
+use Rattle.wire.specs.Reading.{meaningOf}
 use borrow.Author.Needs.{needs}
 use Rattle.wire.proofs.meaning.Statement.{statement}
 use Rattle.wire.proofs.meaning.Tie as tie

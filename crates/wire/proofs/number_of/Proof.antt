@@ -1,4 +1,4 @@
-use Rattle.wire.specs.Reading.{headerAnswer, meaningOf, decodeAs, decodeOf, numberOf}
+use Rattle.wire.specs.Reading.{numberOf}
 use borrow.Author.Needs.{needs}
 use Rattle.wire.proofs.number_of.Statement.{statement}
 use Rattle.wire.proofs.number_of.Tie as tie

@@ -1,0 +1,1 @@
+// 01's bench sheet: the cases and the claim are in specs/, the proof in proofs/.

@@ -7,7 +7,7 @@ use lib.Dec.{eqb}
 use lib.ListN.{getD}
 use borrow.Author.Tests.{eqb-true}
 use Rattle.checks.proofs.Laws.{and-left, and-right}
-use Rattle.nets.specs.Rows.{Row, flat}
+use Rattle.nets.specs.Rows.{flat}
 use Rattle.message.specs.declared.Message.{Message}
 use Rattle.message.specs.declared.Message.the-variants.{Request, Confirm, Refuse, Cease, CeaseAck, Hello, IHeardYou, Poll, Update, Error}
 use Rattle.rows.specs.Storing.{padded}
@@ -33,7 +33,7 @@ use Rattle.calls.specs.declared.Effect.the-variants.{Keep, Clear, Replace}
 use Rattle.calls.specs.declared.Verdict.{Verdict}
 use Rattle.calls.specs.Calls.{messageOutcome, messageTable, messageBuffer}
 use Rattle.bench.specs.Same.{sameNumbers, messageNumbers, sameMessage, sameMeaning, sameReading, phaseNumber, modeNumber, neighbourNumbers, sameNeighbour, sameReply, sameEffect, sameVerdict, sameSlot, sameSlots, sameSettings, sameState, sameOutcome}
-use Rattle.bench.specs.Cases.{Case, reads, refused, received, happens, called, Left, goodReading, badReading, zeroTable, zeroBuffer, leaves, passes, Holds, PassingHolds}
+use Rattle.bench.specs.Cases.{reads, refused, received, happens, called, goodReading, badReading, zeroTable, zeroBuffer, leaves, passes, PassingHolds}
 
 never : {A : Type 0} → false ≡ true → A
 never e = absurd (false≢true e)

@@ -16,11 +16,12 @@ use Rattle.state.specs.Slots.{freeSlot, slotAt}
 use Rattle.state.specs.Formed.{stateFormed}
 use Rattle.state.proofs.Theorems.{formed-slot, free-is-zero}
 use Rattle.calls.specs.Carried.{partAt}
-use Rattle.model.specs.Model.{Call, Slot, free, used, modelFrom, saidFrom}
-use Rattle.model.specs.Theorem.{Gateway, gatewayFrom, seenFrom, cell, stateOf, rowsHeld, part, tableOf, shown, unused, Sensible, slotFrom, slotsFrom, modelOf, FromAnyState}
+use Rattle.model.specs.Model.{Call, Slot, free, used, slotIn, modelFrom, saidFrom}
+use Rattle.model.specs.Theorem.{Gateway, gatewayFrom, seenFrom, cell, stateOf, rowsHeld, part, tableOf, shown, rowsAt, carriesOctets, listsNothing, unused, Sensible, Listable, slotFrom, slotsFrom, modelOf, FromAnyState}
 use Rattle.model.proofs.Represent.{sound, Good}
 use Rattle.model.proofs.Simulation.{represent}
-use Rattle.model.proofs.Theorem.{run-from, seen-from}
+use Rattle.model.proofs.Listed.{marked, Marked}
+use Rattle.model.proofs.Theorem.{run-from, octets-heed, unlisted-heed, seen-from, rows-read}
 
 -- whole rows, as many as there are threes of numbers
 rows-count : (l : List ℕ) (k : ℕ) → length l ≡ 3 * k → length (rowsOf l) ≡ k
@@ -99,6 +100,11 @@ module _ (slot : Stored.Slot) (numbers : List ℕ) (k : Known slot numbers) wher
       go : (b : Bool) → eqb (slot .address) 0 ≡ b → sound (slotFrom slot numbers) ≡ true
       go true e = ap sound (slot-free (eqb-true (slot .address) 0 e))
       go false e = ap sound (slot-used e) ∙ ap not e
+
+every-below : {A : Type 0} (p : A → Bool) (l : List A) (d : A) → ((i : ℕ) → i < length l → p (getD l i d) ≡ true) → every p l ≡ true
+unfolding every
+every-below p [] d h = refl
+every-below p (x ∷ xs) d h = rw (h 0 (omega arith)) (every-below p xs d (λ i q. h (suc i) (omega (arith, q))))
 
 -- ---- slot by slot
 
@@ -186,8 +192,23 @@ module _ (b : Gateway) (s : Sensible b) where
   unfolding represent
   back-table calls = ap (λ (x : Gateway). x .table) (run-back calls)
 
-  back-seen : (calls : List Call) → seenFrom b calls ≡ shown calls (saidFrom (modelOf b) calls)
-  back-seen calls = ap (λ (x : Gateway). seenFrom x calls) (sym model-back) ∙ seen-from (modelOf b) good-back calls
+  -- the rows read off the table are the model's
+  slot-rows : (j : ℕ) → j < 8 → rowsAt b j ≡ rowsHeld (slotIn (modelOf b) j)
+  unfolding represent
+  slot-rows j j8 = ap (λ (x : Gateway). rowsAt x j) (sym model-back) ∙ rows-read (modelOf b) good-back j j8
+
+  marked-back : Listable b → Marked (modelOf b)
+  unfolding slotIn marked
+  marked-back h = every-below marked ((modelOf b) .slots) free (λ j q. let j8 : j < 8 = omega (arith, q, eight-back) in rw (← (slot-rows j j8)) (h j j8))
+
+  back-seen : Listable b → (calls : List Call) → every carriesOctets calls ≡ true → seenFrom b calls ≡ shown calls (saidFrom (modelOf b) calls)
+  back-seen h calls e =
+      ap (λ (x : Gateway). seenFrom x calls) (sym model-back)
+      ∙ seen-from (modelOf b) good-back calls (octets-heed (modelOf b) good-back (marked-back h) calls e)
+
+  back-unlisted : (calls : List Call) → every listsNothing calls ≡ true → seenFrom b calls ≡ shown calls (saidFrom (modelOf b) calls)
+  back-unlisted calls e =
+      ap (λ (x : Gateway). seenFrom x calls) (sym model-back) ∙ seen-from (modelOf b) good-back calls (unlisted-heed (modelOf b) good-back calls e)
 
 pub from-any-state : FromAnyState
-from-any-state = record { is-state = state-back; is-table = table-back; state = back-state; table = back-table; seen = back-seen }
+from-any-state = record { is-state = state-back; is-table = table-back; state = back-state; table = back-table; seen = back-seen; seen-unlisted = back-unlisted }

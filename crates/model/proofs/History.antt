@@ -23,19 +23,19 @@ use Rattle.machine.specs.declared.Event.the-variants.{Start, Stop, Tick}
 use Rattle.machine.specs.Step.{stepOf}
 use Rattle.state.specs.Slots.{freeSlot}
 use Rattle.state.specs.Claims.{SlotGood}
-use Rattle.model.specs.Model.{isFree, hasAddress, noOctets, Said, Call, add, remove, start, stop, tick, receive, Slot, free, used, Model, slotIn, put, placeOf, vacancy, silent, whenOk, addAnswer, removeAnswer, addTurn, removeTurn, noMove, rowsIn, moved, eventMove, isUpdate, answerTo, refusalReply, afterMessage, rowsAfter, messageMove, eventAnswer, messageAnswer, turnAt, eventTurn, messageTurn, step, model, modelFrom, empty}
-use Rattle.model.specs.History.{isUpSlot, saysUpdate, accepts, rowsSaid, upAfter, told, lastFrom, lastAccepted, about, isElsewhere, takesNoSlot}
+use Rattle.model.specs.Model.{isFree, hasAddress, noOctets, Said, Call, add, remove, start, stop, tick, receive, listing, Slot, free, used, Model, slotIn, put, placeOf, vacancy, silent, whenOk, addAnswer, removeAnswer, addTurn, removeTurn, noMove, rowsIn, moved, eventMove, isUpdate, answerTo, refusalReply, afterMessage, rowsAfter, messageMove, eventAnswer, messageAnswer, turnAt, eventTurn, messageTurn, listingTurn, step, model, modelFrom, empty}
+use Rattle.model.specs.History.{isUpSlot, saysUpdate, accepts, rowsSaid, upAfter, told, lastFrom, lastAccepted, isAbout, isElsewhere, takesNoSlot}
 use Rattle.model.specs.Theorem.{cell, rowsHeld}
 use Rattle.model.proofs.Represent.{sound, Good, good-at}
 use Rattle.model.proofs.Moves.{no-rows}
 use Rattle.model.proofs.Simulation.{good-step, spoken-answer, found-used, found-free, add-free, remove-below, event-below, message-below}
 
 -- the rows of a slot after a call, by the slot before it and whether an Update was accepted that says these
-abbrev Tells : Slot → Slot → Bool → List Row → Type 0
+abbrev pub Tells : Slot → Slot → Bool → List Row → Type 0
 Tells old new took read = rowsHeld new ≡ cond (isUpSlot new) (cond took read (cond (isUpSlot old) (rowsHeld old) [])) []
 
 -- 01: "A slot not Up has no rows."
-none-held : (slot : Slot) → SlotGood (cell slot) → isUpSlot slot ≡ false → rowsHeld slot ≡ []
+pub none-held : (slot : Slot) → SlotGood (cell slot) → isUpSlot slot ≡ false → rowsHeld slot ≡ []
 unfolding cell isUpSlot rowsHeld
 none-held free good e = refl
 none-held (used address asn n rows) good e = no-rows rows (good .none e)
@@ -88,7 +88,7 @@ kind-tells g n o D.BadLength rows b h = go (isUp (n .phase)) h
     go false k = rw (k refl)
 
 -- a refusal keeps the slot
-message-stays : (g : Settings) (o : List ℕ) (address asn : ℕ) (n : Neighbour) (rows : List Row) → eqb (answerTo g asn n o) 0 ≡ false
+pub message-stays : (g : Settings) (o : List ℕ) (address asn : ℕ) (n : Neighbour) (rows : List Row) → eqb (answerTo g asn n o) 0 ≡ false
     → messageMove g o (used address asn n rows) ≡ record { answer = answerTo g asn n o; reply = refusalReply g n o (answerTo g asn n o); slot = used address asn n rows }
 unfolding messageMove whenOk
 message-stays g o address asn n rows e = rw e
@@ -162,14 +162,15 @@ module _ (m : Model) (ok : Good m) (j : ℕ) (j8 : j < 8) where
       (message-tells (m .settings) o (slotIn m j) (good-at m ok j)))
 
   -- any call
-  step-told : (call : Call) → Tells (slotIn m j) (slotIn ((step call m) .model) j) (accepts m j call) (rowsSaid (m .settings) call)
-  unfolding step accepts rowsSaid addTurn removeTurn isUpSlot rowsHeld idle
+  pub step-told : (call : Call) → Tells (slotIn m j) (slotIn ((step call m) .model) j) (accepts m j call) (rowsSaid (m .settings) call)
+  unfolding step accepts rowsSaid addTurn removeTurn listingTurn isUpSlot rowsHeld idle
   step-told (add address asn) = put-tells (addAnswer m address asn) (vacancy m) (used address asn idle []) false [] (λ _. refl) (λ _. refl) (λ _ _. refl)
   step-told (remove address) = put-tells (removeAnswer m address) (placeOf m address) free false [] (λ _. refl) (λ _. refl) (λ _ _. refl)
   step-told (start a buffer) = event-told Start a buffer []
   step-told (stop a buffer) = event-told Stop a buffer []
   step-told (tick a buffer) = event-told Tick a buffer []
   step-told (receive a o home buffer) = message-told a o home buffer
+  step-told (listing buffer) = still-tells (slotIn m j) [] (good-at m ok j)
 
   step-told-on : (call : Call) (g : Settings) → m .settings ≡ g → Tells (slotIn m j) (slotIn ((step call m) .model) j) (accepts m j call) (rowsSaid g call)
   step-told-on call g e =
@@ -182,7 +183,7 @@ unfolding modelFrom
 model-append m [] more = refl
 model-append m (call ∷ rest) more = model-append ((step call m) .model) rest more
 
-model-next : (g : Settings) (before : List Call) (call : Call) → model g (before ++ (call ∷ [])) ≡ (step call (model g before)) .model
+pub model-next : (g : Settings) (before : List Call) (call : Call) → model g (before ++ (call ∷ [])) ≡ (step call (model g before)) .model
 unfolding model modelFrom
 model-next g before call = model-append (empty g) before (call ∷ [])
 
@@ -195,13 +196,14 @@ when-settings k i slot m = go (eqb k 0)
     go false = refl
 
 pub step-settings : (call : Call) (m : Model) → ((step call m) .model) .settings ≡ m .settings
-unfolding step addTurn removeTurn eventTurn messageTurn turnAt
+unfolding step addTurn removeTurn eventTurn messageTurn listingTurn turnAt
 step-settings (add address asn) m = when-settings _ _ _ m
 step-settings (remove address) m = when-settings _ _ _ m
 step-settings (start a buffer) m = when-settings _ _ _ m
 step-settings (stop a buffer) m = when-settings _ _ _ m
 step-settings (tick a buffer) m = when-settings _ _ _ m
 step-settings (receive a o home buffer) m = when-settings _ _ _ m
+step-settings (listing buffer) m = refl
 
 told-next : (g : Settings) (j : ℕ) → j < 8 → (before : List Call) (call : Call) → Good (model g before) → (model g before) .settings ≡ g
     → rowsHeld (slotIn (model g (before ++ (call ∷ []))) j) ≡ told g j before call (rowsHeld (slotIn (model g before) j))
@@ -260,13 +262,14 @@ module _ (m : Model) (ok : Good m) (j : ℕ) where
     free-other h q = false≢true (sym (ap isFree (ap (slotIn m) q ∙ here)) ∙ found-free m ok h)
 
     pub step-others : (call : Call) → isElsewhere address call ≡ true → slotIn ((step call m) .model) j ≡ slotIn m j
-    unfolding isElsewhere about step addTurn removeTurn eventTurn messageTurn turnAt
+    unfolding isElsewhere isAbout step addTurn removeTurn eventTurn messageTurn listingTurn turnAt
     step-others (add a as₀) e = put-others (addAnswer m a as₀) (vacancy m) _ (λ z. free-other (add-free m ok a as₀ z))
     step-others (remove a) e = put-others (removeAnswer m a) (placeOf m a) _ (λ z. found-other a e (remove-below m ok a z))
     step-others (start a buffer) e = put-others (eventAnswer m a buffer) (placeOf m a) _ (λ z. found-other a e (event-below m ok a buffer z))
     step-others (stop a buffer) e = put-others (eventAnswer m a buffer) (placeOf m a) _ (λ z. found-other a e (event-below m ok a buffer z))
     step-others (tick a buffer) e = put-others (eventAnswer m a buffer) (placeOf m a) _ (λ z. found-other a e (event-below m ok a buffer z))
     step-others (receive a o home buffer) e = put-others (messageAnswer m a home buffer) (placeOf m a) _ (λ z. found-other a e (message-below m ok a home buffer z))
+    step-others (listing buffer) e = refl
 
 pub others-from : (m : Model) → Good m → (j : ℕ) (address asn : ℕ) (n : Neighbour) (rows : List Row) → slotIn m j ≡ used address asn n rows
     → (more : List Call) → every (isElsewhere address) more ≡ true → slotIn (modelFrom m more) j ≡ slotIn m j
@@ -294,13 +297,14 @@ module _ (m : Model) (ok : Good m) (j : ℕ) (here : slotIn m j ≡ free) where
   found-elsewhere a h q = false≢true (sym (ap (hasAddress a) (ap (slotIn m) q ∙ here)) ∙ found-used m ok a h)
 
   step-free : (call : Call) → takesNoSlot call ≡ true → slotIn ((step call m) .model) j ≡ slotIn m j
-  unfolding takesNoSlot step removeTurn eventTurn messageTurn turnAt
+  unfolding takesNoSlot step removeTurn eventTurn messageTurn listingTurn turnAt
   step-free (add a as₀) e = absurd (false≢true e)
   step-free (remove a) e = put-others m ok j (removeAnswer m a) (placeOf m a) _ (λ z. found-elsewhere a (remove-below m ok a z))
   step-free (start a buffer) e = put-others m ok j (eventAnswer m a buffer) (placeOf m a) _ (λ z. found-elsewhere a (event-below m ok a buffer z))
   step-free (stop a buffer) e = put-others m ok j (eventAnswer m a buffer) (placeOf m a) _ (λ z. found-elsewhere a (event-below m ok a buffer z))
   step-free (tick a buffer) e = put-others m ok j (eventAnswer m a buffer) (placeOf m a) _ (λ z. found-elsewhere a (event-below m ok a buffer z))
   step-free (receive a o home buffer) e = put-others m ok j (messageAnswer m a home buffer) (placeOf m a) _ (λ z. found-elsewhere a (message-below m ok a home buffer z))
+  step-free (listing buffer) e = refl
 
 pub free-from : (m : Model) → Good m → (j : ℕ) → slotIn m j ≡ free → (more : List Call) → every takesNoSlot more ≡ true → slotIn (modelFrom m more) j ≡ free
 unfolding modelFrom every

@@ -1,7 +1,15 @@
 pub mod Lists
+pub mod Marked
 pub mod Represent
+pub mod Listed
 pub mod Moves
 pub mod Simulation
 pub mod History
 pub mod Theorem
 pub mod AnyState
+pub mod Steady
+pub mod Closing
+pub mod Found
+pub mod Corollaries
+pub mod Computed
+pub mod Example

@@ -1,15 +1,16 @@
 -- A model shown as state and table: look-up, slots and parts. Assumes nothing.
-use Prim.Native.Nat.{ℕ, suc, _≤_, _<_}
+use Prim.Native.Nat.{ℕ, suc, _*_, _-_, _≤_, _<_}
 use native.Mathlib.Omega.{arith}
 use mathlib.Core.Path.{_≡_, refl, sym, _∙_, ap}
 use mathlib.Core.Bool.{Bool, true, false, not, false≢true}
 use mathlib.Core.List.{List, [], _∷_, map}
 use lib.Dec.{eqb}
-use lib.ListN.{length, getD, length-map, List·getD-map}
-use lib.Seq.{map-set-same}
+use lib.ListN.{length, take, getD, length-map, List·getD-map}
+use lib.Seq.{take-at, map-set-same}
 use borrow.Author.Tests.{eq-eqb, eqb-true, eqb-false, not-true}
 use Rattle.checks.specs.Lists.{first, every, join}
-use Rattle.nets.specs.Rows.{Row, flat}
+use Rattle.nets.specs.Rows.{Row, rowsOf, flat}
+use Rattle.rows.specs.Storing.{zeros, padded}
 use Rattle.rows.proofs.Laws.{flat-length, padded-length}
 use Rattle.neighbour.specs.declared.Neighbour.{Neighbour}
 use Rattle.state.specs.declared.Slot as Stored
@@ -65,6 +66,17 @@ part-long : (slot : Slot) → (cell slot) .rows ≤ 128 → length (part slot) �
 unfolding cell part rowsHeld freeSlot
 part-long free h = padded-length 384 (flat []) (omega (arith, flat-length []))
 part-long (used address asn n rows) h = padded-length 384 (flat rows) (omega (arith, flat-length rows))
+
+rows-flat : (rows : List Row) → rowsOf (flat rows) ≡ rows
+unfolding rowsOf flat
+rows-flat [] = refl
+rows-flat (r ∷ rest) = ap (λ (l : List Row). r ∷ l) (rows-flat rest)
+
+-- the rows of a slot, read off its part by its count
+pub read-back : (slot : Slot) → rowsOf (take (3 * (cell slot) .rows) (part slot)) ≡ rowsHeld slot
+unfolding cell part rowsHeld padded freeSlot rowsOf
+read-back free = refl
+read-back (used address asn n rows) = ap rowsOf (take-at (flat rows) (zeros (384 - length (flat rows))) (3 * length rows) (flat-length rows)) ∙ rows-flat rows
 
 module _ (m : Model) (ok : Good m) where
   addresses-of : addresses (stateOf m) ≡ map (λ slot. (cell slot) .address) (m .slots)

@@ -2,8 +2,8 @@
 use Prim.Native.Nat.{ℕ, _<_}
 use native.Mathlib.Omega.{arith}
 use mathlib.Core.Path.{_≡_, refl, sym, _∙_, ap}
-use mathlib.Core.Bool.{Bool, true, false, cond, false≢true}
-use mathlib.Core.List.{List, [], _++_}
+use mathlib.Core.Bool.{Bool, true, false, cond, false≢true, true≢false}
+use mathlib.Core.List.{List, [], _++_, append-nil}
 use lib.Dec.{ltb, eqb}
 use lib.ListN.{length, length-set}
 use borrow.Author.Tests.{eq-eqb, eqb-true, ltb-true}
@@ -42,10 +42,13 @@ use Rattle.calls.specs.Carried as Carried
 use Rattle.calls.specs.Carried.{firstOctets, secondOctets, replyOctets, outcomeAfter}
 use Rattle.calls.specs.Calls.{tableFits, eventChecks, messageChecks, noHead, eventVerdict, messageVerdict, eventOutcome, eventTable, eventBuffer, messageOutcome, messageTable, messageBuffer}
 use Rattle.claims.proofs.Formed.{well-formed-kept}
-use Rattle.model.specs.Model.{isFree, noMove, moved, answerTo, afterMessage, rowsAfter, refusalReply, Call, add, remove, start, stop, tick, receive, Slot, free, used, Model, slotIn, put, hasAddress, placeOf, isPresent, vacancy, Said, silent, spoken, whenOk, addable, addAnswer, isIdleSlot, removeAnswer, addTurn, removeTurn, Move, eventMove, messageMove, eventAnswer, messageAnswer, turnAt, eventTurn, messageTurn, step}
-use Rattle.model.specs.Theorem.{Gateway, outcomeOf, tableAfter, bufferOf, bufferAfter, cell, stateOf, rowsHeld, part, tableOf}
+use Rattle.lines.specs.Lines.{listingText}
+use Rattle.lines.specs.Listing.{entries, listingChecks, listingOutcome, listingBuffer}
+use Rattle.model.specs.Model.{isFree, noMove, moved, answerTo, afterMessage, rowsAfter, refusalReply, Call, add, remove, start, stop, tick, receive, listing, Slot, free, used, Model, slotIn, put, hasAddress, placeOf, isPresent, vacancy, Said, silent, spoken, whenOk, addable, addAnswer, isIdleSlot, removeAnswer, addTurn, removeTurn, Move, eventMove, messageMove, eventAnswer, messageAnswer, turnAt, eventTurn, messageTurn, listed, listingAnswer, listingSaid, listingTurn, step}
+use Rattle.model.specs.Theorem.{Gateway, outcomeOf, tableAfter, bufferOf, bufferAfter, listsNothing, cell, stateOf, rowsHeld, part, tableOf}
 use Rattle.model.proofs.Lists.{index-found}
 use Rattle.model.proofs.Represent.{sound, Good, used-at, slot-of, lowest-of, at-of, state-ok, good-at, sound-at, state-with, table-length, table-with, table-same}
+use Rattle.model.proofs.Listed.{Marked, entries-of, listing-answer}
 use Rattle.model.proofs.Moves.{no-rows, partFrom, Agrees, event-agrees, message-agrees}
 
 -- what a call left and answered is the model after its turn, and what the model said
@@ -347,20 +350,75 @@ module _ (m : Model) (ok : Good m) where
       (λ z. same-part (placeOf m address) free no-rows-free
       (idle-none (slotIn m (placeOf m address)) (good-at m ok (placeOf m address)) (remove-idle address z)))
 
+  -- ---- the listing
+
+  listing-by : (k : ℕ) (buffer : List ℕ)
+      → Shown (ifOk k (record { answer = 0; first = length (listingText (listed m)); second = 0; state = stateOf m }) (refusedOf (stateOf m) k))
+      (tableOf m) (ifOk k (over (listingText (listed m)) buffer) buffer) m (whenOk k (listingSaid m) (silent k)) buffer
+  unfolding ifOk whenOk listingSaid
+  listing-by k buffer = go (eqb k 0) refl
+    where
+      go : (b : Bool) → eqb k 0 ≡ b
+          → Shown (cond (eqb k 0) (record { answer = 0; first = length (listingText (listed m)); second = 0; state = stateOf m }) (refusedOf (stateOf m) k))
+          (tableOf m) (cond (eqb k 0) (over (listingText (listed m)) buffer) buffer) m (cond (eqb k 0) (listingSaid m) (silent k)) buffer
+      go true e =
+          rw e (record { state = refl; table = refl; answer = refl; first = refl; second = refl; written = ap (λ (l : List ℕ). over l buffer) (sym (append-nil (listingText (listed m)))) })
+      go false e = rw e (refused-shown k k buffer refl)
+
+  pub listing-shown : Marked m → (buffer : List ℕ)
+      → Shown (listingOutcome (stateOf m) (tableOf m) buffer) (tableOf m) (listingBuffer (stateOf m) (tableOf m) buffer)
+      ((listingTurn m buffer) .model) ((listingTurn m buffer) .said) buffer
+  unfolding listingOutcome listingBuffer listingTurn
+  listing-shown k buffer = rw (listing-answer m ok k buffer, entries-of m ok) (listing-by (listingAnswer buffer) buffer)
+
+  -- whatever its rows are marked with, a listing leaves the state
+  pub listing-keeps : (buffer : List ℕ) → (listingOutcome (stateOf m) (tableOf m) buffer) .state ≡ stateOf m
+  unfolding listingOutcome ifOk refusedOf
+  listing-keeps buffer = go (eqb (listingChecks (stateOf m) (tableOf m) buffer) 0)
+    where
+      go : (b : Bool)
+          → (cond b (record { answer = 0; first = length (listingText (entries (stateOf m) (tableOf m))); second = 0; state = stateOf m })
+          (refusedOf (stateOf m) (listingChecks (stateOf m) (tableOf m) buffer))) .state ≡ stateOf m
+      go true = refl
+      go false = refl
+
   -- ---- any call
 
   abbrev pub Simulates : Call → Type 0
   Simulates call =
       Shown (outcomeOf call (represent m)) (tableAfter call (represent m)) (bufferAfter call (represent m)) ((step call m) .model) ((step call m) .said) (bufferOf call)
 
-  pub simulates : (call : Call) → Simulates call
-  unfolding outcomeOf tableAfter bufferAfter step bufferOf represent
-  simulates (add address asn) = add-shown address asn
-  simulates (remove address) = remove-shown address
-  simulates (start a buffer) = event-shown Start a buffer
-  simulates (stop a buffer) = event-shown Stop a buffer
-  simulates (tick a buffer) = event-shown Tick a buffer
-  simulates (receive a o home buffer) = message-shown a o home buffer
+  -- a listing asks that the rows be marked, no other call does
+  abbrev pub Heeds : Call → Type 0
+  Heeds call = listsNothing call ≡ false → Marked m
+
+  pub simulates : (call : Call) → Heeds call → Simulates call
+  unfolding outcomeOf tableAfter bufferAfter step bufferOf represent listsNothing
+  simulates (add address asn) h = add-shown address asn
+  simulates (remove address) h = remove-shown address
+  simulates (start a buffer) h = event-shown Start a buffer
+  simulates (stop a buffer) h = event-shown Stop a buffer
+  simulates (tick a buffer) h = event-shown Tick a buffer
+  simulates (receive a o home buffer) h = message-shown a o home buffer
+  simulates (listing buffer) h = listing-shown (h refl) buffer
+
+  -- the state and the table after a call, which ask nothing of the rows
+  pub record Leaves (call : Call) : Type 0 where
+    pub state : (outcomeOf call (represent m)) .state ≡ stateOf ((step call m) .model)
+    pub table : tableAfter call (represent m) ≡ tableOf ((step call m) .model)
+
+  simulated : (call : Call) → listsNothing call ≡ true → Leaves call
+  simulated call e = let s = simulates call (λ f. absurd (true≢false (sym e ∙ f))) in record { state = s .state; table = s .table }
+
+  pub leaves : (call : Call) → Leaves call
+  unfolding outcomeOf tableAfter step represent listingTurn listsNothing
+  leaves (add address asn) = simulated (add address asn) refl
+  leaves (remove address) = simulated (remove address) refl
+  leaves (start a buffer) = simulated (start a buffer) refl
+  leaves (stop a buffer) = simulated (stop a buffer) refl
+  leaves (tick a buffer) = simulated (tick a buffer) refl
+  leaves (receive a o home buffer) = simulated (receive a o home buffer) refl
+  leaves (listing buffer) = record { state = listing-keeps buffer; table = refl }
 
   -- ---- the model after it is good
 
@@ -391,13 +449,14 @@ module _ (m : Model) (ok : Good m) where
   message-rest a o home buffer = kept-rest _ (placeOf m a) _ (λ _. message-sound (m .settings) o (slotIn m (placeOf m a)) (sound-at m ok (placeOf m a)))
 
   rest-step : (call : Call) → Rest ((step call m) .model)
-  unfolding step addTurn removeTurn sound
+  unfolding step addTurn removeTurn listingTurn sound
   rest-step (add address asn) = kept-rest (addAnswer m address asn) (vacancy m) (used address asn idle []) (add-sound address asn)
   rest-step (remove address) = kept-rest (removeAnswer m address) (placeOf m address) free (λ _. refl)
   rest-step (start a buffer) = event-rest Start a buffer
   rest-step (stop a buffer) = event-rest Stop a buffer
   rest-step (tick a buffer) = event-rest Tick a buffer
   rest-step (receive a o home buffer) = message-rest a o home buffer
+  rest-step (listing buffer) = record { eight = ok .eight; each = ok .each }
 
   -- 01: "Every call keeps a state well formed."
   formed-step : (call : Call) → stateFormed ((outcomeOf call (represent m)) .state) ≡ true
@@ -408,11 +467,12 @@ module _ (m : Model) (ok : Good m) where
   formed-step (stop a buffer) = well-formed-kept .events Stop (stateOf m) (tableOf m) buffer a (state-ok m ok) .formed
   formed-step (tick a buffer) = well-formed-kept .events Tick (stateOf m) (tableOf m) buffer a (state-ok m ok) .formed
   formed-step (receive a o home buffer) = well-formed-kept .messages (stateOf m) (tableOf m) buffer home a o (state-ok m ok) .formed
+  formed-step (listing buffer) = ap stateFormed (listing-keeps buffer) ∙ ok .formed
 
   pub good-step : (call : Call) → Good ((step call m) .model)
   good-step call =
       record {
         eight = rest-step call .eight;
         each = rest-step call .each;
-        formed = ap stateFormed (sym (simulates call .state)) ∙ formed-step call;
+        formed = ap stateFormed (sym (leaves call .state)) ∙ formed-step call;
       }

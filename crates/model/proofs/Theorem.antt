@@ -1,16 +1,15 @@
 -- The theorem about lists of calls, by induction from any good model. Assumes nothing.
-use Prim.Native.Nat.{ℕ, _*_, _-_, _<_}
+use Prim.Native.Nat.{ℕ, _<_}
 use mathlib.Core.Path.{_≡_, refl, sym, _∙_, ap}
-use mathlib.Core.Bool.{true}
+use mathlib.Core.Bool.{true, false, true≢false}
 use mathlib.Core.List.{List, [], _∷_, _++_}
-use lib.ListN.{length, take}
-use lib.Seq.{take-at}
+use lib.ListN.{length}
 use Rattle.checks.specs.Checks.{check, ifOk}
+use Rattle.checks.proofs.Laws.{and-left, and-right}
 use Rattle.checks.specs.Lists.{every, join}
 use Rattle.nets.specs.Classes.{netWidth, hostSpan, goodNet, onNet}
-use Rattle.nets.specs.Rows.{Row, rowsOf, flat}
+use Rattle.nets.specs.Rows.{flat}
 use Rattle.rows.specs.Storing.{zeros, padded}
-use Rattle.rows.proofs.Laws.{flat-length}
 use Rattle.neighbour.specs.declared.Settings.{Settings}
 use Rattle.state.specs.declared.State.{State}
 use Rattle.state.specs.declared.Slot as Stored
@@ -21,20 +20,21 @@ use Rattle.state.specs.Outcomes.{silentOf}
 use Rattle.slots.specs.Calls.{freeSlots, emptyState, freshAnswer, freshOf}
 use Rattle.claims.proofs.Formed.{well-formed-kept}
 use Rattle.model.specs.Model.{Call, Slot, free, used, Model, slotIn, empty, model, modelFrom, saidFrom, step}
-use Rattle.model.specs.Theorem.{Gateway, gatewayStep, gatewayFrom, Seen, seenOf, seenFrom, emptyTable, begun, run, seenBy, cell, stateOf, rowsHeld, part, tableOf, bufferOf, shownIn, shown, rowsAt, ListOfCalls}
+use Rattle.model.specs.Theorem.{Gateway, gatewayStep, gatewayFrom, Seen, seenOf, seenFrom, emptyTable, begun, run, seenBy, cell, stateOf, rowsHeld, part, tableOf, bufferOf, shownIn, shown, rowsAt, carriesOctets, listsNothing, ListOfCalls}
 use Rattle.model.specs.History.{lastAccepted, isElsewhere, takesNoSlot}
-use Rattle.model.proofs.Represent.{sound, Good, at-of, sound-at, part-of}
+use Rattle.model.proofs.Represent.{sound, Good, at-of, sound-at, part-of, read-back}
+use Rattle.model.proofs.Listed.{marked, Marked, marked-step}
 use Rattle.model.proofs.History.{model-append, last-is, others-slot, free-from, shown-free}
-use Rattle.model.proofs.Simulation.{represent, simulates, good-step}
+use Rattle.model.proofs.Simulation.{represent, Heeds, simulates, leaves, good-step}
 
 module _ (m : Model) (ok : Good m) where
   pub step-is : (call : Call) → gatewayStep call (represent m) ≡ represent ((step call m) .model)
   unfolding gatewayStep represent
-  step-is call = let s = simulates m ok call in λ i. record { state = s .state i; table = s .table i }
+  step-is call = let s = leaves m ok call in λ i. record { state = s .state i; table = s .table i }
 
-  seen-is : (call : Call) → seenOf call (represent m) ≡ shownIn (bufferOf call) ((step call m) .said)
+  pub seen-is : (call : Call) → Heeds m ok call → seenOf call (represent m) ≡ shownIn (bufferOf call) ((step call m) .said)
   unfolding seenOf shownIn
-  seen-is call = let s = simulates m ok call in λ i. record { answer = s .answer i; first = s .first i; second = s .second i; buffer = s .written i }
+  seen-is call h = let s = simulates m ok call h in λ i. record { answer = s .answer i; first = s .first i; second = s .second i; buffer = s .written i }
 
 -- any good model, any list
 pub run-from : (m : Model) → Good m → (calls : List Call) → gatewayFrom (represent m) calls ≡ represent (modelFrom m calls)
@@ -42,12 +42,34 @@ unfolding gatewayFrom modelFrom
 run-from m ok [] = refl
 run-from m ok (call ∷ rest) = rw (step-is m ok call) (run-from ((step call m) .model) (good-step m ok call) rest)
 
-pub seen-from : (m : Model) → Good m → (calls : List Call) → seenFrom (represent m) calls ≡ shown calls (saidFrom m calls)
-unfolding seenFrom saidFrom shown
-seen-from m ok [] = refl
-seen-from m ok (call ∷ rest) =
-    rw (seen-is m ok call, step-is m ok call)
-    (ap (λ (l : List Seen). shownIn (bufferOf call) ((step call m) .said) ∷ l) (seen-from ((step call m) .model) (good-step m ok call) rest))
+-- every listing finds its rows marked: messages were of octets, or nothing is listed
+unfoldable pub Heeded : (m : Model) → Good m → List Call → Type 0
+Heeded m ok [] = m ≡ m
+Heeded m ok (call ∷ rest) = Heeds m ok call × Heeded ((step call m) .model) (good-step m ok call) rest
+
+pub octets-heed : (m : Model) (ok : Good m) → Marked m → (calls : List Call) → every carriesOctets calls ≡ true → Heeded m ok calls
+unfolding Heeded every
+octets-heed m ok k [] e = refl
+octets-heed m ok k (call ∷ rest) e = (
+  λ _. k,
+  octets-heed ((step call m) .model) (good-step m ok call) (marked-step m k call (and-left (carriesOctets call) (every carriesOctets rest) e)) rest
+      (and-right (carriesOctets call) (every carriesOctets rest) e),
+)
+
+pub unlisted-heed : (m : Model) (ok : Good m) (calls : List Call) → every listsNothing calls ≡ true → Heeded m ok calls
+unfolding Heeded every
+unlisted-heed m ok [] e = refl
+unlisted-heed m ok (call ∷ rest) e = (
+  λ f. absurd (true≢false (sym (and-left (listsNothing call) (every listsNothing rest) e) ∙ f)),
+  unlisted-heed ((step call m) .model) (good-step m ok call) rest (and-right (listsNothing call) (every listsNothing rest) e),
+)
+
+pub seen-from : (m : Model) (ok : Good m) (calls : List Call) → Heeded m ok calls → seenFrom (represent m) calls ≡ shown calls (saidFrom m calls)
+unfolding seenFrom saidFrom shown Heeded
+seen-from m ok [] h = refl
+seen-from m ok (call ∷ rest) h =
+    rw (seen-is m ok call (h .0), step-is m ok call)
+    (ap (λ (l : List Seen). shownIn (bufferOf call) ((step call m) .said) ∷ l) (seen-from ((step call m) .model) (good-step m ok call) rest (h .1)))
 
 pub good-from : (m : Model) → Good m → (calls : List Call) → Good (modelFrom m calls)
 unfolding modelFrom
@@ -82,37 +104,35 @@ module _ (g : Settings) (z : (freshOf (g .asn) (g .own) (g .capability) (g .net)
   unfolding run model
   run-is calls = rw begun-is (run-from (empty g) empty-good calls)
 
-  run-state : (calls : List Call) → (run g calls) .state ≡ stateOf (model g calls)
+  pub run-state : (calls : List Call) → (run g calls) .state ≡ stateOf (model g calls)
   unfolding represent
   run-state calls = ap (λ (b : Gateway). b .state) (run-is calls)
 
-  run-table : (calls : List Call) → (run g calls) .table ≡ tableOf (model g calls)
+  pub run-table : (calls : List Call) → (run g calls) .table ≡ tableOf (model g calls)
   unfolding represent
   run-table calls = ap (λ (b : Gateway). b .table) (run-is calls)
 
-  run-seen : (calls : List Call) → seenBy g calls ≡ shown calls (saidFrom (empty g) calls)
+  pub empty-marked : Marked (empty g)
+  unfolding empty every marked rowsHeld
+  empty-marked = refl
+
+  run-seen : (calls : List Call) → every carriesOctets calls ≡ true → seenBy g calls ≡ shown calls (saidFrom (empty g) calls)
   unfolding seenBy
-  run-seen calls = rw begun-is (seen-from (empty g) empty-good calls)
+  run-seen calls e = rw begun-is (seen-from (empty g) empty-good calls (octets-heed (empty g) empty-good empty-marked calls e))
+
+  run-unlisted : (calls : List Call) → every listsNothing calls ≡ true → seenBy g calls ≡ shown calls (saidFrom (empty g) calls)
+  unfolding seenBy
+  run-unlisted calls e = rw begun-is (seen-from (empty g) empty-good calls (unlisted-heed (empty g) empty-good calls e))
 
 -- ---- what is read off state and table
 
-rows-flat : (rows : List Row) → rowsOf (flat rows) ≡ rows
-unfolding rowsOf flat
-rows-flat [] = refl
-rows-flat (r ∷ rest) = ap (λ (l : List Row). r ∷ l) (rows-flat rest)
-
-read-back : (slot : Slot) → rowsOf (take (3 * (cell slot) .rows) (part slot)) ≡ rowsHeld slot
-unfolding cell part rowsHeld padded freeSlot rowsOf
-read-back free = refl
-read-back (used address asn n rows) = ap rowsOf (take-at (flat rows) (zeros (384 - length (flat rows))) (3 * length rows) (flat-length rows)) ∙ rows-flat rows
-
-cell-count : (slot : Slot) → (cell slot) .rows ≡ length (rowsHeld slot)
+pub cell-count : (slot : Slot) → (cell slot) .rows ≡ length (rowsHeld slot)
 unfolding cell rowsHeld freeSlot
 cell-count free = refl
 cell-count (used address asn n rows) = refl
 
 module _ (m : Model) (ok : Good m) (j : ℕ) (j8 : j < 8) where
-  rows-read : rowsAt (represent m) j ≡ rowsHeld (slotIn m j)
+  pub rows-read : rowsAt (represent m) j ≡ rowsHeld (slotIn m j)
   unfolding rowsAt represent
   rows-read = rw (part-of m ok j j8, at-of m ok j) (read-back (slotIn m j))
 
@@ -128,7 +148,7 @@ module _ (g : Settings) (z : (freshOf (g .asn) (g .own) (g .capability) (g .net)
   unfolding model
   model-good = good-from (empty g) (empty-good g z) calls
 
-  last : (j : ℕ) → j < 8 → lastAccepted g j calls ≡ rowsHeld (slotIn (model g calls) j)
+  pub last : (j : ℕ) → j < 8 → lastAccepted g j calls ≡ rowsHeld (slotIn (model g calls) j)
   last j j8 = last-is g j j8 (empty-good g z) calls
 
   run-rows : (j : ℕ) → j < 8 → rowsAt (run g calls) j ≡ lastAccepted g j calls
@@ -140,7 +160,7 @@ module _ (g : Settings) (z : (freshOf (g .asn) (g .own) (g .capability) (g .net)
   run-numbers : (j : ℕ) → j < 8 → partAt ((run g calls) .table) j ≡ padded 384 (flat (lastAccepted g j calls))
   run-numbers j j8 = rw (run-table g z calls, last j j8) (numbers-read (model g calls) model-good j j8)
 
-  model-more : (more : List Call) → model g (calls ++ more) ≡ modelFrom (model g calls) more
+  pub model-more : (more : List Call) → model g (calls ++ more) ≡ modelFrom (model g calls) more
   unfolding model
   model-more more = model-append (empty g) calls more
 
@@ -197,6 +217,7 @@ list-of-calls g z calls =
       state = run-state g z calls;
       table = run-table g z calls;
       seen = run-seen g z calls;
+      seen-unlisted = run-unlisted g z calls;
       rows = run-rows g z calls;
       count = run-count g z calls;
       numbers = run-numbers g z calls;

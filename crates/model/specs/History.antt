@@ -10,7 +10,7 @@ use Rattle.wire.specs.declared.Decoded.{Decoded}
 use Rattle.wire.specs.declared.Decoded.the-variants as D
 use Rattle.walk.specs.Body.{updateOf, rowsRead}
 use Rattle.neighbour.specs.declared.Settings.{Settings}
-use Rattle.model.specs.Model.{Call, add, remove, start, stop, tick, receive, Slot, free, used, Model, slotIn, placeOf, isUpdate, step, model}
+use Rattle.model.specs.Model.{Call, add, remove, start, stop, tick, receive, listing, Slot, free, used, Model, slotIn, placeOf, isUpdate, step, model}
 
 unfoldable pub isUpSlot : Slot → Bool
 isUpSlot free = false
@@ -31,6 +31,7 @@ accepts m j (stop a buffer) = false
 accepts m j (tick a buffer) = false
 accepts m j (receive a o home buffer) =
     eqb ((step (receive a o home buffer) m) .said .answer) 0 && (eqb (placeOf m a) j && (isUpSlot (slotIn m j) && saysUpdate (decodeOf o)))
+accepts m j (listing buffer) = false
 
 -- the rows that the octets of a call say, on the common net
 unfoldable pub rowsSaid : Settings → Call → List Row
@@ -40,6 +41,7 @@ rowsSaid g (start a buffer) = []
 rowsSaid g (stop a buffer) = []
 rowsSaid g (tick a buffer) = []
 rowsSaid g (receive a o home buffer) = rowsRead (updateOf 128 (g .net) o)
+rowsSaid g (listing buffer) = []
 
 -- slot j is Up after these calls
 unfoldable pub upAfter : Settings → ℕ → List Call → Bool
@@ -63,17 +65,19 @@ lastAccepted g j calls = lastFrom g j [] [] calls
 
 -- ---- whom a call is about
 
-unfoldable pub about : Call → ℕ
-about (add address asn) = address
-about (remove address) = address
-about (start a buffer) = a
-about (stop a buffer) = a
-about (tick a buffer) = a
-about (receive a o home buffer) = a
+-- a call about the neighbour with this address; a listing is about nobody
+unfoldable pub isAbout : ℕ → Call → Bool
+isAbout address (add a asn) = eqb a address
+isAbout address (remove a) = eqb a address
+isAbout address (start a buffer) = eqb a address
+isAbout address (stop a buffer) = eqb a address
+isAbout address (tick a buffer) = eqb a address
+isAbout address (receive a o home buffer) = eqb a address
+isAbout address (listing buffer) = false
 
--- a call about another neighbour than the one with this address
+-- a call about another neighbour than that one, or about nobody
 unfoldable pub isElsewhere : ℕ → Call → Bool
-isElsewhere address call = not (eqb (about call) address)
+isElsewhere address call = not (isAbout address call)
 
 -- a call that adds no neighbour takes no free slot
 unfoldable pub takesNoSlot : Call → Bool
@@ -83,3 +87,4 @@ takesNoSlot (start a buffer) = true
 takesNoSlot (stop a buffer) = true
 takesNoSlot (tick a buffer) = true
 takesNoSlot (receive a o home buffer) = true
+takesNoSlot (listing buffer) = true

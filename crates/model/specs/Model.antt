@@ -30,6 +30,7 @@ use Rattle.machine.specs.declared.After.{After}
 use Rattle.machine.specs.Table.{quiet}
 use Rattle.machine.specs.Step.{stepOf}
 use Rattle.calls.specs.Home.{goodHome}
+use Rattle.lines.specs.Lines.{Entry, listingText}
 
 -- ---- calls
 
@@ -45,6 +46,8 @@ pub data Call : Type 0 where
   tick : ℕ → List ℕ → Call
   -- message: address, octets, home list, reply buffer
   receive : ℕ → List ℕ → List ℕ → List ℕ → Call
+  -- listing: the lent buffer
+  listing : List ℕ → Call
 
 -- ---- slots
 
@@ -272,6 +275,31 @@ unfoldable pub messageTurn : Model → ℕ → List ℕ → List ℕ → List �
 messageTurn m a o home buffer =
     turnAt m (messageAnswer m a home buffer) (placeOf m a) (messageMove (m .settings) o (slotIn m (placeOf m a))) (rowsOf home)
 
+-- ---- the listing
+
+-- 01: "used slots in order", each with its own index; these are the slots from index i on
+unfoldable pub listedFrom : ℕ → List Slot → List Entry
+listedFrom i [] = []
+listedFrom i (free ∷ rest) = listedFrom (suc i) rest
+listedFrom i (used address asn n rows ∷ rest) =
+    record { index = i; address = address; asn = asn; phase = n .phase; mode = n .mode; rows = rows } ∷ listedFrom (suc i) rest
+
+-- of all eight
+unfoldable pub listed : Model → List Entry
+listed m = listedFrom 0 (m .slots)
+
+-- 01: "listing buffer at least 65,536": 3 alone, for "1 and 2 never fail here"
+unfoldable pub listingAnswer : List ℕ → ℕ
+listingAnswer buffer = check (leb 65536 (length buffer)) 3 0
+
+-- carried out, the text is the first of the two lengths
+unfoldable pub listingSaid : Model → Said
+listingSaid m = record { answer = 0; first = listingText (listed m); second = [] }
+
+-- 01: "refused calls and listings change nothing"
+unfoldable pub listingTurn : Model → List ℕ → Turn
+listingTurn m buffer = record { said = whenOk (listingAnswer buffer) (listingSaid m) (silent (listingAnswer buffer)); model = m }
+
 -- ---- lists of calls
 
 unfoldable pub step : Call → Model → Turn
@@ -281,6 +309,7 @@ step (start a buffer) m = eventTurn Start m a buffer
 step (stop a buffer) m = eventTurn Stop m a buffer
 step (tick a buffer) m = eventTurn Tick m a buffer
 step (receive a o home buffer) m = messageTurn m a o home buffer
+step (listing buffer) m = listingTurn m buffer
 
 unfoldable pub modelFrom : Model → List Call → Model
 modelFrom m [] = m

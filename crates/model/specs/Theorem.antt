@@ -1,11 +1,12 @@
 -- The theorem about lists of calls: the gateway's definitions and the model, run over any list, leave and answer the same.
 use Prim.Native.Nat.{ℕ, _*_, _-_, _<_}
 use mathlib.Core.Path.{_≡_}
-use mathlib.Core.Bool.{true, cond}
+use mathlib.Core.Bool.{Bool, true, false, cond}
 use mathlib.Core.List.{List, [], _∷_, _++_, map}
-use lib.Dec.{eqb}
+use lib.Dec.{ltb, eqb}
 use lib.ListN.{length, take, drop}
-use Rattle.checks.specs.Lists.{every, join}
+use Rattle.checks.specs.Lists.{every}
+use Rattle.checks.specs.Lists.{join}
 use Rattle.octets.specs.Buffer.{over}
 use Rattle.nets.specs.Rows.{Row, rowsOf, flat}
 use Rattle.rows.specs.Storing.{zeros, padded}
@@ -20,7 +21,8 @@ use Rattle.state.specs.Formed.{stateFormed}
 use Rattle.calls.specs.Carried.{partAt}
 use Rattle.slots.specs.Calls.{freshOf, addOf, removeOf}
 use Rattle.calls.specs.Calls.{eventOutcome, eventTable, eventBuffer, messageOutcome, messageTable, messageBuffer}
-use Rattle.model.specs.Model.{Call, add, remove, start, stop, tick, receive, Slot, free, used, Model, Said, model, modelFrom, empty, saidFrom}
+use Rattle.lines.specs.Listing.{markedRow, listingOutcome, listingBuffer}
+use Rattle.model.specs.Model.{Call, add, remove, start, stop, tick, receive, listing, Slot, free, used, Model, Said, model, modelFrom, empty, saidFrom, step}
 use Rattle.model.specs.History.{lastAccepted, isElsewhere, takesNoSlot}
 
 -- ---- the gateway's own definitions, over a list
@@ -37,8 +39,9 @@ outcomeOf (start a buffer) b = eventOutcome Start (b .state) (b .table) buffer a
 outcomeOf (stop a buffer) b = eventOutcome Stop (b .state) (b .table) buffer a
 outcomeOf (tick a buffer) b = eventOutcome Tick (b .state) (b .table) buffer a
 outcomeOf (receive a o home buffer) b = messageOutcome (b .state) (b .table) buffer home a o
+outcomeOf (listing buffer) b = listingOutcome (b .state) (b .table) buffer
 
--- add and remove take no table
+-- add and remove take no table, a listing only reads it
 unfoldable pub tableAfter : Call → Gateway → List ℕ
 tableAfter (add address asn) b = b .table
 tableAfter (remove address) b = b .table
@@ -46,6 +49,7 @@ tableAfter (start a buffer) b = eventTable Start (b .state) (b .table) buffer a
 tableAfter (stop a buffer) b = eventTable Stop (b .state) (b .table) buffer a
 tableAfter (tick a buffer) b = eventTable Tick (b .state) (b .table) buffer a
 tableAfter (receive a o home buffer) b = messageTable (b .state) (b .table) buffer home a o
+tableAfter (listing buffer) b = b .table
 
 -- the buffer that a call lends; add and remove lend none
 unfoldable pub bufferOf : Call → List ℕ
@@ -55,6 +59,7 @@ bufferOf (start a buffer) = buffer
 bufferOf (stop a buffer) = buffer
 bufferOf (tick a buffer) = buffer
 bufferOf (receive a o home buffer) = buffer
+bufferOf (listing buffer) = buffer
 
 unfoldable pub bufferAfter : Call → Gateway → List ℕ
 bufferAfter (add address asn) b = []
@@ -63,6 +68,7 @@ bufferAfter (start a buffer) b = eventBuffer Start (b .state) (b .table) buffer 
 bufferAfter (stop a buffer) b = eventBuffer Stop (b .state) (b .table) buffer a
 bufferAfter (tick a buffer) b = eventBuffer Tick (b .state) (b .table) buffer a
 bufferAfter (receive a o home buffer) b = messageBuffer (b .state) (b .table) buffer home a o
+bufferAfter (listing buffer) b = listingBuffer (b .state) (b .table) buffer
 
 unfoldable pub gatewayStep : Call → Gateway → Gateway
 gatewayStep call b = record { state = (outcomeOf call b) .state; table = tableAfter call b }
@@ -147,6 +153,32 @@ shown (call ∷ rest) (s ∷ said) = shownIn (bufferOf call) s ∷ shown rest sa
 unfoldable pub rowsAt : Gateway → ℕ → List Row
 rowsAt b j = rowsOf (take (3 * (slotAt (b .state) j) .rows) (partAt (b .table) j))
 
+-- ---- what a listing asks of the calls before it
+
+-- the numbers that an octet can be
+abbrev pub isOctet : ℕ → Bool
+isOctet n = ltb n 256
+
+-- a message is of octets, as the code's type has it; no rule but a listing's check 2 leans on it
+unfoldable pub carriesOctets : Call → Bool
+carriesOctets (add address asn) = true
+carriesOctets (remove address) = true
+carriesOctets (start a buffer) = true
+carriesOctets (stop a buffer) = true
+carriesOctets (tick a buffer) = true
+carriesOctets (receive a o home buffer) = every isOctet o
+carriesOctets (listing buffer) = true
+
+-- every call but the listing
+unfoldable pub listsNothing : Call → Bool
+listsNothing (add address asn) = true
+listsNothing (remove address) = true
+listsNothing (start a buffer) = true
+listsNothing (stop a buffer) = true
+listsNothing (tick a buffer) = true
+listsNothing (receive a o home buffer) = true
+listsNothing (listing buffer) = false
+
 -- ---- the statement
 
 -- after these calls, from what fresh returns: the gateway beside the model
@@ -154,8 +186,10 @@ pub record Agreement (g : Settings) (calls : List Call) : Type 0 where
   -- every field of the final state, and every number of the final table
   pub state : (run g calls) .state ≡ stateOf (model g calls)
   pub table : (run g calls) .table ≡ tableOf (model g calls)
-  -- every answer, both lengths and every octet of every buffer
-  pub seen : seenBy g calls ≡ shown calls (saidFrom (empty g) calls)
+  -- every answer, both lengths and every octet of every buffer, a listing's too
+  pub seen : every carriesOctets calls ≡ true → seenBy g calls ≡ shown calls (saidFrom (empty g) calls)
+  -- where nothing is listed, a message may even be of any numbers
+  pub seen-unlisted : every listsNothing calls ≡ true → seenBy g calls ≡ shown calls (saidFrom (empty g) calls)
   -- the rows read off the final table by the final count are those of the last Update accepted since the slot last entered Up; behind them all is zero
   pub rows : (j : ℕ) → j < 8 → rowsAt (run g calls) j ≡ lastAccepted g j calls
   pub count : (j : ℕ) → j < 8 → (slotAt ((run g calls) .state) j) .rows ≡ length (lastAccepted g j calls)
@@ -177,6 +211,22 @@ pub record Agreement (g : Settings) (calls : List Call) : Type 0 where
 abbrev pub ListOfCalls : Type 0
 ListOfCalls = (g : Settings) → (freshOf (g .asn) (g .own) (g .capability) (g .net)) .answer ≡ 0 → (calls : List Call) → Agreement g calls
 
+-- ---- what no call after them can be answered, and what leaves all as it was
+
+pub record Steady (g : Settings) (calls : List Call) : Type 0 where
+  -- 01: "1 and 2 never fail here"; 2 is the table's length, and in a listing the third numbers of the used rows
+  pub one : (call : Call) → (outcomeOf call (run g calls)) .answer ≡ 1 → ⊥
+  pub two : (call : Call) → every carriesOctets calls ≡ true → (outcomeOf call (run g calls)) .answer ≡ 2 → ⊥
+  pub two-unlisted : (call : Call) → listsNothing call ≡ true → (outcomeOf call (run g calls)) .answer ≡ 2 → ⊥
+  -- 01: "refused calls and listings change nothing", in the model and in state and table
+  pub refused : (call : Call) → ((step call (model g calls)) .said .answer ≡ 0 → ⊥) → (step call (model g calls)) .model ≡ model g calls
+  pub refused-gateway : (call : Call) → ((outcomeOf call (run g calls)) .answer ≡ 0 → ⊥) → gatewayStep call (run g calls) ≡ run g calls
+  pub listings : (buffer : List ℕ) → (step (listing buffer) (model g calls)) .model ≡ model g calls
+  pub listings-gateway : (buffer : List ℕ) → gatewayStep (listing buffer) (run g calls) ≡ run g calls
+
+abbrev pub NeverOneOrTwo : Type 0
+NeverOneOrTwo = (g : Settings) → (freshOf (g .asn) (g .own) (g .capability) (g .net)) .answer ≡ 0 → (calls : List Call) → Steady g calls
+
 -- ---- from any state that passes check 1, with any rows it counts
 
 -- 01: "Unused rows are zero": of slot j, behind the rows that its count says
@@ -188,6 +238,10 @@ pub record Sensible (b : Gateway) : Type 0 where
   pub eight : length (b .state .slots) ≡ 8
   pub long : length (b .table) ≡ 3072
   pub zero-unused : (j : ℕ) → j < 8 → unused b j ≡ zeros (mostNumbers - 3 * (slotAt (b .state) j) .rows)
+
+-- 2 in a listing: no "used row's third number above 511"
+abbrev pub Listable : Gateway → Type 0
+Listable b = (j : ℕ) → j < 8 → every markedRow (rowsAt b j) ≡ true
 
 -- one slot of the model, from its record and its part of the table
 unfoldable pub slotFrom : Stored.Slot → List ℕ → Slot
@@ -207,4 +261,8 @@ pub record FromAnyState : Type 0 where
   pub is-table : (b : Gateway) → Sensible b → tableOf (modelOf b) ≡ b .table
   pub state : (b : Gateway) → Sensible b → (calls : List Call) → (gatewayFrom b calls) .state ≡ stateOf (modelFrom (modelOf b) calls)
   pub table : (b : Gateway) → Sensible b → (calls : List Call) → (gatewayFrom b calls) .table ≡ tableOf (modelFrom (modelOf b) calls)
-  pub seen : (b : Gateway) → Sensible b → (calls : List Call) → seenFrom b calls ≡ shown calls (saidFrom (modelOf b) calls)
+  pub seen :
+      (b : Gateway) → Sensible b → Listable b → (calls : List Call) → every carriesOctets calls ≡ true
+      → seenFrom b calls ≡ shown calls (saidFrom (modelOf b) calls)
+  pub seen-unlisted :
+      (b : Gateway) → Sensible b → (calls : List Call) → every listsNothing calls ≡ true → seenFrom b calls ≡ shown calls (saidFrom (modelOf b) calls)

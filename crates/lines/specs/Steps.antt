@@ -1,0 +1,23 @@
+-- What the functions that write the text of one slot promise.
+use Prim.Native.Nat.{ℕ}
+use mathlib.Core.List.{List, map}
+use Rattle.checks.specs.Lists.{join}
+use Rattle.nets.specs.Rows.{Row}
+use Rattle.state.specs.declared.Slot.{Slot}
+use Rattle.lines.specs.Lines.{Entry, rowText}
+
+-- what is listed of slot i where these are its used rows
+unfoldable pub listed : ℕ → Slot → List Row → Entry
+listed i slot rows =
+    record {
+      index = i;
+      address = slot .address;
+      asn = slot .asn;
+      phase = slot .neighbour .phase;
+      mode = slot .neighbour .mode;
+      rows = rows;
+    }
+
+-- the rows of a slot, one after the other
+unfoldable pub rowsText : List Row → List ℕ
+rowsText rows = join (map rowText rows)

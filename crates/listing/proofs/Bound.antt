@@ -1,0 +1,123 @@
+-- The longest listing. Assumes nothing.
+use Prim.Native.Nat.{ℕ, suc, _+_, _*_, _%_, _≤_, _<_}
+use native.Mathlib.Omega.{arith}
+use mathlib.Core.Bool.{Bool, true, false, cond}
+use mathlib.Core.Path.{_≡_, refl}
+use mathlib.Core.List.{List, [], _∷_, map}
+use lib.Dec.{leb, eqb}
+use lib.ListN.{length, getD, length-append, length-take}
+use Rattle.checks.specs.Lists.{join}
+use Rattle.checks.proofs.Laws.{check-passed, ifOk-holds}
+use Rattle.neighbour.specs.Record.{isUp}
+use Rattle.nets.specs.Rows.{Row}
+use Rattle.blocks.proofs.Lists.{rows-take}
+use Rattle.text.specs.Text.{text, line}
+use Rattle.text.proofs.Laws.{decimal-most, octet-length, word-length, dotted-length}
+use Rattle.neighbour.specs.declared.Phase.{Phase}
+use Rattle.neighbour.specs.declared.Phase.the-variants.{Idle, Acquisition, Down, Up, Cease}
+use Rattle.neighbour.specs.declared.Mode.{Mode}
+use Rattle.neighbour.specs.declared.Mode.the-variants.{Unset, Active, Passive}
+use Rattle.state.specs.declared.Slot.{Slot}
+use Rattle.state.specs.declared.State.{State}
+use Rattle.state.specs.Slots.{freeSlot, slotAt}
+use Rattle.state.specs.Formed.{stateFormed}
+use Rattle.state.specs.Claims.{SlotGood}
+use Rattle.state.specs.Outcomes.{refusedOf}
+use Rattle.state.proofs.Theorems.{formed-slot}
+use Rattle.state.specs.declared.Outcome.{Outcome}
+use Rattle.calls.specs.Carried.{partAt}
+use Rattle.lines.specs.Lines.{stateWord, modeWord, distanceIn, sideWord, headLines, rowLines, rowText, entryText, listingText}
+use Rattle.lines.specs.Listing.{usedRows, entryOf, entriesFrom, entries, listingChecks, listingOutcome}
+use Rattle.listing.specs.Claims.{Typed, Short}
+
+line-length : (name value : List ℕ) → length (line name value) ≡ length name + length value + 1
+unfolding line
+line-length name value = simp length-append (omega arith)
+
+-- ---- rows
+
+side-length : (third : ℕ) → length (sideWord third) ≡ 3
+unfolding sideWord text
+side-length third = go (leb 256 third)
+  where
+    go : (b : Bool) → length (cond b (text "ext") (text "int")) ≡ 3
+    go true = refl
+    go false = refl
+
+row-length : (row : Row) → length (rowText row) ≤ 57
+unfolding rowText rowLines join distanceIn text
+row-length row =
+    let a = dotted-length (row .net) in
+    let b = dotted-length (row .gateway) in
+    let c = octet-length (row .third % 256) (omega arith) in
+    let d = side-length (row .third) in
+    simp (length-append, line-length) (omega arith)
+
+rows-length : (rows : List Row) → length (join (map rowText rows)) ≤ 57 * length rows
+unfolding join
+rows-length [] = omega arith
+rows-length (row ∷ rows) = simp length-append (omega (arith, row-length row, rows-length rows))
+
+used-few : (slot : Slot) (numbers : List ℕ) → length (usedRows slot numbers) ≤ slot .rows
+unfolding usedRows
+used-few slot numbers = rw (rows-take (slot .rows) numbers) (simp length-take (omega arith))
+
+-- ---- slots
+
+mode-length : (mode : Mode) → length (modeWord mode) ≤ 7
+unfolding modeWord text
+mode-length Unset = omega arith
+mode-length Active = omega arith
+mode-length Passive = omega arith
+
+-- outside Up the word may be longer, and there are no rows
+state-length : (phase : Phase) (rows : ℕ) → rows ≤ 128 → (isUp phase ≡ false → rows ≡ 0) → length (stateWord phase) + 57 * rows ≤ 7298
+unfolding stateWord text
+state-length Idle rows h n = omega (arith, n refl)
+state-length Acquisition rows h n = omega (arith, n refl)
+state-length Down rows h n = omega (arith, n refl)
+state-length Up rows h n = omega arith
+state-length Cease rows h n = omega (arith, n refl)
+
+entry-length : (i : ℕ) (slot : Slot) (table : List ℕ) → i < 8 → slot .asn < 65536 → SlotGood slot → length (entryText (entryOf i slot table)) ≤ 7364
+unfolding entryText entryOf headLines join text
+entry-length i slot table h a g =
+    let u = used-few slot (partAt table i) in
+    let r = rows-length (usedRows slot (partAt table i)) in
+    let s = state-length (slot .neighbour .phase) (slot .rows) (g .few) (g .none) in
+    let m = mode-length (slot .neighbour .mode) in
+    let p = decimal-most 0 i (omega arith) in
+    let q = dotted-length (slot .address) in
+    let t = word-length (slot .asn) a in
+    let few : length (usedRows slot (partAt table i)) < 256 = omega (arith, g .few) in
+    let v = octet-length (length (usedRows slot (partAt table i))) few in
+    simp (length-append, line-length) (omega arith)
+
+entries-length : (i : ℕ) (slots : List Slot) (table : List ℕ) → i + length slots ≤ 8 → ((j : ℕ) → ((getD slots j freeSlot) .asn < 65536) × SlotGood (getD slots j freeSlot))
+    → (length (entriesFrom i slots table) ≤ length slots) × (length (join (map entryText (entriesFrom i slots table))) ≤ 7364 * length slots)
+unfolding entriesFrom join
+entries-length i [] table h fine = (omega arith, omega arith)
+entries-length i (slot ∷ rest) table h fine = go (eqb (slot .address) 0) (entries-length (suc i) rest table (omega arith) (λ j. fine (suc j)))
+  where
+    go : (b : Bool) → (length (entriesFrom (suc i) rest table) ≤ length rest) × (length (join (map entryText (entriesFrom (suc i) rest table))) ≤ 7364 * length rest)
+        → (length (cond b (entriesFrom (suc i) rest table) (entryOf i slot table ∷ entriesFrom (suc i) rest table)) ≤ suc (length rest))
+        × (length (join (map entryText (cond b (entriesFrom (suc i) rest table) (entryOf i slot table ∷ entriesFrom (suc i) rest table)))) ≤ 7364 * suc (length rest))
+    go true r = (omega arith, omega arith)
+    go false r = (omega arith, simp length-append (omega (arith, entry-length i slot table (omega arith) (fine 0 .0) (fine 0 .1))))
+
+-- ---- the whole
+
+text-length : (st : State) (table : List ℕ) → Typed st → stateFormed st ≡ true → length (listingText (entries st table)) ≤ 58925
+unfolding listingText entries text slotAt
+text-length st table t f =
+    let e = entries-length 0 (st .slots) table (omega (arith, t .eight)) (λ j. (t .words j, formed-slot st j f .1)) in
+    let c = decimal-most 0 (length (entriesFrom 0 (st .slots) table)) (omega (arith, t .eight)) in
+    simp (length-append, line-length) (omega (arith, t .eight))
+
+pub short : Short
+unfolding listingOutcome listingChecks refusedOf
+short =
+    record {
+      text = text-length;
+      reported = λ st table buffer t. ifOk-holds (listingChecks st table buffer) _ _ (λ (o : Outcome). o .first ≤ 58925) (λ e. text-length st table t (check-passed _ 1 _ refl e .0)) (omega arith);
+    }

@@ -1,0 +1,185 @@
+-- Laws of the used slots and rows, along the loops over them. Assumes nothing.
+use Prim.Native.Nat.{ℕ, suc, _+_, _-_, _*_, _≤_, _<_}
+use native.Mathlib.Nat.{add-zero, zero-add, add-sub-cancel-left}
+use native.Mathlib.Numerals.{add-one}
+use native.Mathlib.Omega.{arith}
+use borrow.Author.Tests.{eq-eqb, ne-eqb, le-leb, lt-leb}
+use mathlib.Core.Bool.{Bool, true, false, cond, _&&_}
+use mathlib.Core.Path.{_≡_, refl, sym, ap, _∙_}
+use mathlib.Core.List.{List, [], _∷_, _++_, map}
+use lib.Dec.{eqb}
+use lib.ListN.{length, take, drop, getD, length-take, drop-of-length-le}
+use lib.Seq.{drop-cons, take-take, sets-eq}
+use Rattle.checks.specs.Lists.{every, join}
+use Rattle.nets.specs.Rows.{rowsOf}
+use Rattle.blocks.proofs.Lists.{rows-turn, rows-short}
+use Rattle.octets.specs.Buffer.{over}
+use Rattle.text.specs.Text.{text, decimal, line}
+use Rattle.text.specs.Steps.{Written}
+use Rattle.text.proofs.Storing.{Writing, start, room, turn, last}
+use Rattle.state.specs.declared.Slot.{Slot}
+use Rattle.state.specs.Slots.{freeSlot}
+use Rattle.calls.specs.Carried.{partAt}
+use Rattle.lines.specs.Lines.{Entry, headLines, entryText, listingText}
+use Rattle.lines.specs.Listing.{usedRows, entryOf, entriesFrom, markedRow, listable}
+use Rattle.lines.specs.Steps.{listed, rowsText}
+use Rattle.listing.specs.Steps.{slotText, slotListable}
+
+-- ---- third numbers, row by row
+
+module _ (u : List ℕ) where
+  pub marked-not : 2 < length u → 511 < getD u 2 0 → every markedRow (rowsOf u) ≡ false
+  unfolding every markedRow
+  marked-not h k = rw (rows-turn u h, lt-leb (getD u 2 0) 511 k)
+
+  pub marked-next : 2 < length u → getD u 2 0 ≤ 511 → every markedRow (rowsOf u) ≡ every markedRow (rowsOf (drop 3 u))
+  unfolding every markedRow
+  marked-next h k = rw (rows-turn u h, le-leb (getD u 2 0) 511 k)
+
+  pub marked-end : length u ≤ 2 → every markedRow (rowsOf u) ≡ true
+  unfolding every
+  marked-end h = rw (rows-short u h)
+
+-- ---- the used rows of a slot are a part of the table
+
+-- the part that the code takes
+abbrev pub part : ℕ → Slot → List ℕ → List ℕ
+part i slot table = take (i * 384 + 3 * slot .rows - i * 384) (drop (i * 384) table)
+
+module _ (i : ℕ) (slot : Slot) (table : List ℕ) (few : slot .rows ≤ 128) where
+  used-part : rowsOf (part i slot table) ≡ (entryOf i slot table) .rows
+  unfolding entryOf usedRows partAt
+  used-part = rw (add-sub-cancel-left (i * 384) (3 * slot .rows), take-take (3 * slot .rows) 384 (drop (i * 384) table) (omega arith))
+
+  listed-is : listed i slot (rowsOf (part i slot table)) ≡ entryOf i slot table
+  unfolding listed entryOf
+  listed-is = ap (listed i slot) used-part
+
+  pub part-long : length (part i slot table) ≤ 384
+  part-long = simp length-take (omega arith)
+
+  module _ (n : slot .address ≡ 0 → ⊥) where
+    pub used-listable : every markedRow (rowsOf (part i slot table)) ≡ slotListable i slot table
+    unfolding slotListable listable
+    used-listable = rw (ne-eqb (slot .address) 0 n) (ap (every markedRow) used-part)
+
+    used-text : slotText i slot table ≡ join (headLines (listed i slot (rowsOf (part i slot table)))) ++ rowsText (rowsOf (part i slot table))
+    unfolding slotText entryText rowsText
+    used-text = rw (ne-eqb (slot .address) 0 n, listed-is, used-part)
+
+    module _ (at : ℕ) (old : List ℕ) (h : at + length (slotText i slot table) ≤ length old) where
+      pub head-room : at + length (join (headLines (listed i slot (rowsOf (part i slot table))))) ≤ length old
+      head-room =
+          room (start (slotText i slot table) at old h)
+          (join (headLines (listed i slot (rowsOf (part i slot table))))) (rowsText (rowsOf (part i slot table))) used-text
+
+      module _ {mid : List ℕ} {o : ℕ} (p : Written (join (headLines (listed i slot (rowsOf (part i slot table))))) at old mid o) where
+        from-rows : Writing (slotText i slot table) at old (rowsText (rowsOf (part i slot table))) o mid
+        from-rows =
+            turn (start (slotText i slot table) at old h)
+            (join (headLines (listed i slot (rowsOf (part i slot table))))) (rowsText (rowsOf (part i slot table))) used-text p
+
+        pub rows-room : o + length (rowsText (rowsOf (part i slot table))) ≤ length mid
+        rows-room = from-rows .fits
+
+        pub slot-done : {new : List ℕ} {end : ℕ} → Written (rowsText (rowsOf (part i slot table))) o mid new end → Written (slotText i slot table) at old new end
+        slot-done q = last from-rows q
+
+pub free-listable : (i : ℕ) (slot : Slot) (table : List ℕ) → slot .address ≡ 0 → slotListable i slot table ≡ true
+unfolding slotListable
+free-listable i slot table e = rw (eq-eqb (slot .address) 0 e)
+
+pub free-written : (i : ℕ) (slot : Slot) (table : List ℕ) (at : ℕ) (out : List ℕ) → slot .address ≡ 0 → Written (slotText i slot table) at out out at
+unfolding slotText
+free-written i slot table at out e = rw (eq-eqb (slot .address) 0 e) (record { list = refl; after = sym (add-zero at) })
+
+-- ---- slot by slot
+
+text-next : (b : Bool) (e : Entry) (es : List Entry) → join (map entryText (cond b es (e ∷ es))) ≡ cond b [] (entryText e) ++ join (map entryText es)
+unfolding join
+text-next true e es = refl
+text-next false e es = refl
+
+listable-next : (b : Bool) (e : Entry) (es : List Entry) → every listable (cond b es (e ∷ es)) ≡ (cond b true (listable e) && every listable es)
+unfolding every
+listable-next true e es = refl
+listable-next false e es = refl
+
+-- the used slots from index i on
+unfoldable pub left : List Slot → List ℕ → ℕ → List Entry
+left slots table i = entriesFrom i (drop i slots) table
+
+unfoldable pub textLeft : List Slot → List ℕ → ℕ → List ℕ
+textLeft slots table i = join (map entryText (left slots table i))
+
+module _ (slots : List Slot) (table : List ℕ) (i : ℕ) where
+  module _ (h : i < length slots) where
+    left-turn : left slots table i ≡ cond (eqb ((getD slots i freeSlot) .address) 0) (left slots table (i + 1)) (entryOf i (getD slots i freeSlot) table ∷ left slots table (i + 1))
+    unfolding left entriesFrom
+    left-turn = rw (add-one, drop-cons slots i freeSlot h)
+
+    pub text-turn : textLeft slots table i ≡ slotText i (getD slots i freeSlot) table ++ textLeft slots table (i + 1)
+    unfolding textLeft slotText
+    text-turn =
+        ap (λ (es : List Entry). join (map entryText es)) left-turn
+        ∙ text-next (eqb ((getD slots i freeSlot) .address) 0) (entryOf i (getD slots i freeSlot) table) (left slots table (i + 1))
+
+    listable-turn : every listable (left slots table i) ≡ (slotListable i (getD slots i freeSlot) table && every listable (left slots table (i + 1)))
+    unfolding slotListable
+    listable-turn =
+        ap (every listable) left-turn
+        ∙ listable-next (eqb ((getD slots i freeSlot) .address) 0) (entryOf i (getD slots i freeSlot) table) (left slots table (i + 1))
+
+    pub listable-not : slotListable i (getD slots i freeSlot) table ≡ false → every listable (left slots table i) ≡ false
+    listable-not e = listable-turn ∙ rw e
+
+    pub listable-more : slotListable i (getD slots i freeSlot) table ≡ true → every listable (left slots table i) ≡ every listable (left slots table (i + 1))
+    listable-more e = listable-turn ∙ rw e
+
+    pub count-free : (getD slots i freeSlot) .address ≡ 0 → length (left slots table i) ≡ length (left slots table (i + 1))
+    count-free e = rw (left-turn, eq-eqb ((getD slots i freeSlot) .address) 0 e)
+
+    pub count-used : ((getD slots i freeSlot) .address ≡ 0 → ⊥) → length (left slots table i) ≡ suc (length (left slots table (i + 1)))
+    count-used n = rw (left-turn, ne-eqb ((getD slots i freeSlot) .address) 0 n)
+
+  module _ (h : length slots ≤ i) where
+    left-end : left slots table i ≡ []
+    unfolding left entriesFrom
+    left-end = rw (drop-of-length-le slots h)
+
+    pub text-end : textLeft slots table i ≡ []
+    unfolding textLeft join
+    text-end = rw left-end
+
+    pub listable-end : every listable (left slots table i) ≡ true
+    unfolding every
+    listable-end = rw left-end
+
+    pub count-end : length (left slots table i) ≡ 0
+    count-end = ap length left-end
+
+-- ---- the whole text
+
+module _ (es : List Entry) (n : ℕ) (e : n ≡ length es) (out : List ℕ) (h : length (listingText es) ≤ length out) where
+  text-is : listingText es ≡ line (text "neighbours=") (decimal n) ++ join (map entryText es)
+  unfolding listingText
+  text-is = rw e
+
+  from-count : Writing (listingText es) 0 out (listingText es) 0 out
+  from-count = start (listingText es) 0 out (rw zero-add h)
+
+  pub count-room : 0 + length (line (text "neighbours=") (decimal n)) ≤ length out
+  count-room = room from-count (line (text "neighbours=") (decimal n)) (join (map entryText es)) text-is
+
+  module _ {mid : List ℕ} {o : ℕ} (p : Written (line (text "neighbours=") (decimal n)) 0 out mid o) where
+    from-slots : Writing (listingText es) 0 out (join (map entryText es)) o mid
+    from-slots = turn from-count (line (text "neighbours=") (decimal n)) (join (map entryText es)) text-is p
+
+    pub slots-room : o + length (join (map entryText es)) ≤ length mid
+    slots-room = from-slots .fits
+
+    pub all-done : {new : List ℕ} {end : ℕ} → Written (join (map entryText es)) o mid new end → (end ≡ length (listingText es)) × (new ≡ over (listingText es) out)
+    unfolding over
+    all-done q =
+        let w = last from-slots q in
+        (w .after ∙ zero-add (length (listingText es)), w .list ∙ sets-eq (listingText es) out 0 (rw zero-add h) ∙ rw zero-add)

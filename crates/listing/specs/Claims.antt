@@ -1,0 +1,22 @@
+-- What holds of every listing. The proofs are in proofs/Bound.antt.
+use Prim.Native.Nat.{ℕ, _<_, _≤_}
+use mathlib.Core.Bool.{true}
+use mathlib.Core.Path.{_≡_}
+use mathlib.Core.List.{List}
+use lib.ListN.{length}
+use Rattle.state.specs.declared.State.{State}
+use Rattle.state.specs.Slots.{slotAt}
+use Rattle.state.specs.Formed.{stateFormed}
+use Rattle.lines.specs.Lines.{listingText}
+use Rattle.lines.specs.Listing.{entries, listingOutcome}
+
+-- a state of the code has eight slots, and 16-bit ASs, by its type
+pub record Typed (st : State) : Type 0 where
+  pub eight : length (st .slots) ≡ 8
+  pub words : (i : ℕ) → (slotAt st i) .asn < 65536
+
+-- The longest listing has 13 octets, and of each of eight neighbours 68, and 57 of each of its 128 rows: fewer than 65,536, the buffer's least
+-- length, and its length fits the 16 bits in which it is reported. Check 1 is what bounds it: no rows outside Up, and at most 128.
+pub record Short : Type 0 where
+  pub text : (st : State) (table : List ℕ) → Typed st → stateFormed st ≡ true → length (listingText (entries st table)) ≤ 58925
+  pub reported : (st : State) (table buffer : List ℕ) → Typed st → (listingOutcome st table buffer) .first ≤ 58925

@@ -1,0 +1,161 @@
+-- What a listing lists: the gateway's entries are the model's, and every row of a model fed octets is marked. Assumes nothing.
+use Prim.Native.Nat.{ℕ, suc, _+_, _<_}
+use native.Mathlib.Omega.{arith}
+use mathlib.Core.Path.{_≡_, refl, _∙_, ap, subst}
+use mathlib.Core.Bool.{Bool, true, false, cond, _&&_}
+use mathlib.Core.List.{List, [], _∷_, map}
+use lib.Dec.{eqb}
+use lib.ListN.{length, getD}
+use borrow.Author.Tests.{eq-eqb, not-true}
+use Rattle.checks.specs.Checks.{check}
+use Rattle.checks.specs.Lists.{every}
+use Rattle.checks.proofs.Laws.{cond-elim, and-left, and-right, and-both, check-holds}
+use Rattle.nets.specs.Rows.{Row}
+use Rattle.wire.specs.Reading as Wire
+use Rattle.wire.specs.Reading.{decodeOf}
+use Rattle.wire.specs.declared.Decoded.{Decoded}
+use Rattle.wire.specs.declared.Decoded.the-variants as D
+use Rattle.neighbour.specs.declared.Phase.{Phase}
+use Rattle.neighbour.specs.declared.Settings.{Settings}
+use Rattle.neighbour.specs.declared.Neighbour.{Neighbour}
+use Rattle.neighbour.specs.Record.{idle, isUp}
+use Rattle.machine.specs.declared.Event.{Event}
+use Rattle.machine.specs.Step.{stepOf}
+use Rattle.state.specs.Slots.{freeSlot}
+use Rattle.state.specs.Formed.{stateFormed}
+use Rattle.state.proofs.ListLaws.{every-set, every-getD}
+use Rattle.calls.specs.Carried.{partAt}
+use Rattle.calls.specs.Calls.{tableFits}
+use Rattle.lines.specs.Lines.{Entry}
+use Rattle.lines.specs.Listing.{usedRows, entryOf, entriesFrom, entries, markedRow, listable, listingChecks}
+use Rattle.model.specs.Model.{Call, add, remove, start, stop, tick, receive, listing, Slot, free, used, Model, slotIn, put, whenOk, addTurn, removeTurn, noOctets, noMove, rowsIn, moved, eventMove, isUpdate, answerTo, afterMessage, rowsAfter, refusalReply, messageMove, turnAt, eventTurn, messageTurn, listedFrom, listed, listingAnswer, listingTurn, step, placeOf}
+use Rattle.model.specs.Theorem.{isOctet, carriesOctets, cell, stateOf, rowsHeld, tableOf}
+use Rattle.model.proofs.Represent.{sound, Good, table-length, part-of, read-back}
+use Rattle.model.proofs.Marked.{update-marks}
+
+-- ---- the entries
+
+unfoldable ReadsBack : List ℕ → ℕ → List Slot → Type 0
+ReadsBack table k l = (i : ℕ) → i < length l → usedRows (cell (getD l i free)) (partAt table (k + i)) ≡ rowsHeld (getD l i free)
+
+reads-next : (table : List ℕ) (k : ℕ) (slot : Slot) (l : List Slot) → ReadsBack table k (slot ∷ l) → ReadsBack table (suc k) l
+unfolding ReadsBack
+reads-next table k slot l h i q =
+    let e : k + suc i ≡ suc k + i = omega arith in
+    subst (λ (n : ℕ). usedRows (cell (getD l i free)) (partAt table n) ≡ rowsHeld (getD l i free)) e (h (suc i) (omega (arith, q)))
+
+reads-here : (table : List ℕ) (k : ℕ) (slot : Slot) (l : List Slot) → ReadsBack table k (slot ∷ l) → usedRows (cell slot) (partAt table k) ≡ rowsHeld slot
+unfolding ReadsBack
+reads-here table k slot l h =
+    let e : k + 0 ≡ k = omega arith in
+    subst (λ (n : ℕ). usedRows (cell slot) (partAt table n) ≡ rowsHeld slot) e (h 0 (omega arith))
+
+entry-is : (table : List ℕ) (k : ℕ) (address asn : ℕ) (n : Neighbour) (rows : List Row)
+    → usedRows (cell (used address asn n rows)) (partAt table k) ≡ rows
+    → entryOf k (cell (used address asn n rows)) table ≡ record { index = k; address = address; asn = asn; phase = n .phase; mode = n .mode; rows = rows }
+unfolding entryOf cell
+entry-is table k address asn n rows e =
+    λ i. record { index = k; address = address; asn = asn; phase = n .phase; mode = n .mode; rows = e i }
+
+listed-from : (table : List ℕ) (k : ℕ) (l : List Slot) → every sound l ≡ true → ReadsBack table k l → entriesFrom k (map cell l) table ≡ listedFrom k l
+unfolding entriesFrom listedFrom every sound cell freeSlot rowsHeld
+listed-from table k [] s h = refl
+listed-from table k (free ∷ l) s h = listed-from table (suc k) l s (reads-next table k free l h)
+listed-from table k (used address asn n rows ∷ l) s h =
+    let slot = used address asn n rows in
+    rw (not-true (eqb address 0) (and-left (sound slot) (every sound l) s), entry-is table k address asn n rows (reads-here table k slot l h))
+    (ap (λ (r : List Entry). record { index = k; address = address; asn = asn; phase = n .phase; mode = n .mode; rows = rows } ∷ r)
+    (listed-from table (suc k) l (and-right (sound slot) (every sound l) s) (reads-next table k slot l h)))
+
+-- ---- the rows
+
+-- a slot whose rows a listing takes
+unfoldable pub marked : Slot → Bool
+marked slot = every markedRow (rowsHeld slot)
+
+abbrev pub Marked : Model → Type 0
+Marked m = every marked (m .slots) ≡ true
+
+listed-marks : (k : ℕ) (l : List Slot) → every marked l ≡ true → every listable (listedFrom k l) ≡ true
+unfolding listedFrom every marked listable rowsHeld
+listed-marks k [] e = refl
+listed-marks k (free ∷ l) e = listed-marks (suc k) l e
+listed-marks k (used address asn n rows ∷ l) e =
+    let slot = used address asn n rows in
+    and-both (every markedRow rows) (every listable (listedFrom (suc k) l))
+    (and-left (marked slot) (every marked l) e) (listed-marks (suc k) l (and-right (marked slot) (every marked l) e))
+
+module _ (m : Model) (ok : Good m) where
+  reads-back : ReadsBack (tableOf m) 0 (m .slots)
+  unfolding ReadsBack usedRows slotIn
+  reads-back i q =
+      let i8 : i < 8 = omega (arith, q, ok .eight) in
+      let z : 0 + i ≡ i = omega arith in
+      rw (z, part-of m ok i i8) (read-back (slotIn m i))
+
+  pub entries-of : entries (stateOf m) (tableOf m) ≡ listed m
+  unfolding entries listed stateOf
+  entries-of = listed-from (tableOf m) 0 (m .slots) (ok .each) reads-back
+
+  pub listing-answer : Marked m → (buffer : List ℕ) → listingChecks (stateOf m) (tableOf m) buffer ≡ listingAnswer buffer
+  unfolding listingChecks listingAnswer listed check
+  listing-answer k buffer =
+      check-holds (stateFormed (stateOf m)) 1 _ (ok .formed)
+      ∙ check-holds (tableFits (tableOf m) && every listable (entries (stateOf m) (tableOf m))) 2 _
+      (and-both (tableFits (tableOf m)) (every listable (entries (stateOf m) (tableOf m))) (eq-eqb (length (tableOf m)) 3072 (table-length m ok))
+      (rw entries-of (listed-marks 0 (m .slots) k)))
+
+-- ---- octets keep every row marked
+
+rows-marks : (phase : Phase) (rows : List Row) → every markedRow rows ≡ true → every markedRow (rowsIn phase rows) ≡ true
+unfolding rowsIn every
+rows-marks phase rows e = cond-elim (λ l. every markedRow l ≡ true) (isUp phase) rows [] (λ _. e) (λ _. refl)
+
+event-marks : (g : Settings) (event : Event) (slot : Slot) → marked slot ≡ true → marked ((eventMove g event slot) .slot) ≡ true
+unfolding marked rowsHeld eventMove moved noMove every
+event-marks g event free e = refl
+event-marks g event (used address asn n rows) e = rows-marks ((stepOf g asn n event noOctets) .neighbour .phase) rows e
+
+after-marks : (g : Settings) (n : Neighbour) (o : List ℕ) (d : Decoded) (rows : List Row) → every isOctet o ≡ true → every markedRow rows ≡ true
+    → every markedRow (rowsAfter g n o d rows) ≡ true
+unfolding rowsAfter
+after-marks g n o (D.Good m) rows h e =
+    cond-elim (λ l. every markedRow l ≡ true) (isUpdate m && isUp (n .phase)) _ rows (λ _. update-marks 128 (g .net) o h) (λ _. e)
+after-marks g n o D.UnknownKind rows h e = e
+after-marks g n o D.BadStatus rows h e = e
+after-marks g n o D.BadLength rows h e = e
+
+message-marks : (g : Settings) (o : List ℕ) (slot : Slot) → every isOctet o ≡ true → marked slot ≡ true → marked ((messageMove g o slot) .slot) ≡ true
+unfolding marked rowsHeld messageMove moved noMove whenOk every
+message-marks g o free h e = refl
+message-marks g o (used address asn n rows) h e = go (eqb (answerTo g asn n o) 0)
+  where
+    go : (b : Bool)
+        → marked ((cond b (moved address asn (afterMessage g asn n o (decodeOf o)) (rowsAfter g n o (decodeOf o) rows))
+        (record { answer = answerTo g asn n o; reply = refusalReply g n o (answerTo g asn n o); slot = used address asn n rows })) .slot) ≡ true
+    go true = rows-marks _ (rowsAfter g n o (decodeOf o) rows) (after-marks g n o (decodeOf o) rows h e)
+    go false = e
+
+module _ (m : Model) (k : Marked m) where
+  marked-at : (i : ℕ) → marked (slotIn m i) ≡ true
+  unfolding slotIn marked rowsHeld every
+  marked-at i = every-getD marked (m .slots) i free k refl
+
+  put-marked : (a i : ℕ) (slot : Slot) → marked slot ≡ true → Marked (whenOk a (put m i slot) m)
+  unfolding whenOk put
+  put-marked a i slot s =
+      cond-elim (λ (x : Model). Marked x) (eqb a 0) _ m (λ _. every-set marked (m .slots) i slot k s) (λ _. k)
+
+  event-marked : (event : Event) (a : ℕ) (buffer : List ℕ) → Marked ((eventTurn event m a buffer) .model)
+  unfolding eventTurn turnAt
+  event-marked event a buffer = put-marked _ (placeOf m a) _ (event-marks (m .settings) event (slotIn m (placeOf m a)) (marked-at (placeOf m a)))
+
+  pub marked-step : (call : Call) → carriesOctets call ≡ true → Marked ((step call m) .model)
+  unfolding carriesOctets step addTurn removeTurn messageTurn listingTurn turnAt marked rowsHeld every
+  marked-step (add address asn) h = put-marked _ _ (used address asn idle []) refl
+  marked-step (remove address) h = put-marked _ _ free refl
+  marked-step (start a buffer) h = event-marked _ a buffer
+  marked-step (stop a buffer) h = event-marked _ a buffer
+  marked-step (tick a buffer) h = event-marked _ a buffer
+  marked-step (receive a o home buffer) h = put-marked _ (placeOf m a) _ (message-marks (m .settings) o (slotIn m (placeOf m a)) h (marked-at (placeOf m a)))
+  marked-step (listing buffer) h = k

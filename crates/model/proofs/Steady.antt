@@ -1,0 +1,271 @@
+-- No call of a list is answered 1 or 2, and what is refused or lists changes nothing. Assumes nothing.
+use Prim.Native.Nat.{ℕ}
+use mathlib.Core.Path.{_≡_, refl, sym, _∙_, ap}
+use mathlib.Core.Bool.{Bool, true, false, _&&_, _||_, false≢true}
+use mathlib.Core.List.{List, [], _∷_}
+use lib.Dec.{ltb, leb, eqb}
+use lib.ListN.{length, getD}
+use lib.Seq.{set-getD}
+use borrow.Author.Tests.{eqb-true, eqb-false, ne-eqb}
+use Rattle.checks.specs.Checks.{check, ifOk}
+use Rattle.checks.specs.Lists.{every}
+use Rattle.neighbour.specs.Record.{isUp}
+use Rattle.checks.proofs.Laws.{cond-elim, and-left, and-right, check-holds}
+use Rattle.octets.specs.Numbers.{word16}
+use Rattle.octets.specs.Checksum.{checksumOf}
+use Rattle.nets.specs.Rows.{Row, rowsOf}
+use Rattle.wire.specs.Reading as Wire
+use Rattle.wire.specs.Reading.{headerAnswer, asnAt, decodeOf}
+use Rattle.wire.specs.declared.Decoded.{Decoded}
+use Rattle.wire.specs.declared.Decoded.the-variants as D
+use Rattle.walk.specs.Body.{UpdateRead, accepted, brokenAt, tooMany, updateOf}
+use Rattle.neighbour.specs.declared.Settings.{Settings}
+use Rattle.neighbour.specs.declared.Neighbour.{Neighbour}
+use Rattle.neighbour.specs.Rules.{inSequence}
+use Rattle.machine.specs.declared.Event.{Event}
+use Rattle.machine.specs.declared.Event.the-variants.{Start, Stop, Tick}
+use Rattle.state.specs.Formed.{stateFormed}
+use Rattle.state.specs.Outcomes.{refusedOf}
+use Rattle.slots.specs.Calls.{freshOf}
+use Rattle.calls.specs.Home.{goodHome}
+use Rattle.calls.specs.Calls.{tableFits}
+use Rattle.lines.specs.Listing.{entries, listable, listingChecks, listingOutcome}
+use Rattle.model.specs.Model.{Call, add, remove, start, stop, tick, receive, listing, Slot, free, used, Model, slotIn, put, placeOf, isPresent, vacancy, Said, silent, spoken, whenOk, addable, addAnswer, isIdleSlot, removeAnswer, addTurn, removeTurn, Move, noMove, moved, eventMove, bodyAnswer, isUpdate, kindAnswer, answerTo, messageMove, eventAnswer, messageAnswer, turnAt, eventTurn, messageTurn, listingAnswer, listingSaid, listingTurn, step, model, modelFrom, empty}
+use Rattle.model.specs.Theorem.{Gateway, outcomeOf, gatewayStep, run, stateOf, tableOf, carriesOctets, listsNothing, Steady, NeverOneOrTwo}
+use Rattle.model.proofs.Represent.{Good}
+use Rattle.model.proofs.Listed.{Marked, marked-step}
+use Rattle.model.proofs.Simulation.{spoken-answer, represent, Heeds, simulates}
+use Rattle.model.proofs.History.{message-stays}
+use Rattle.model.proofs.Theorem.{step-is, empty-marked, run-is, model-good}
+
+-- ---- 0, or 3 and above
+
+abbrev High : ℕ → Type 0
+High k = (eqb k 0 || leb 3 k) ≡ true
+
+not-one : (k : ℕ) → High k → k ≡ 1 → ⊥
+not-one k h e = false≢true (rw e at h)
+
+not-two : (k : ℕ) → High k → k ≡ 2 → ⊥
+not-two k h e = false≢true (rw e at h)
+
+check-high : (b : Bool) (k rest : ℕ) → High k → High rest → High (check b k rest)
+unfolding check
+check-high true k rest h r = r
+check-high false k rest h r = h
+
+when-high : (k : ℕ) (s : Said) → High k → High (s .answer) → High ((whenOk k s (silent k)) .answer)
+unfolding whenOk silent
+when-high k s h r = cond-elim (λ (x : Said). High (x .answer)) (eqb k 0) s _ (λ _. r) (λ _. h)
+
+header-high : (o : List ℕ) → High (headerAnswer o)
+unfolding headerAnswer
+header-high o =
+    check-high (leb 10 (length o) && leb (length o) 2048) 6 _ refl
+    (check-high (eqb (getD o 0 0) 2) 7 _ refl (check-high (eqb (word16 o 4) (checksumOf o)) 8 0 refl refl))
+
+body-high : (u : UpdateRead) → High (bodyAnswer u)
+unfolding bodyAnswer
+body-high (accepted rows) = refl
+body-high (brokenAt offset) = refl
+body-high tooMany = refl
+
+kind-high : (g : Settings) (n : Neighbour) (o : List ℕ) (d : Decoded) → High (kindAnswer g n o d)
+unfolding kindAnswer
+kind-high g n o (D.Good m) =
+    check-high (inSequence n m) 13 _ refl (cond-elim High (isUpdate m && isUp (n .phase)) _ 0 (λ _. body-high (updateOf 128 (g .net) o)) (λ _. refl))
+kind-high g n o D.UnknownKind = refl
+kind-high g n o D.BadStatus = refl
+kind-high g n o D.BadLength = refl
+
+answer-high : (g : Settings) (asn : ℕ) (n : Neighbour) (o : List ℕ) → High (answerTo g asn n o)
+unfolding answerTo whenOk
+answer-high g asn n o =
+    cond-elim High (eqb (headerAnswer o) 0) _ (headerAnswer o)
+    (λ _. check-high (eqb (asnAt o) asn) 9 _ refl (kind-high g n o (decodeOf o))) (λ _. header-high o)
+
+event-answers : (g : Settings) (event : Event) (slot : Slot) → (eventMove g event slot) .answer ≡ 0
+unfolding eventMove noMove moved
+event-answers g event free = refl
+event-answers g event (used address asn n rows) = refl
+
+message-high : (g : Settings) (o : List ℕ) (slot : Slot) → High ((messageMove g o slot) .answer)
+unfolding messageMove noMove moved whenOk
+message-high g o free = refl
+message-high g o (used address asn n rows) =
+    cond-elim (λ (x : Move). High (x .answer)) (eqb (answerTo g asn n o) 0) _ _ (λ _. refl) (λ _. answer-high g asn n o)
+
+module _ (m : Model) where
+  turn-high : (k place : ℕ) (move : Move) (home : List Row) → High k → High (move .answer) → High ((turnAt m k place move home) .said .answer)
+  unfolding turnAt
+  turn-high k place move home h r = when-high k (spoken (move .answer) (move .reply) home) h (rw spoken-answer r)
+
+  event-high : (event : Event) (a : ℕ) (buffer : List ℕ) → High ((eventTurn event m a buffer) .said .answer)
+  unfolding eventTurn eventAnswer
+  event-high event a buffer =
+      turn-high _ (placeOf m a) _ [] (check-high (leb 2048 (length buffer)) 3 _ refl (check-high (isPresent m a) 5 0 refl refl))
+      (rw (event-answers (m .settings) event (slotIn m (placeOf m a))))
+
+  -- 01: "1 and 2 never fail here", of the model's own answers
+  said-high : (call : Call) → High ((step call m) .said .answer)
+  unfolding step addTurn removeTurn addAnswer removeAnswer messageTurn messageAnswer listingTurn listingAnswer listingSaid silent
+  said-high (add address asn) = check-high (addable m address asn) 16 _ refl (check-high (ltb (vacancy m) 8) 17 0 refl refl)
+  said-high (remove address) = check-high (isPresent m address) 5 _ refl (check-high (isIdleSlot (slotIn m (placeOf m address))) 18 0 refl refl)
+  said-high (start a buffer) = event-high Start a buffer
+  said-high (stop a buffer) = event-high Stop a buffer
+  said-high (tick a buffer) = event-high Tick a buffer
+  said-high (receive a o home buffer) =
+      turn-high _ (placeOf m a) _ (rowsOf home)
+      (check-high (leb 2048 (length buffer)) 3 _ refl (check-high (goodHome (m .settings) home) 4 _ refl (check-high (isPresent m a) 5 0 refl refl)))
+      (message-high (m .settings) o (slotIn m (placeOf m a)))
+  said-high (listing buffer) =
+      when-high _ _ (check-high (leb 65536 (length buffer)) 3 0 refl refl) refl
+
+-- ---- refused
+
+when-not : {A : Type 0} (k : ℕ) (new old : A) → (k ≡ 0 → ⊥) → whenOk k new old ≡ old
+unfolding whenOk
+when-not k new old h = rw (ne-eqb k 0 h)
+
+when-zero : {A : Type 0} (k : ℕ) (new old : A) → k ≡ 0 → whenOk k new old ≡ new
+unfolding whenOk
+when-zero k new old h = rw h
+
+put-same : (m : Model) (i : ℕ) → put m i (slotIn m i) ≡ m
+unfolding put slotIn
+put-same m i = let e = set-getD (m .slots) i free in λ k. record { settings = m .settings; slots = e k }
+
+message-keeps : (g : Settings) (o : List ℕ) (slot : Slot) → ((messageMove g o slot) .answer ≡ 0 → ⊥) → (messageMove g o slot) .slot ≡ slot
+unfolding messageMove noMove moved
+message-keeps g o free h = refl
+message-keeps g o (used address asn n rows) h = go (eqb (answerTo g asn n o) 0) refl
+  where
+    go : (b : Bool) → eqb (answerTo g asn n o) 0 ≡ b → (messageMove g o (used address asn n rows)) .slot ≡ used address asn n rows
+    go true e = absurd (h (ap (λ (x : Move). x .answer) (when-zero (answerTo g asn n o) _ _ (eqb-true (answerTo g asn n o) 0 e))))
+    go false e = ap (λ (x : Move). x .slot) (message-stays g o address asn n rows e)
+
+module _ (m : Model) where
+  turn-keeps : (k place : ℕ) (move : Move) (home : List Row) → ((move .answer ≡ 0 → ⊥) → move .slot ≡ slotIn m place)
+      → ((turnAt m k place move home) .said .answer ≡ 0 → ⊥) → (turnAt m k place move home) .model ≡ m
+  unfolding turnAt
+  turn-keeps k place move home s h = go (eqb k 0) refl
+    where
+      go : (b : Bool) → eqb k 0 ≡ b → whenOk k (put m place (move .slot)) m ≡ m
+      go true e =
+          let z = eqb-true k 0 e in
+          let n : move .answer ≡ 0 → ⊥ = λ q. h (ap (λ (x : Said). x .answer) (when-zero k _ _ z) ∙ spoken-answer (move .answer) (move .reply) home ∙ q) in
+          when-zero k _ _ z ∙ ap (put m place) (s n) ∙ put-same m place
+      go false e = when-not k _ _ (eqb-false k 0 e)
+
+  event-keeps : (event : Event) (a : ℕ) (buffer : List ℕ) → ((eventTurn event m a buffer) .said .answer ≡ 0 → ⊥) → (eventTurn event m a buffer) .model ≡ m
+  unfolding eventTurn
+  event-keeps event a buffer h =
+      turn-keeps _ (placeOf m a) (eventMove (m .settings) event (slotIn m (placeOf m a))) [] (λ n. absurd (n (event-answers (m .settings) event (slotIn m (placeOf m a))))) h
+
+  -- 01: "refused calls and listings change nothing"
+  pub refused-keeps : (call : Call) → ((step call m) .said .answer ≡ 0 → ⊥) → (step call m) .model ≡ m
+  unfolding step addTurn removeTurn messageTurn listingTurn silent
+  refused-keeps (add address asn) h = when-not (addAnswer m address asn) _ _ h
+  refused-keeps (remove address) h = when-not (removeAnswer m address) _ _ h
+  refused-keeps (start a buffer) h = event-keeps Start a buffer h
+  refused-keeps (stop a buffer) h = event-keeps Stop a buffer h
+  refused-keeps (tick a buffer) h = event-keeps Tick a buffer h
+  refused-keeps (receive a o home buffer) h =
+      turn-keeps _ (placeOf m a) (messageMove (m .settings) o (slotIn m (placeOf m a))) (rowsOf home)
+      (message-keeps (m .settings) o (slotIn m (placeOf m a))) h
+  refused-keeps (listing buffer) h = refl
+
+  listing-same : (buffer : List ℕ) → (step (listing buffer) m) .model ≡ m
+  unfolding step listingTurn
+  listing-same buffer = refl
+
+-- ---- the gateway beside it
+
+one-two : (b c : Bool) → check b 2 (check c 3 0) ≡ 1 → ⊥
+unfolding check
+one-two true true e = false≢true (ap (λ (k : ℕ). eqb k 1) e)
+one-two true false e = false≢true (ap (λ (k : ℕ). eqb k 1) e)
+one-two false c e = false≢true (ap (λ (k : ℕ). eqb k 1) e)
+
+module _ (m : Model) (ok : Good m) where
+  answer-of : (call : Call) → Heeds m ok call → (outcomeOf call (represent m)) .answer ≡ (step call m) .said .answer
+  answer-of call h = simulates m ok call h .answer
+
+  listing-says : (buffer : List ℕ) → (outcomeOf (listing buffer) (represent m)) .answer ≡ listingChecks (stateOf m) (tableOf m) buffer
+  unfolding outcomeOf represent listingOutcome ifOk refusedOf
+  listing-says buffer = go (eqb (listingChecks (stateOf m) (tableOf m) buffer) 0) refl
+    where
+      go : (b : Bool) → eqb (listingChecks (stateOf m) (tableOf m) buffer) 0 ≡ b → (listingOutcome (stateOf m) (tableOf m) buffer) .answer ≡ listingChecks (stateOf m) (tableOf m) buffer
+      go true e = rw e (sym (eqb-true (listingChecks (stateOf m) (tableOf m) buffer) 0 e))
+      go false e = rw e
+
+  listing-one : (buffer : List ℕ) → listingChecks (stateOf m) (tableOf m) buffer ≡ 1 → ⊥
+  unfolding listingChecks
+  listing-one buffer e =
+      one-two (tableFits (tableOf m) && every listable (entries (stateOf m) (tableOf m))) (leb 65536 (length buffer))
+      (sym (check-holds (stateFormed (stateOf m)) 1 _ (ok .formed)) ∙ e)
+
+  plain-high : (call : Call) → listsNothing call ≡ true → High ((outcomeOf call (represent m)) .answer)
+  plain-high call e = rw (answer-of call (λ f. absurd (false≢true (sym f ∙ e)))) (said-high m call)
+
+  marked-high : (call : Call) → Marked m → High ((outcomeOf call (represent m)) .answer)
+  marked-high call k = rw (answer-of call (λ _. k)) (said-high m call)
+
+  one-of : (call : Call) → (outcomeOf call (represent m)) .answer ≡ 1 → ⊥
+  unfolding listsNothing
+  one-of (add address asn) e = not-one _ (plain-high (add address asn) refl) e
+  one-of (remove address) e = not-one _ (plain-high (remove address) refl) e
+  one-of (start a buffer) e = not-one _ (plain-high (start a buffer) refl) e
+  one-of (stop a buffer) e = not-one _ (plain-high (stop a buffer) refl) e
+  one-of (tick a buffer) e = not-one _ (plain-high (tick a buffer) refl) e
+  one-of (receive a o home buffer) e = not-one _ (plain-high (receive a o home buffer) refl) e
+  one-of (listing buffer) e = listing-one buffer (sym (listing-says buffer) ∙ e)
+
+  listing-stays : (buffer : List ℕ) → gatewayStep (listing buffer) (represent m) ≡ represent m
+  listing-stays buffer = step-is m ok (listing buffer) ∙ ap represent (listing-same m buffer)
+
+  stays-by : (call : Call) → listsNothing call ≡ true → ((outcomeOf call (represent m)) .answer ≡ 0 → ⊥) → gatewayStep call (represent m) ≡ represent m
+  stays-by call e h =
+      step-is m ok call ∙ ap represent (refused-keeps m call (λ q. h (answer-of call (λ f. absurd (false≢true (sym f ∙ e))) ∙ q)))
+
+  refused-stays : (call : Call) → ((outcomeOf call (represent m)) .answer ≡ 0 → ⊥) → gatewayStep call (represent m) ≡ represent m
+  unfolding listsNothing
+  refused-stays (add address asn) h = stays-by (add address asn) refl h
+  refused-stays (remove address) h = stays-by (remove address) refl h
+  refused-stays (start a buffer) h = stays-by (start a buffer) refl h
+  refused-stays (stop a buffer) h = stays-by (stop a buffer) refl h
+  refused-stays (tick a buffer) h = stays-by (tick a buffer) refl h
+  refused-stays (receive a o home buffer) h = stays-by (receive a o home buffer) refl h
+  refused-stays (listing buffer) h = listing-stays buffer
+
+marked-from : (m : Model) → Marked m → (calls : List Call) → every carriesOctets calls ≡ true → Marked (modelFrom m calls)
+unfolding modelFrom every
+marked-from m k [] e = k
+marked-from m k (call ∷ rest) e =
+    marked-from ((step call m) .model) (marked-step m k call (and-left (carriesOctets call) (every carriesOctets rest) e)) rest
+    (and-right (carriesOctets call) (every carriesOctets rest) e)
+
+module _ (g : Settings) (z : (freshOf (g .asn) (g .own) (g .capability) (g .net)) .answer ≡ 0) (calls : List Call) where
+  model-marked : every carriesOctets calls ≡ true → Marked (model g calls)
+  unfolding model
+  model-marked e = marked-from (empty g) (empty-marked g z) calls e
+
+  pub steady : Steady g calls
+  steady =
+      let ok = model-good g z calls in
+      let m = model g calls in
+      let is : run g calls ≡ represent m = run-is g z calls in
+      let said : (call : Call) → (outcomeOf call (run g calls)) .answer ≡ (outcomeOf call (represent m)) .answer =
+      λ call. ap (λ (b : Gateway). (outcomeOf call b) .answer) is in
+      record {
+        one = λ call e. one-of m ok call (sym (said call) ∙ e);
+        two = λ call h e. not-two _ (marked-high m ok call (model-marked h)) (sym (said call) ∙ e);
+        two-unlisted = λ call h e. not-two _ (plain-high m ok call h) (sym (said call) ∙ e);
+        refused = λ call h. refused-keeps m call h;
+        refused-gateway = λ call h. ap (gatewayStep call) is ∙ refused-stays m ok call (λ q. h (said call ∙ q)) ∙ sym is;
+        listings = λ buffer. listing-same m buffer;
+        listings-gateway = λ buffer. ap (gatewayStep (listing buffer)) is ∙ listing-stays m ok buffer ∙ sym is;
+      }
+
+pub never-one-or-two : NeverOneOrTwo
+never-one-or-two g z calls = steady g z calls

@@ -1,0 +1,86 @@
+-- An example, so that no corollary's premise is one that nothing meets: neighbours that come Up, report 128 nets each, fall silent, and poll 65,535 times.
+use Prim.Native.Nat.{ℕ, zero, suc, _+_, _*_, _%_, _<_}
+use mathlib.Core.Path.{_≡_}
+use mathlib.Core.Bool.{true}
+use mathlib.Core.List.{List, [], _∷_, _++_}
+use lib.Dec.{leb}
+use lib.ListN.{length}
+use Rattle.nets.specs.Rows.{Row}
+use Rattle.rows.specs.Storing.{zeros}
+use Rattle.message.specs.declared.Message.the-variants.{Request, Cease, Hello, Update}
+use Rattle.codec.specs.Octets.{octetsOf}
+use Rattle.neighbour.specs.declared.Settings.{Settings}
+use Rattle.neighbour.specs.Rules.{onesOf, goesDown}
+use Rattle.model.specs.Model.{Call, add, tick, receive}
+use Rattle.model.specs.History.{lastAccepted}
+use Rattle.model.specs.Theorem.{gatewayStep, run}
+use Rattle.model.specs.Corollaries.{Taken, slotOn, isUpOn, BothReport, Says, SaysRows}
+
+-- AS 9 at 128.9.0.1 on 128.9.0.0, passive only
+unfoldable pub someSettings : Settings
+someSettings = record { asn = 9; own = 2148073473; capability = 2; net = 2148073472 }
+
+-- a reply buffer
+unfoldable pub lent : List ℕ
+lent = zeros 2048
+
+-- the class A nets from k on, that many, at distance 0 through 128.9.0.5
+unfoldable pub classA : ℕ → ℕ → List Row
+classA k zero = []
+classA k (suc n) = record { net = k * 16777216; gateway = 2148073477; third = 0 } ∷ classA (suc k) n
+
+-- n seconds
+unfoldable pub ticks : ℕ → ℕ → List Call
+ticks a zero = []
+ticks a (suc n) = tick a lent ∷ ticks a n
+
+-- a Hello with status 1: an indication in passive mode
+unfoldable pub saysHello : ℕ → Call
+saysHello a = receive a (octetsOf (Hello 7 0 1) []) [] lent
+
+-- added, acquired with both intervals 120, heard once, Up after T1, which is 122; then its Update
+unfoldable pub reporting : ℕ → List Call
+reporting a =
+    add a 7
+    ∷ receive a (octetsOf (Request 7 0 0 120 120) []) [] lent
+    ∷ saysHello a
+    ∷ (ticks a 122 ++ (receive a (octetsOf (Update 7 1 1 2148073472) (classA 0 128)) [] lent ∷ []))
+
+-- eight of them, in slots 0 to 7
+unfoldable pub eight : List Call
+eight =
+    reporting 1
+    ++ (reporting 2 ++ (reporting 3 ++ (reporting 4 ++ (reporting 5 ++ (reporting 6 ++ (reporting 7 ++ reporting 8))))))
+
+-- heard once and polled once, n times
+unfoldable pub polled : ℕ → List Call
+polled zero = []
+polled (suc n) = (saysHello 1 ∷ ticks 1 122) ++ polled n
+
+-- S is 1 when Up is entered, so 65,535 after 65,534 polls more; then a second before the next
+unfoldable pub lastNumber : List Call
+lastNumber = reporting 1 ++ (polled 65534 ++ (saysHello 1 ∷ ticks 1 121))
+
+-- ---- the premises
+
+-- eight neighbours of 128 rows; two that report 10.0.0.0; a Cease and a Request of the first, and its silence
+pub record EightMet : Type 0 where
+  pub taken : Taken someSettings
+  pub full : (j : ℕ) → j < 8 → length (lastAccepted someSettings j eight) ≡ 128
+  pub both : BothReport (run someSettings eight) 0 1 167772160
+  pub room : leb 2048 (length lent) ≡ true
+  pub cease : Says (run someSettings eight) 0 (octetsOf (Cease 7 0 0) []) [] lent (Cease 7 0 0)
+  pub request : Says (run someSettings eight) 0 (octetsOf (Request 7 0 0 120 120) []) [] lent (Request 7 0 0 120 120)
+  pub still-both : BothReport (run someSettings (eight ++ ticks 1 487)) 0 1 167772160
+  pub silent : (slotOn (run someSettings (eight ++ ticks 1 487)) 0) .neighbour .t1 ≡ 1
+  pub lost :
+      goesDown ((slotOn (run someSettings (eight ++ ticks 1 487)) 0) .neighbour .mode)
+      (onesOf (((slotOn (run someSettings (eight ++ ticks 1 487)) 0) .neighbour .register * 2 + (slotOn (run someSettings (eight ++ ticks 1 487)) 0) .neighbour .heard) % 16)) ≡ true
+
+-- a run from fresh in which S is 65,535 and the next tick polls; and an Update with number 0
+pub record LastNumberMet : Type 0 where
+  pub number : (slotOn (run someSettings lastNumber) 0) .neighbour .s ≡ 65535
+  pub due : (slotOn (run someSettings lastNumber) 0) .neighbour .t2 ≡ 1
+  pub up : isUpOn (run someSettings lastNumber) 0 ≡ true
+  pub still : isUpOn (gatewayStep (tick ((slotOn (run someSettings lastNumber) 0) .address) lent) (run someSettings lastNumber)) 0 ≡ true
+  pub update : SaysRows (run someSettings lastNumber) 0 0 (octetsOf (Update 7 0 1 2148073472) (classA 10 1)) [] lent (classA 10 1)

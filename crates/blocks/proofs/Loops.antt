@@ -8,25 +8,19 @@ use mathlib.Core.List.{List, [], _∷_, _++_}
 use borrow.Author.Tests.{eqb-true, eq-eqb, ne-eqb, le-leb, lt-leb}
 use lib.Dec.{eqb}
 use lib.ListN.{length, take, drop, getD, set, length-drop, length-append}
-use lib.Seq.{sets, length-sets, drop-cons, length-take-le}
+use lib.Seq.{sets, length-sets, length-take-le}
 use Rattle.checks.proofs.Laws.{and-left, and-right, part-from}
 use Rattle.checks.specs.Lists.{every}
+use Rattle.storing.specs.Written.{Written}
+use Rattle.storing.proofs.Storing.{written-append, Writing, start, room, turn, done}
 use Rattle.nets.specs.Classes.{goodNet}
 use Rattle.nets.specs.Rows.{Row, rowsOf}
 use Rattle.blocks.specs.Blocks.{sideRows, runs, distanceRuns, each, netOctets, hostOctets, netsOctets, groupOctets, groupsOctets, blockOctets, gatewayRuns, sideOctets, blocksOf, internalBlocks, externalBlocks}
 use Rattle.blocks.specs.Writable.{ordered, writableRow, writableRows, writableNumbers}
-use Rattle.blocks.specs.Steps.{Written, column, agreeing, runLength}
-use Rattle.blocks.proofs.Lists.{and-false, set-before, written-append, rows-turn, rows-short, rows-length, Writing, start, room, turn, done}
+use Rattle.blocks.specs.Steps.{column, agreeing, runLength}
+use Rattle.blocks.proofs.Lists.{and-false, set-before, rows-turn, rows-short, rows-length}
 use Rattle.blocks.proofs.Runs.{runs-turn, runs-number, numbers-within, numbers-some, split-within, internal-part, external-part}
 use Rattle.blocks.proofs.Claims.{rows-most, writable-sides, short}
-
--- put: one more octet copied
-pub copy-turn : (out src : List ℕ) (at i : ℕ) → i < length src
-    → sets out (at + i) (drop i src) ≡ sets (set out (at + i) (getD src i 0)) (at + (i + 1)) (drop (i + 1) src)
-copy-turn out src at i h =
-    let e : suc (at + i) ≡ at + (i + 1) = omega arith in
-    ap (sets out (at + i)) (drop-cons src i 0 h) ∙ ap (λ (k : ℕ). sets (set out (at + i) (getD src i 0)) k (drop (suc i) src)) e
-    ∙ ap (λ (k : ℕ). sets (set out (at + i) (getD src i 0)) (at + (i + 1)) (drop k src)) (sym (add-one i))
 
 -- the row at the front of numbers
 abbrev pub rowAt : List ℕ → Row

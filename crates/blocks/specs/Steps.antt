@@ -1,17 +1,9 @@
 -- What the writer's inner functions promise.
-use Prim.Native.Nat.{ℕ, zero, suc, _+_}
+use Prim.Native.Nat.{ℕ, zero, suc}
 use mathlib.Core.Bool.{cond}
-use mathlib.Core.Path.{_≡_}
 use mathlib.Core.List.{List, [], _∷_}
 use lib.Dec.{eqb}
-use lib.ListN.{length}
-use lib.Seq.{sets}
 use Rattle.nets.specs.Rows.{Row}
-
--- octets stored from index at on, and the index after them
-pub record Written (octets : List ℕ) (at : ℕ) (old new : List ℕ) (end : ℕ) : Type 0 where
-  pub list : new ≡ sets old at octets
-  pub after : end ≡ at + length octets
 
 -- a row's number by its column: net 0, gateway 1, third 2
 abbrev pub column : ℕ → Row → ℕ

@@ -4,11 +4,12 @@ ghost use mathlib.Core.Bool.{true};
 ghost use Prim.Native.Nat.{_+_, _*_, _≤_, _<_, _%_};
 ghost use lib.ListN.{length};
 ghost use lib.Seq.{sets};
+ghost use Rattle.storing.specs.Written.{Written};
 ghost use Rattle.nets.specs.Classes.{goodNet};
 ghost use Rattle.nets.specs.Rows.{rowsOf};
 ghost use Rattle.blocks.specs.Blocks.{addressOctets, netOctets, hostOctets, netsOctets, groupOctets, groupsOctets, blockOctets, sideOctets, sideRows, distanceRuns, gatewayRuns, blocksOf, internalBlocks, externalBlocks};
 ghost use Rattle.blocks.specs.Writable.{writableNumbers, writableRow};
-ghost use Rattle.blocks.specs.Steps.{Written, column, runLength};
+ghost use Rattle.blocks.specs.Steps.{column, runLength};
 
 // Where the blocks of an Update end in the buffer, and the two counts of its head.
 pub struct Blocks {
@@ -65,19 +66,6 @@ pub fn writable(net: u32, rows: &[u32]) -> bool
     true
 }
 
-// Stores octets from index `at` on.
-fn put(out: &mut [u8], at: usize, octets: &[u8]) -> usize
-    requires { ⌜ at + length (now octets) ≤ length (now out) ⌝ }
-    ensures { λ r. ⌜ Written (now (octets .entry)) at (now (out .entry)) (now (out .exit)) r ⌝ }
-{
-    let mut i = 0;
-    while i < octets.len() {
-        out[at + i] = octets[i];
-        i += 1;
-    }
-    at + i
-}
-
 // The four octets of an address.
 fn address_octets(address: u32) -> [u8; 4]
     ensures { λ r. ⌜ r ≡ addressOctets address ⌝ }
@@ -97,7 +85,7 @@ fn write_net(out: &mut [u8], at: usize, net: u32) -> usize
 {
     let octets = address_octets(net);
     let width = nets::width_of(net);
-    put(out, at, &octets[..width])
+    storing::put(out, at, &octets[..width])
 }
 
 // Writes the host part of a gateway.
@@ -107,7 +95,7 @@ fn write_host(out: &mut [u8], at: usize, net: u32, gateway: u32) -> usize
 {
     let octets = address_octets(gateway);
     let start = nets::width_of(net);
-    put(out, at, &octets[start..])
+    storing::put(out, at, &octets[start..])
 }
 
 // How many numbers the first run of rows takes, of equal numbers in a column.

@@ -4,8 +4,8 @@ use mathlib.Core.Path.{_≡_, refl}
 use mathlib.Core.List.{List, [], _∷_, _++_}
 use lib.ListN.{length, drop, getD}
 use Rattle.checks.specs.Lists.{join}
-use Rattle.text.specs.Steps.{Written}
-use Rattle.text.proofs.Storing.{Writing, start, room, turn, done}
+use Rattle.storing.specs.Written.{Written}
+use Rattle.storing.proofs.Storing.{Writing, start, room, turn, done}
 use Rattle.nets.specs.Rows.{Row, rowsOf}
 use Rattle.blocks.proofs.Lists.{rows-turn, rows-short}
 use Rattle.lines.specs.Lines.{rowText}

@@ -7,7 +7,7 @@ ghost use Prim.Native.Nat.{_+_, _≤_};
 ghost use lib.ListN.{length};
 ghost use Rattle.checks.specs.Lists.{join};
 ghost use Rattle.text.specs.Text.{text, line};
-ghost use Rattle.text.specs.Steps.{Written};
+ghost use Rattle.storing.specs.Written.{Written};
 ghost use Rattle.nets.specs.Rows.{rowsOf};
 ghost use Rattle.lines.specs.Lines.{stateWord, modeWord, sideWord, headLines, rowText};
 ghost use Rattle.lines.specs.Steps.{listed, rowsText};

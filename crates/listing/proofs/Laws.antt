@@ -15,8 +15,8 @@ use Rattle.nets.specs.Rows.{rowsOf}
 use Rattle.blocks.proofs.Lists.{rows-turn, rows-short}
 use Rattle.octets.specs.Buffer.{over}
 use Rattle.text.specs.Text.{text, decimal, line}
-use Rattle.text.specs.Steps.{Written}
-use Rattle.text.proofs.Storing.{Writing, start, room, turn, last}
+use Rattle.storing.specs.Written.{Written}
+use Rattle.storing.proofs.Storing.{Writing, start, room, turn, last}
 use Rattle.state.specs.declared.Slot.{Slot}
 use Rattle.state.specs.Slots.{freeSlot}
 use Rattle.calls.specs.Carried.{partAt}

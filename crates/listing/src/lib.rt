@@ -10,7 +10,7 @@ ghost use lib.ListN.{length};
 ghost use Rattle.checks.specs.Lists.{every};
 ghost use Rattle.octets.specs.Buffer.{over};
 ghost use Rattle.nets.specs.Rows.{rowsOf};
-ghost use Rattle.text.specs.Steps.{Written};
+ghost use Rattle.storing.specs.Written.{Written};
 ghost use Rattle.state.specs.Formed.{stateFormed};
 ghost use Rattle.lines.specs.Lines.{listingText};
 ghost use Rattle.lines.specs.Listing.{entries, markedRow, listable, listingChecks, listingOutcome, listingBuffer};

@@ -8,10 +8,11 @@ use mathlib.Core.List.{List, [], _∷_, _++_, append-assoc}
 use borrow.Author.Tests.{lt-ltb, le-ltb, ltb-true, ltb-false}
 use lib.Dec.{ltb}
 use lib.ListN.{length, set, length-append}
+use Rattle.storing.specs.Written.{Written}
+use Rattle.storing.proofs.Storing.{written-one, written-append, Writing, start, room, turn, last}
 use Rattle.text.specs.Text.{text, digit, digits, decimal, dotted, line}
 use Rattle.text.specs.Claims.{numberFrom, DecimalLaws, Lengths}
-use Rattle.text.specs.Steps.{Written, beforeDot}
-use Rattle.text.proofs.Storing.{written-one, written-append, Writing, start, room, turn, last}
+use Rattle.text.specs.Steps.{beforeDot}
 
 -- the surplus of digits allowed for does not show
 digits-enough : (a b n : ℕ) → n < a → n < b → digits a n ≡ digits b n

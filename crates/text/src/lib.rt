@@ -3,21 +3,9 @@ ghost use mathlib.Core.Path.{_≡_};
 ghost use mathlib.Core.List.{[], _∷_};
 ghost use Prim.Native.Nat.{_+_, _≤_, _<_};
 ghost use lib.ListN.{length};
+ghost use Rattle.storing.specs.Written.{Written};
 ghost use Rattle.text.specs.Text.{decimal, dotted, line};
-ghost use Rattle.text.specs.Steps.{Written, beforeDot};
-
-// Writes octets.
-pub fn put_text(out: &mut [u8], at: usize, octets: &[u8]) -> usize
-    requires { ⌜ at + length (now octets) ≤ length (now out) ⌝ }
-    ensures { λ r. ⌜ Written (now (octets .entry)) at (now (out .entry)) (now (out .exit)) r ⌝ }
-{
-    let mut i = 0;
-    while i < octets.len() {
-        out[at + i] = octets[i];
-        i += 1;
-    }
-    at + i
-}
+ghost use Rattle.text.specs.Steps.{beforeDot};
 
 // Writes a number, the highest digit first.
 pub fn put_decimal(out: &mut [u8], at: usize, n: u32) -> usize
@@ -39,7 +27,7 @@ fn put_before_dot(out: &mut [u8], at: usize, n: u32) -> usize
     ensures { λ r. ⌜ Written (beforeDot n) at (now (out .entry)) (now (out .exit)) r ⌝ }
 {
     let end = put_decimal(out, at, n);
-    put_text(out, end, b".")
+    storing::put(out, end, b".")
 }
 
 // Writes an address as a dotted quad.
@@ -67,8 +55,8 @@ pub fn put_line_text(out: &mut [u8], at: usize, name: &[u8], value: &[u8]) -> us
     requires { ⌜ at + length (line (now name) (now value)) ≤ length (now out) ⌝ }
     ensures { λ r. ⌜ Written (line (now (name .entry)) (now (value .entry))) at (now (out .entry)) (now (out .exit)) r ⌝ }
 {
-    let start = put_text(out, at, name);
-    let end = put_text(out, start, value);
+    let start = storing::put(out, at, name);
+    let end = storing::put(out, start, value);
     put_end(out, end)
 }
 
@@ -77,7 +65,7 @@ pub fn put_line_decimal(out: &mut [u8], at: usize, name: &[u8], n: u32) -> usize
     requires { ⌜ at + length (line (now name) (decimal n)) ≤ length (now out) ⌝ }
     ensures { λ r. ⌜ Written (line (now (name .entry)) (decimal n)) at (now (out .entry)) (now (out .exit)) r ⌝ }
 {
-    let start = put_text(out, at, name);
+    let start = storing::put(out, at, name);
     let end = put_decimal(out, start, n);
     put_end(out, end)
 }
@@ -87,7 +75,7 @@ pub fn put_line_dotted(out: &mut [u8], at: usize, name: &[u8], address: u32) -> 
     requires { ⌜ at + length (line (now name) (dotted address)) ≤ length (now out) ⌝ }
     ensures { λ r. ⌜ Written (line (now (name .entry)) (dotted address)) at (now (out .entry)) (now (out .exit)) r ⌝ }
 {
-    let start = put_text(out, at, name);
+    let start = storing::put(out, at, name);
     let end = put_dotted(out, start, address);
     put_end(out, end)
 }

@@ -2,9 +2,9 @@
 use native.Mathlib.Omega.{arith}
 use lib.ListN.{length, length-drop}
 use Rattle.checks.proofs.Laws.{part-from}
+use Rattle.storing.proofs.Storing.{Writing, start, turn, done}
 use Rattle.nets.specs.Rows.{rowsOf}
 use Rattle.blocks.proofs.Loops.{nets-turn, nets-room, nets-end}
-use Rattle.blocks.proofs.Lists.{Writing, start, turn, done}
 use Rattle.blocks.specs.Blocks.{netsOctets}
 use Rattle.blocks.proofs.write_nets.Statement.{statement}
 use Rattle.blocks.proofs.write_nets.Tie as tie

@@ -2,7 +2,7 @@
 use Rattle.checks.proofs.Laws.{part-from}
 use Rattle.lines.proofs.Laws.{row-room, row-turn, rows-done}
 use Rattle.lines.specs.Steps.{rowsText}
-use Rattle.text.proofs.Storing.{Writing, start}
+use Rattle.storing.proofs.Storing.{Writing, start}
 use Rattle.nets.specs.Rows.{rowsOf}
 use lib.ListN.{length, length-drop}
 use native.Mathlib.Omega.{arith}

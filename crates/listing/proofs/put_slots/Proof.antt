@@ -6,7 +6,7 @@ use Rattle.state.proofs.Theorems.{formed-slot}
 use Rattle.state.proofs.ListLaws.{unmapped}
 use Rattle.state.specs.Slots.{freeSlot, slotAt}
 use Rattle.neighbour.specs.Record.{idle}
-use Rattle.text.proofs.Storing.{Writing, start, room, turn, done}
+use Rattle.storing.proofs.Storing.{Writing, start, room, turn, done}
 use lib.ListN.{length, getD}
 use mathlib.Core.Path.{_≡_}
 use Prim.Native.Nat.{_+_, _-_, _≤_}

@@ -1,14 +1,13 @@
--- `blocks::put` meets its contract. The loop keeps: what is left to store gives what all of it gave at first. Assumes nothing.
+-- `storing::put` meets its contract. The loop keeps: what is left to store gives what all of it gave at first. Assumes nothing.
 use Prim.Native.Nat.{_+_, _-_, _≤_}
 use native.Mathlib.Nat.{add-zero}
 use native.Mathlib.Omega.{arith}
 use mathlib.Core.Path.{_≡_, refl, sym, ap, _∙_}
-use lib.ListN.{length, drop, length-set}
+use lib.ListN.{length, drop, length-set, drop-of-length-le}
 use lib.Seq.{sets}
-use Rattle.blocks.proofs.Loops.{copy-turn}
-use lib.ListN.{drop-of-length-le}
-use Rattle.blocks.proofs.put.Statement.{statement}
-use Rattle.blocks.proofs.put.Tie as tie
+use Rattle.storing.proofs.Storing.{copy-turn}
+use Rattle.storing.proofs.put.Statement.{statement}
+use Rattle.storing.proofs.put.Tie as tie
 
 abbrev Inv-loop : tie.InvT-loop
 Inv-loop out₀ at octets i₀ out i =

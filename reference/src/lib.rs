@@ -11,10 +11,13 @@
 //! * [`call`]: one call with all its raw arguments, and a bench that runs it.
 //! * [`generate`]: seeded lists of calls that steer into deep states.
 //! * [`coverage`]: what a list of calls touched, and the laws every call must keep.
+//! * [`record`], [`compare`], [`sample`], [`speed`]: calls as octets, and another implementation
+//!   run on them call by call, or timed.
 
 pub mod answer;
 pub mod call;
 pub mod checksum;
+pub mod compare;
 pub mod coverage;
 pub mod gateway;
 pub mod generate;
@@ -23,4 +26,7 @@ pub mod message;
 pub mod neighbour;
 pub mod net;
 pub mod random;
+pub mod record;
+pub mod sample;
+pub mod speed;
 pub mod update;

@@ -212,13 +212,13 @@ pub struct Sender {
 }
 
 /// Faults of a message, with how often each is made.
-pub const MESSAGE_FAULTS: [(u32, &str); 21] = [
+pub const MESSAGE_FAULTS: [(u32, &str); 22] = [
     (2, "message too short"),
     (1, "message too long"),
     (3, "version"),
     (2, "checksum"),
     (2, "checksum FFFF for 0000"),
-    (2, "wrong AS"),
+    (3, "wrong AS"),
     (3, "wrong AS on a Request"),
     (4, "unknown kind"),
     (2, "unknown kind of type 8"),
@@ -232,11 +232,12 @@ pub const MESSAGE_FAULTS: [(u32, &str); 21] = [
     (2, "Update with a wrong gateway count"),
     (2, "Update with a wrong net count"),
     (1, "Update of 129 rows and a defect"),
-    (3, "Update above 128 rows"),
+    (5, "Update above 128 rows"),
+    (12, "any kind, status and length"),
     (6, "octets changed at random"),
 ];
 
-/// A message broken in this way (the last fault may break any rule, several, or none).
+/// A message broken in this way (the last two faults may break any rule, several, or none).
 pub fn message(random: &mut Random, sender: Sender, fault: &str) -> Vec<u8> {
     match fault {
         "message too short" => {
@@ -365,6 +366,25 @@ pub fn message(random: &mut Random, sender: Sender, fault: &str) -> Vec<u8> {
             } else {
                 good_of(random, late, kind)
             }
+        }
+        // No rule is asked here, so that a rule misread cannot keep its own cases out of a list.
+        "any kind, status and length" => {
+            let kind = random.pick(&Kind::ALL);
+            let mut octets = good_of(random, sender, kind);
+            if random.thousandths(300) {
+                octets[1] = random.between(0, 9) as u8;
+                octets[2] = random.between(0, 5) as u8;
+            }
+            if random.thousandths(700) {
+                let low = random.between(0, 8) as u8;
+                octets[3] = low + random.pick(&[0, 0, 120, 124, 128]);
+            }
+            if random.thousandths(400) {
+                let length = random.pick(&[10, 11, 13, 14, 15, 16, 17, 18, 23, 24, 25]);
+                octets.resize(length, 0);
+            }
+            checksum::seal(&mut octets);
+            octets
         }
         "octets changed at random" => {
             let mut octets = good(random, sender);

@@ -1,0 +1,43 @@
+use mathlib.Core.Path.{sym}
+use lib.Seq.{length-take-le}
+use native.Mathlib.Omega.{arith}
+use borrow.Author.Needs.{needs}
+use Rattle.driver.proofs.take_numbers.Statement.{statement}
+use Rattle.driver.proofs.take_numbers.Tie as tie
+
+mul-take-octets : tie.Need-mul-take-octets
+mul-take-octets c = search needs
+
+take-octets-requires : tie.Need-take-octets-requires
+take-octets-requires c κs = search needs
+
+slice-relend-prefix-read-numbers : tie.Need-slice-relend-prefix-read-numbers
+slice-relend-prefix-read-numbers c = search needs
+
+slice-aggregate-read-numbers : tie.Need-slice-aggregate-read-numbers
+slice-aggregate-read-numbers c = sym (length-take-le (c .before .before .before .before .before .before .before .args .count) (c .before .before .before .before .before .before .before .args .numbers .now) (c .before .before .before .before .before .before .before .pre .0))
+
+read-numbers-requires : tie.Need-read-numbers-requires
+read-numbers-requires c κs = omega (arith, length-take-le (c .before .before .before .before .before .before .before .before .args .count) (c .before .before .before .before .before .before .before .before .args .numbers .now) (c .before .before .before .before .before .before .before .before .pre .0), c .before .before .before .before .before .before .before .before .pre .1)
+
+same-length : tie.Need-same-length
+same-length c = search needs
+
+same-length-2 : tie.Need-same-length-2
+same-length-2 c = search needs
+
+returns : tie.Need-returns
+returns c = search needs
+
+pub take-numbers-spec : {M : Type 1} → statement M
+take-numbers-spec =
+    tie.close
+    (tie.spec
+    mul-take-octets
+    take-octets-requires
+    slice-relend-prefix-read-numbers
+    slice-aggregate-read-numbers
+    read-numbers-requires
+    same-length
+    same-length-2
+    returns)

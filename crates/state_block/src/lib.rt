@@ -1,0 +1,260 @@
+// The state as a block of 227 octets (02's state block), read and written.
+use neighbour::Mode;
+use neighbour::Neighbour;
+use neighbour::Phase;
+use neighbour::Settings;
+use state::Slot;
+use state::State;
+ghost use mathlib.Core.Path.{_≡_};
+ghost use Prim.Native.Nat.{_+_, _/_, _%_, _≤_};
+ghost use lib.ListN.{length, getD};
+ghost use lib.Seq.{sets};
+ghost use Rattle.octets.specs.Buffer.{over};
+ghost use Rattle.state_block.specs.Block.{phaseAt, modeAt, phaseNumber, modeNumber, settingsAt, slotAt, stateAt, settingsOctets, slotOctets, slotsOctets, blockOf};
+
+// The state that a number stands for, counted from 0 in 01's order. Records carry no other numbers.
+fn phase_at(number: u8) -> Phase
+    ensures { λ r. ⌜ r ≡ phaseAt number ⌝ }
+{
+    if number == 1 {
+        return Phase::Acquisition;
+    }
+    if number == 2 {
+        return Phase::Down;
+    }
+    if number == 3 {
+        return Phase::Up;
+    }
+    if number == 4 {
+        return Phase::Cease;
+    }
+    Phase::Idle
+}
+
+fn phase_number(phase: Phase) -> u8
+    ensures { λ r. ⌜ r ≡ phaseNumber phase ⌝ }
+{
+    match phase {
+        Phase::Idle => 0,
+        Phase::Acquisition => 1,
+        Phase::Down => 2,
+        Phase::Up => 3,
+        Phase::Cease => 4,
+    }
+}
+
+// The mode that a number stands for: none, active, passive.
+fn mode_at(number: u8) -> Mode
+    ensures { λ r. ⌜ r ≡ modeAt number ⌝ }
+{
+    if number == 1 {
+        return Mode::Active;
+    }
+    if number == 2 {
+        return Mode::Passive;
+    }
+    Mode::Unset
+}
+
+fn mode_number(mode: Mode) -> u8
+    ensures { λ r. ⌜ r ≡ modeNumber mode ⌝ }
+{
+    match mode {
+        Mode::Unset => 0,
+        Mode::Active => 1,
+        Mode::Passive => 2,
+    }
+}
+
+fn read_settings(block: &[u8]) -> Settings
+    ensures { λ r. ⌜ r ≡ settingsAt (now (block .entry)) ⌝ }
+{
+    Settings {
+        asn: octets::word16_at(block, 0),
+        own: octets::word32_at(block, 2),
+        capability: octets::octet(block, 6),
+        net: octets::word32_at(block, 7),
+    }
+}
+
+fn octet_at(octets: &[u8], i: u8) -> u8
+    ensures { λ r. ⌜ r ≡ getD (now (octets .entry)) i 0 ⌝ }
+{
+    octets::octet(octets, i as usize)
+}
+
+// The slot whose 27 octets begin at index at.
+fn read_slot(block: &[u8], at: u8) -> Slot
+    requires { ⌜ at ≤ 200 ⌝ }
+    ensures { λ r. ⌜ r ≡ slotAt (now (block .entry)) at ⌝ }
+{
+    let neighbour = Neighbour {
+        s: octets::word16_at(block, at + 6),
+        r: octets::word16_at(block, at + 8),
+        hello: octets::word16_at(block, at + 10),
+        poll: octets::word16_at(block, at + 12),
+        t1: octets::word16_at(block, at + 14),
+        t2: octets::word16_at(block, at + 16),
+        t3: octets::word16_at(block, at + 18),
+        phase: phase_at(octet_at(block, at + 22)),
+        mode: mode_at(octet_at(block, at + 23)),
+        register: octet_at(block, at + 24),
+        heard: octet_at(block, at + 25),
+        cause: octet_at(block, at + 26),
+    };
+    Slot {
+        address: octets::word32_at(block, at),
+        asn: octets::word16_at(block, at + 4),
+        neighbour,
+        rows: octets::word16_at(block, at + 20),
+    }
+}
+
+// The state whose block this is: the settings, then eight slots of 27 octets each.
+pub fn read_state(block: &[u8]) -> State
+    ensures { λ r. ⌜ r ≡ stateAt (now (block .entry)) ⌝ }
+{
+    let settings = read_settings(block);
+    let slots = [
+        read_slot(block, 11),
+        read_slot(block, 38),
+        read_slot(block, 65),
+        read_slot(block, 92),
+        read_slot(block, 119),
+        read_slot(block, 146),
+        read_slot(block, 173),
+        read_slot(block, 200),
+    ];
+    State { settings, slots }
+}
+
+// The octets of a 16-bit number.
+pub fn high(number: u16) -> u8
+    ensures { λ r. ⌜ r ≡ number / 256 % 256 ⌝ }
+{
+    (number / 256 % 256) as u8
+}
+
+pub fn low(number: u16) -> u8
+    ensures { λ r. ⌜ r ≡ number % 256 ⌝ }
+{
+    (number % 256) as u8
+}
+
+// The octets of a 32-bit number, from the top.
+pub fn first_of(number: u32) -> u8
+    ensures { λ r. ⌜ r ≡ number / 16777216 % 256 ⌝ }
+{
+    (number / 16777216 % 256) as u8
+}
+
+pub fn second_of(number: u32) -> u8
+    ensures { λ r. ⌜ r ≡ number / 65536 % 256 ⌝ }
+{
+    (number / 65536 % 256) as u8
+}
+
+pub fn third_of(number: u32) -> u8
+    ensures { λ r. ⌜ r ≡ number / 256 % 256 ⌝ }
+{
+    (number / 256 % 256) as u8
+}
+
+pub fn fourth_of(number: u32) -> u8
+    ensures { λ r. ⌜ r ≡ number % 256 ⌝ }
+{
+    (number % 256) as u8
+}
+
+// The settings' eleven octets.
+fn settings_octets(s: Settings) -> [u8; 11]
+    ensures { λ r. ⌜ r ≡ settingsOctets s ⌝ }
+{
+    let asn = s.asn;
+    let own = s.own;
+    let net = s.net;
+    [
+        (asn / 256 % 256) as u8,
+        (asn % 256) as u8,
+        (own / 16777216 % 256) as u8,
+        (own / 65536 % 256) as u8,
+        (own / 256 % 256) as u8,
+        (own % 256) as u8,
+        s.capability,
+        (net / 16777216 % 256) as u8,
+        (net / 65536 % 256) as u8,
+        (net / 256 % 256) as u8,
+        (net % 256) as u8,
+    ]
+}
+
+// A slot's 27 octets.
+fn slot_octets(slot: Slot) -> [u8; 27]
+    ensures { λ r. ⌜ r ≡ slotOctets slot ⌝ }
+{
+    let n = slot.neighbour;
+    let phase = n.phase;
+    let mode = n.mode;
+    [
+        first_of(slot.address),
+        second_of(slot.address),
+        third_of(slot.address),
+        fourth_of(slot.address),
+        high(slot.asn),
+        low(slot.asn),
+        high(n.s),
+        low(n.s),
+        high(n.r),
+        low(n.r),
+        high(n.hello),
+        low(n.hello),
+        high(n.poll),
+        low(n.poll),
+        high(n.t1),
+        low(n.t1),
+        high(n.t2),
+        low(n.t2),
+        high(n.t3),
+        low(n.t3),
+        high(slot.rows),
+        low(slot.rows),
+        phase_number(phase),
+        mode_number(mode),
+        n.register,
+        n.heard,
+        n.cause,
+    ]
+}
+
+// Writes a slot's octets from index at on.
+fn put_slot(out: &mut [u8], at: usize, slot: Slot)
+    requires { ⌜ at + 27 ≤ length (now out) ⌝ }
+    ensures { λ _. ⌜ now (out .exit) ≡ sets (now (out .entry)) at (slotOctets slot) ⌝ }
+{
+    octets::store(&mut out[at..], &slot_octets(slot));
+}
+
+// Writes the octets of the slots, one after the other, from index 11 on.
+fn put_slots(out: &mut [u8], st: State)
+    requires { ⌜ 227 ≤ length (now out) ⌝ }
+    ensures { λ _. ⌜ now (out .exit) ≡ sets (now (out .entry)) 11 (slotsOctets (st .slots)) ⌝ }
+{
+    let mut i = 0;
+    let mut at = 11;
+    while i < 8 {
+        let slot = st.slots[i];
+        put_slot(out, at, slot);
+        at += 27;
+        i += 1;
+    }
+}
+
+// Writes a state's block at the front of out.
+pub fn write_state(out: &mut [u8], st: State)
+    requires { ⌜ 227 ≤ length (now out) ⌝ }
+    ensures { λ _. ⌜ now (out .exit) ≡ over (blockOf st) (now (out .entry)) ⌝ }
+{
+    let settings = st.settings;
+    octets::store(out, &settings_octets(settings));
+    put_slots(out, st);
+}

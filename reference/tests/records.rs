@@ -1,0 +1,101 @@
+//! Calls as octets: the stored list of the driver, and what is read back of an answer.
+
+mod common;
+
+use common::*;
+use reference::call::{Bench, Buffer, Call};
+use reference::compare;
+use reference::generate::Generator;
+use reference::record::{self, Given, ANSWER_HEAD, READING, RECORD_HEAD, STATE_BLOCK};
+use reference::sample;
+
+#[test]
+fn the_stored_list_is_the_sample() {
+    assert_eq!(
+        sample::records(),
+        include_bytes!("../../crates/driver/stdin")
+    );
+    assert_eq!(
+        sample::answers(),
+        include_bytes!("../../crates/driver/stdout")
+    );
+}
+
+#[test]
+fn answers_are_read_back() {
+    let mut bench = Bench::default();
+    for step in Generator::new(5).take(2000) {
+        let record = bench.run(&step.call);
+        let given = Given::expected(&step.call, &record, &bench);
+        let octets = given.encode();
+        let lent = match step.call {
+            Call::Read { .. } => READING,
+            _ => record.buffer.len(),
+        };
+        let length = ANSWER_HEAD + STATE_BLOCK + lent + 4 * bench.table.len();
+        assert_eq!(octets.len(), length);
+        let mut rest = octets.as_slice();
+        assert_eq!(Given::decode(&mut rest).expect("a whole answer"), given);
+        assert!(rest.is_empty());
+    }
+}
+
+#[test]
+fn a_record_has_its_fields_where_the_format_says() {
+    let call = Call::Message {
+        address: N,
+        octets: vec![1, 2, 3],
+        home: vec![NET, OWN],
+        reply: Buffer {
+            length: 2048,
+            fill: 7,
+        },
+    };
+    let octets = record::encode(&call, 5);
+    let head = hex("06 07 00 00 80 09 00 05 00 00 00 00 00 00 08 00 00 00 00 05 00 00 00 03 00 00 00 02 00 00 00 00");
+    assert_eq!(octets[..RECORD_HEAD], head);
+    assert_eq!(
+        octets[RECORD_HEAD..],
+        hex("01 02 03 80 09 00 00 80 09 00 01")
+    );
+}
+
+#[test]
+fn a_state_has_its_fields_where_the_format_says() {
+    let mut gateway = Gateway::new(1);
+    gateway.message(&request(0, 0x0102, 30, 120));
+    let block = record::state_block(&gateway.bench.state);
+    assert_eq!(block.len(), STATE_BLOCK);
+    assert_eq!(block[..11], hex("00 09 80 09 00 01 01 80 09 00 00"));
+    // N is in Down and active: S 0, R 0102, T1 32, T2 122, t1 32, t2 0, t3 120, no rows.
+    assert_eq!(
+        block[11..38],
+        hex("80 09 00 05 00 07 00 00 01 02 00 20 00 7A 00 20 00 00 00 78 00 00 02 01 00 00 00")
+    );
+}
+
+#[test]
+fn a_difference_is_found_where_it_is() {
+    let mut bench = Bench::default();
+    let call = Call::Fresh {
+        as_number: 9,
+        address: OWN,
+        capability: 1,
+        net: NET,
+    };
+    let record = bench.run(&call);
+    let given = Given::expected(&call, &record, &bench);
+    assert_eq!(given.difference(&given), None);
+    let mut other = given.clone();
+    other.table[3071] = 1;
+    let words = given.difference(&other).expect("a difference");
+    assert_eq!(words, "table, number 3071: 0 and 1");
+}
+
+#[test]
+fn a_case_is_three_records() {
+    let octets = compare::case(1, 40);
+    assert!(octets.len() > 3 * RECORD_HEAD + STATE_BLOCK);
+    assert_eq!(octets[0], 10);
+    assert_eq!(octets[RECORD_HEAD + STATE_BLOCK], 11);
+}

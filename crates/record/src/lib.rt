@@ -1,11 +1,11 @@
 // Records of calls as octets: what the driver is told, and what it answers. docs/COMPARISON.md has the format.
 use message::Message;
-use state_block::first_of;
-use state_block::fourth_of;
-use state_block::high;
-use state_block::low;
-use state_block::second_of;
-use state_block::third_of;
+use split::first_of;
+use split::fourth_of;
+use split::high;
+use split::low;
+use split::second_of;
+use split::third_of;
 ghost use mathlib.Core.Path.{_≡_};
 ghost use mathlib.Core.List.{[]};
 ghost use Prim.Native.Nat.{_+_, _*_, _≤_};

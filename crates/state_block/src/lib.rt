@@ -128,44 +128,6 @@ pub fn read_state(block: &[u8]) -> State
     State { settings, slots }
 }
 
-// The octets of a 16-bit number.
-pub fn high(number: u16) -> u8
-    ensures { λ r. ⌜ r ≡ number / 256 % 256 ⌝ }
-{
-    (number / 256 % 256) as u8
-}
-
-pub fn low(number: u16) -> u8
-    ensures { λ r. ⌜ r ≡ number % 256 ⌝ }
-{
-    (number % 256) as u8
-}
-
-// The octets of a 32-bit number, from the top.
-pub fn first_of(number: u32) -> u8
-    ensures { λ r. ⌜ r ≡ number / 16777216 % 256 ⌝ }
-{
-    (number / 16777216 % 256) as u8
-}
-
-pub fn second_of(number: u32) -> u8
-    ensures { λ r. ⌜ r ≡ number / 65536 % 256 ⌝ }
-{
-    (number / 65536 % 256) as u8
-}
-
-pub fn third_of(number: u32) -> u8
-    ensures { λ r. ⌜ r ≡ number / 256 % 256 ⌝ }
-{
-    (number / 256 % 256) as u8
-}
-
-pub fn fourth_of(number: u32) -> u8
-    ensures { λ r. ⌜ r ≡ number % 256 ⌝ }
-{
-    (number % 256) as u8
-}
-
 // The settings' eleven octets.
 fn settings_octets(s: Settings) -> [u8; 11]
     ensures { λ r. ⌜ r ≡ settingsOctets s ⌝ }
@@ -196,28 +158,28 @@ fn slot_octets(slot: Slot) -> [u8; 27]
     let phase = n.phase;
     let mode = n.mode;
     [
-        first_of(slot.address),
-        second_of(slot.address),
-        third_of(slot.address),
-        fourth_of(slot.address),
-        high(slot.asn),
-        low(slot.asn),
-        high(n.s),
-        low(n.s),
-        high(n.r),
-        low(n.r),
-        high(n.hello),
-        low(n.hello),
-        high(n.poll),
-        low(n.poll),
-        high(n.t1),
-        low(n.t1),
-        high(n.t2),
-        low(n.t2),
-        high(n.t3),
-        low(n.t3),
-        high(slot.rows),
-        low(slot.rows),
+        split::first_of(slot.address),
+        split::second_of(slot.address),
+        split::third_of(slot.address),
+        split::fourth_of(slot.address),
+        split::high(slot.asn),
+        split::low(slot.asn),
+        split::high(n.s),
+        split::low(n.s),
+        split::high(n.r),
+        split::low(n.r),
+        split::high(n.hello),
+        split::low(n.hello),
+        split::high(n.poll),
+        split::low(n.poll),
+        split::high(n.t1),
+        split::low(n.t1),
+        split::high(n.t2),
+        split::low(n.t2),
+        split::high(n.t3),
+        split::low(n.t3),
+        split::high(slot.rows),
+        split::low(slot.rows),
         phase_number(phase),
         mode_number(mode),
         n.register,

@@ -1,0 +1,4 @@
+pub mod Numbers
+pub mod Hex
+pub mod Places
+pub mod Claims

@@ -1,0 +1,12 @@
+-- `calling::told` meets its contract. Assumes nothing.
+use mathlib.Core.Path.{refl}
+use Rattle.calling.specs.Steps.{toldOf}
+use Rattle.calling.proofs.told.Statement.{statement}
+use Rattle.calling.proofs.told.Tie as tie
+
+returns : tie.Need-returns
+unfolding toldOf
+returns c = refl
+
+pub told-spec : {M : Type 1} → statement M
+told-spec = tie.close (tie.spec returns)

@@ -1,0 +1,11 @@
+pub mod Laws
+pub mod Lines
+pub mod OneByOne
+pub mod Held
+pub mod Short
+pub mod Due
+pub mod LineEnds
+pub mod Turns
+pub mod Playing
+pub mod Ends
+pub mod Cases

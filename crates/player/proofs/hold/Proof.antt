@@ -1,0 +1,12 @@
+-- `player::hold` meets its contract. Assumes nothing.
+use mathlib.Core.Path.{refl}
+use Rattle.player.specs.Player.{holding}
+use Rattle.player.proofs.hold.Statement.{statement}
+use Rattle.player.proofs.hold.Tie as tie
+
+returns : tie.Need-returns
+unfolding holding
+returns c = refl
+
+pub hold-spec : {M : Type 1} → statement M
+hold-spec = tie.close (tie.spec returns)

@@ -13,8 +13,8 @@ use Rattle.storing.proofs.Storing.{Writing, start, room, turn, last}
 use Rattle.rows.specs.Storing.{zeros}
 use Rattle.text.specs.Text.{text, dotted, line}
 use Rattle.text.proofs.Laws.{dotted-length}
-use Rattle.scan.specs.Hex.{hexText, isHex, hexOctets}
-use Rattle.scan.proofs.Readings.{hexes, hex-half}
+use Rattle.values.specs.Hex.{hexText, isHex, hexOctets}
+use Rattle.values.proofs.Readings.{hexes, hex-half}
 use Rattle.machine.specs.declared.Event.the-variants as E
 use Rattle.state.specs.declared.State.{State}
 use Rattle.state.specs.declared.Outcome.{Outcome}

@@ -4,7 +4,7 @@ use mathlib.Core.List.{List, [], _∷_, _++_}
 use lib.ListN.{take, drop, length}
 use Rattle.rows.specs.Storing.{zeros}
 use Rattle.text.specs.Text.{text, dotted, line}
-use Rattle.scan.specs.Hex.{hexText}
+use Rattle.values.specs.Hex.{hexText}
 use Rattle.state.specs.declared.State.{State}
 use Rattle.calling.specs.declared.Called.{Called}
 use Rattle.model.specs.Model.{Call, add, remove, start, stop, tick, receive, listing}

@@ -8,7 +8,7 @@ ghost use Prim.Native.Nat.{ℕ, _+_, _≤_};
 ghost use lib.ListN.{length};
 ghost use Rattle.octets.specs.Buffer.{over};
 ghost use Rattle.storing.specs.Written.{Written};
-ghost use Rattle.scan.specs.Hex.{isHex, hexOctets};
+ghost use Rattle.values.specs.Hex.{isHex, hexOctets};
 ghost use Rattle.model.specs.Model.{add, remove, start, stop, tick, receive};
 ghost use Rattle.model.specs.Theorem.{tableAfter};
 ghost use Rattle.calling.specs.Told.{lent, txText, repliesText, callText, calledOf, on};
@@ -32,7 +32,7 @@ fn put_tx(out: &mut [u8], at: usize, address: u32, message: &[u8]) -> usize
     let name = storing::put(out, at, b"tx=");
     let slash = text::put_dotted(out, name, address);
     let digits = storing::put(out, slash, b"/");
-    let end = scan::put_hex(out, digits, message);
+    let end = values::put_hex(out, digits, message);
     storing::put(out, end, b"\n")
 }
 
@@ -122,7 +122,7 @@ pub fn hear_neighbour(
     ensures { λ _. ⌜ now (out .exit) ≡ over (callText (receive address (hexOctets (now (digits .entry))) [] lent) (on st (now (table .entry)))) (now (out .entry)) ⌝ }
 {
     let mut octets = [0u8; 2049];
-    let size = scan::read_hex(&mut octets, digits);
+    let size = values::read_hex(&mut octets, digits);
     let mut reply = [0u8; 2048];
     let home = [0u32; 0];
     let o = gateway::receive(st, table, &mut reply, &home, address, &octets[..size]);

@@ -28,9 +28,9 @@ use Rattle.text.specs.Text as Text
 use Rattle.lines.specs.Lines as LinesLines
 use Rattle.lines.specs.Listing as Listing
 use Rattle.model.specs.Theorem as Theorem
-use Rattle.scan.specs.Places as Places
-use Rattle.scan.specs.Numbers as Numbers
-use Rattle.scan.specs.Hex as Hex
+use Rattle.values.specs.Places as Places
+use Rattle.values.specs.Numbers as Numbers
+use Rattle.values.specs.Hex as Hex
 use Rattle.recording.specs.Lines as RecordingLines
 use Rattle.bad_line.specs.BadLine as BadLine
 use Rattle.calling.specs.Told as Told

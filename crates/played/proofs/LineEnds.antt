@@ -13,9 +13,9 @@ use Rattle.text.specs.Text.{text, decimal, dotted}
 use Rattle.neighbour.specs.declared.Settings.{Settings}
 use Rattle.state.specs.declared.Outcome.{Outcome}
 use Rattle.slots.specs.Calls.{freshOf}
-use Rattle.scan.specs.declared.Number.{Number}
-use Rattle.scan.specs.declared.Number.the-variants.{Bad, Is}
-use Rattle.scan.specs.Numbers.{whenNumber}
+use Rattle.values.specs.declared.Number.{Number}
+use Rattle.values.specs.declared.Number.the-variants.{Bad, Is}
+use Rattle.values.specs.Numbers.{whenNumber}
 use Rattle.recording.specs.Lines.{Event, bad, add, remove, start, stop, tick, rx, eventOf, ownAsOf, ownOf, capabilityOf, netOf}
 use Rattle.recording.proofs.Events.{settings}
 use Rattle.bad_line.specs.BadLine.{badText, oneMore}

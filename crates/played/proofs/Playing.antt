@@ -12,7 +12,7 @@ use Rattle.checks.proofs.Laws.{and-left, and-right}
 use Rattle.rows.specs.Storing.{zeros}
 use Rattle.rows.proofs.Laws.{zeros-length}
 use Rattle.neighbour.specs.declared.Settings.{Settings}
-use Rattle.scan.specs.Numbers.{whenNumber}
+use Rattle.values.specs.Numbers.{whenNumber}
 use Rattle.bad_line.specs.BadLine.{badText, oneMore}
 use Rattle.model.specs.Theorem.{Gateway, gatewayFrom, run, emptyTable}
 use Rattle.calling.specs.Told.{on}

@@ -8,9 +8,9 @@ use Rattle.checks.specs.Lists.{join}
 use Rattle.rows.specs.Storing.{zeros}
 use Rattle.neighbour.specs.declared.Settings.{Settings}
 use Rattle.slots.specs.Calls.{freshOf}
-use Rattle.scan.specs.declared.Number.{Number}
-use Rattle.scan.specs.declared.Number.the-variants.{Bad}
-use Rattle.scan.specs.Numbers.{whenNumber}
+use Rattle.values.specs.declared.Number.{Number}
+use Rattle.values.specs.declared.Number.the-variants.{Bad}
+use Rattle.values.specs.Numbers.{whenNumber}
 use Rattle.recording.specs.Lines.{Event, bad, add, remove, start, stop, tick, rx, eventOf, ownAsOf, ownOf, capabilityOf, netOf}
 use Rattle.bad_line.specs.BadLine.{badText, oneMore}
 use Rattle.model.specs.Model as M

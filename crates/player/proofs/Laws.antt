@@ -29,12 +29,12 @@ use Rattle.model.specs.Theorem.{outcomeOf, tableAfter, bufferAfter, seenOf}
 use Rattle.calling.specs.declared.Called.{Called}
 use Rattle.calling.specs.Told.{lent, txText, repliesText, callText, calledOf, on}
 use Rattle.text.specs.Text.{text}
-use Rattle.scan.specs.declared.Number.{Number}
-use Rattle.scan.specs.declared.Number.the-variants.{Bad, Is}
-use Rattle.scan.specs.Numbers.{whenNumber, decimalOf}
-use Rattle.scan.specs.Places.{startsWith}
-use Rattle.scan.specs.Hex.{isHex, hexOctets}
-use Rattle.scan.proofs.Readings.{decimal-bound}
+use Rattle.values.specs.declared.Number.{Number}
+use Rattle.values.specs.declared.Number.the-variants.{Bad, Is}
+use Rattle.values.specs.Numbers.{whenNumber, decimalOf}
+use Rattle.values.specs.Places.{startsWith}
+use Rattle.values.specs.Hex.{isHex, hexOctets}
+use Rattle.values.proofs.Readings.{decimal-bound}
 use Rattle.recording.specs.declared.Read.{Read}
 use Rattle.recording.specs.declared.Read.the-variants as R
 use Rattle.recording.proofs.Read.{the-type}

@@ -8,8 +8,8 @@ use lib.ListN.{length, take}
 use Rattle.neighbour.specs.declared.Settings.{Settings}
 use Rattle.state.specs.declared.State.{State}
 use Rattle.slots.specs.Calls.{freshOf, zeroState}
-use Rattle.scan.specs.declared.Number.{Number}
-use Rattle.scan.specs.Numbers.{whenNumber}
+use Rattle.values.specs.declared.Number.{Number}
+use Rattle.values.specs.Numbers.{whenNumber}
 use Rattle.recording.specs.Lines.{Event, bad, add, remove, start, stop, tick, rx, eventOf, ownAsOf, ownOf, capabilityOf, netOf}
 use Rattle.gather.specs.Gathering.{gathered, lineAfter, lineHeld}
 use Rattle.bad_line.specs.BadLine.{badText, oneMore}

@@ -2,8 +2,8 @@
 use calling::Called;
 use neighbour::Settings;
 use recording::Read;
-use scan::Number;
 use state::State;
+use values::Number;
 ghost use mathlib.Core.Path.{_≡_};
 ghost use mathlib.Core.Bool.{Bool, true, false};
 ghost use mathlib.Core.List.{List, []};

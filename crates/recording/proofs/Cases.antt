@@ -2,9 +2,9 @@
 use mathlib.Core.Path.{refl}
 use Rattle.checks.specs.Lists.{first, every}
 use Rattle.text.specs.Text.{text}
-use Rattle.scan.specs.Places.{placeOf, startsWith}
-use Rattle.scan.specs.Numbers.{whenNumber, isDigit, digitsOf, leadsWithZero, decimalOf, quadOf, dottedOf}
-use Rattle.scan.specs.Hex.{nibble, isHex, hexOctets}
+use Rattle.values.specs.Places.{placeOf, startsWith}
+use Rattle.values.specs.Numbers.{whenNumber, isDigit, digitsOf, leadsWithZero, decimalOf, quadOf, dottedOf}
+use Rattle.values.specs.Hex.{nibble, isHex, hexOctets}
 use Rattle.recording.specs.Lines.{behind, ownAsOf, ownOf, capabilityOf, netOf, alone, slashed, addEvent, tickEvent, rxEvent, eventOf}
 use Rattle.recording.specs.Claims.{isGood}
 use Rattle.recording.specs.Cases.{goodLines, theirEvents, badLines, Cases}

@@ -13,12 +13,12 @@ use Rattle.checks.specs.Lists.{first, every}
 use Rattle.checks.proofs.Laws.{and-left, and-right, and-both, cond-elim}
 use Rattle.text.specs.Text.{text, decimal, dotted}
 use Rattle.text.proofs.Laws.{decimal-most, dotted-length}
-use Rattle.scan.specs.declared.Number.{Number}
-use Rattle.scan.specs.declared.Number.the-variants.{Bad, Is}
-use Rattle.scan.specs.Places.{placeOf, startsWith}
-use Rattle.scan.specs.Numbers.{whenNumber, decimalOf, dottedOf}
-use Rattle.scan.specs.Hex.{hexText, isHex, hexOctets}
-use Rattle.scan.proofs.Readings.{decimals, addresses, hexes, hex-half, slash-place}
+use Rattle.values.specs.declared.Number.{Number}
+use Rattle.values.specs.declared.Number.the-variants.{Bad, Is}
+use Rattle.values.specs.Places.{placeOf, startsWith}
+use Rattle.values.specs.Numbers.{whenNumber, decimalOf, dottedOf}
+use Rattle.values.specs.Hex.{hexText, isHex, hexOctets}
+use Rattle.values.proofs.Readings.{decimals, addresses, hexes, hex-half, slash-place}
 use Rattle.recording.specs.Lines.{behind, ownAsOf, ownOf, capabilityOf, netOf, Event, bad, add, remove, start, stop, tick, rx, alone, slashed, addEvent, tickEvent, rxEvent, eventOf}
 use Rattle.recording.specs.Claims.{eventText, isAddress, inRange, isGood, Events, Setting, Settings}
 

@@ -11,11 +11,11 @@ use lib.ListN.{length, take, drop, length-drop}
 use lib.Seq.{drop-drop}
 use Rattle.checks.proofs.Laws.{and-right}
 use Rattle.text.specs.Text.{text}
-use Rattle.scan.specs.declared.Number.{Number}
-use Rattle.scan.specs.declared.Number.the-variants as N
-use Rattle.scan.specs.Places.{placeOf, startsWith}
-use Rattle.scan.specs.Numbers.{whenNumber, decimalOf, dottedOf}
-use Rattle.scan.specs.Hex.{isHex}
+use Rattle.values.specs.declared.Number.{Number}
+use Rattle.values.specs.declared.Number.the-variants as N
+use Rattle.values.specs.Places.{placeOf, startsWith}
+use Rattle.values.specs.Numbers.{whenNumber, decimalOf, dottedOf}
+use Rattle.values.specs.Hex.{isHex}
 use Rattle.recording.specs.declared.Front.{Front}
 use Rattle.recording.specs.declared.Front.the-variants as F
 use Rattle.recording.specs.declared.Read.{Read}

@@ -7,9 +7,9 @@ use lib.Dec.{leb, ltb}
 use lib.ListN.{length}
 use Rattle.checks.specs.Lists.{every}
 use Rattle.text.specs.Text.{text, decimal, dotted}
-use Rattle.scan.specs.declared.Number.{Number}
-use Rattle.scan.specs.declared.Number.the-variants.{Is}
-use Rattle.scan.specs.Hex.{hexText}
+use Rattle.values.specs.declared.Number.{Number}
+use Rattle.values.specs.declared.Number.the-variants.{Is}
+use Rattle.values.specs.Hex.{hexText}
 use Rattle.recording.specs.Lines.{Event, bad, add, remove, start, stop, tick, rx, eventOf, ownAsOf, ownOf, capabilityOf, netOf}
 
 -- the line that says an event

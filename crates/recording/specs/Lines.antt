@@ -5,11 +5,11 @@ use mathlib.Core.List.{List}
 use lib.Dec.{leb, ltb, eqb}
 use lib.ListN.{length, take, drop}
 use Rattle.text.specs.Text.{text}
-use Rattle.scan.specs.declared.Number.{Number}
-use Rattle.scan.specs.declared.Number.the-variants.{Bad}
-use Rattle.scan.specs.Places.{placeOf, startsWith}
-use Rattle.scan.specs.Numbers.{whenNumber, decimalOf, dottedOf}
-use Rattle.scan.specs.Hex.{isHex, hexOctets}
+use Rattle.values.specs.declared.Number.{Number}
+use Rattle.values.specs.declared.Number.the-variants.{Bad}
+use Rattle.values.specs.Places.{placeOf, startsWith}
+use Rattle.values.specs.Numbers.{whenNumber, decimalOf, dottedOf}
+use Rattle.values.specs.Hex.{isHex, hexOctets}
 
 -- what is read behind a key, if the line begins with it
 unfoldable pub behind : {A : Type 0} → List ℕ → (List ℕ → A) → A → List ℕ → A

@@ -2,7 +2,7 @@
 use Prim.Native.Nat.{ℕ}
 use mathlib.Core.List.{List}
 use lib.ListN.{drop}
-use Rattle.scan.specs.Hex.{hexOctets}
+use Rattle.values.specs.Hex.{hexOctets}
 use Rattle.recording.specs.declared.Read.{Read}
 use Rattle.recording.specs.declared.Read.the-variants as R
 use Rattle.recording.specs.Lines.{Event, bad, add, remove, start, stop, tick, rx}

@@ -4,9 +4,9 @@ use mathlib.Core.Bool.{Bool, true, cond, _&&_}
 use mathlib.Core.List.{List}
 use lib.Dec.{leb, ltb}
 use lib.ListN.{length, take, drop}
-use Rattle.scan.specs.Places.{placeOf}
-use Rattle.scan.specs.Numbers.{whenNumber, dottedOf}
-use Rattle.scan.specs.Hex.{isHex}
+use Rattle.values.specs.Places.{placeOf}
+use Rattle.values.specs.Numbers.{whenNumber, dottedOf}
+use Rattle.values.specs.Hex.{isHex}
 use Rattle.recording.specs.declared.Front.{Front}
 use Rattle.recording.specs.declared.Front.the-variants as F
 use Rattle.recording.specs.declared.Read.{Read}

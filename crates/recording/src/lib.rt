@@ -1,5 +1,5 @@
 // The lines of a recording: the settings of the first four, and the events after them.
-use scan::Number;
+use values::Number;
 ghost use mathlib.Core.Path.{_≡_};
 ghost use mathlib.Core.Bool.{true};
 ghost use mathlib.Core.List.{List};
@@ -30,51 +30,51 @@ enum Front {
 pub fn own_as(line: &[u8]) -> Number
     ensures { λ r. ⌜ r ≡ ownAsOf (now (line .entry)) ⌝ }
 {
-    if !scan::starts_with(line, b"ownas=") {
+    if !values::starts_with(line, b"ownas=") {
         return Number::Bad;
     }
-    scan::read_decimal(&line[6..], 65535)
+    values::read_decimal(&line[6..], 65535)
 }
 
 // The second: our own address.
 pub fn own(line: &[u8]) -> Number
     ensures { λ r. ⌜ r ≡ ownOf (now (line .entry)) ⌝ }
 {
-    if !scan::starts_with(line, b"own=") {
+    if !values::starts_with(line, b"own=") {
         return Number::Bad;
     }
-    scan::read_dotted(&line[4..])
+    values::read_dotted(&line[4..])
 }
 
 // The third: the capability.
 pub fn capability(line: &[u8]) -> Number
     ensures { λ r. ⌜ r ≡ capabilityOf (now (line .entry)) ⌝ }
 {
-    if !scan::starts_with(line, b"cap=") {
+    if !values::starts_with(line, b"cap=") {
         return Number::Bad;
     }
-    scan::read_decimal(&line[4..], 255)
+    values::read_decimal(&line[4..], 255)
 }
 
 // The fourth: the common net.
 pub fn net(line: &[u8]) -> Number
     ensures { λ r. ⌜ r ≡ netOf (now (line .entry)) ⌝ }
 {
-    if !scan::starts_with(line, b"net=") {
+    if !values::starts_with(line, b"net=") {
         return Number::Bad;
     }
-    scan::read_dotted(&line[4..])
+    values::read_dotted(&line[4..])
 }
 
 // What stands before the first slash of a value must be an address.
 fn read_front(value: &[u8]) -> Front
     ensures { λ r. ⌜ r ≡ frontOf (now (value .entry)) ⌝ }
 {
-    let slash = scan::place(value, 47);
+    let slash = values::place(value, 47);
     if value.len() <= slash {
         return Front::Bad;
     }
-    let Number::Is(address) = scan::read_dotted(&value[..slash]) else {
+    let Number::Is(address) = values::read_dotted(&value[..slash]) else {
         return Front::Bad;
     };
     Front::At(address, slash + 1)
@@ -87,7 +87,7 @@ fn add_event(value: &[u8]) -> Read
     let Front::At(address, next) = read_front(value) else {
         return Read::Bad;
     };
-    let Number::Is(asn) = scan::read_decimal(&value[next..], 65535) else {
+    let Number::Is(asn) = values::read_decimal(&value[next..], 65535) else {
         return Read::Bad;
     };
     Read::Add(address, asn as u16)
@@ -97,7 +97,7 @@ fn remove_event(value: &[u8]) -> Read
     ensures { λ r. ⌜ ((line : List ℕ) → meant r line ≡ alone remove (now (value .entry))) ⌝ }
     ensures { λ r. ⌜ ((line : List ℕ) → standsOn r line ≡ true) ⌝ }
 {
-    let Number::Is(address) = scan::read_dotted(value) else {
+    let Number::Is(address) = values::read_dotted(value) else {
         return Read::Bad;
     };
     Read::Remove(address)
@@ -107,7 +107,7 @@ fn start_event(value: &[u8]) -> Read
     ensures { λ r. ⌜ ((line : List ℕ) → meant r line ≡ alone start (now (value .entry))) ⌝ }
     ensures { λ r. ⌜ ((line : List ℕ) → standsOn r line ≡ true) ⌝ }
 {
-    let Number::Is(address) = scan::read_dotted(value) else {
+    let Number::Is(address) = values::read_dotted(value) else {
         return Read::Bad;
     };
     Read::Start(address)
@@ -117,7 +117,7 @@ fn stop_event(value: &[u8]) -> Read
     ensures { λ r. ⌜ ((line : List ℕ) → meant r line ≡ alone stop (now (value .entry))) ⌝ }
     ensures { λ r. ⌜ ((line : List ℕ) → standsOn r line ≡ true) ⌝ }
 {
-    let Number::Is(address) = scan::read_dotted(value) else {
+    let Number::Is(address) = values::read_dotted(value) else {
         return Read::Bad;
     };
     Read::Stop(address)
@@ -130,7 +130,7 @@ fn tick_event(value: &[u8]) -> Read
     let Front::At(address, next) = read_front(value) else {
         return Read::Bad;
     };
-    let Number::Is(count) = scan::read_decimal(&value[next..], 86400) else {
+    let Number::Is(count) = values::read_decimal(&value[next..], 86400) else {
         return Read::Bad;
     };
     if count == 0 {
@@ -153,7 +153,7 @@ fn rx_event(line: &[u8]) -> Read
     if 4098 < digits.len() {
         return Read::Bad;
     }
-    if !scan::is_hex(digits) {
+    if !values::is_hex(digits) {
         return Read::Bad;
     }
     Read::Receive(address, next + 3)
@@ -164,22 +164,22 @@ pub fn event(line: &[u8]) -> Read
     ensures { λ r. ⌜ meant r (now (line .entry)) ≡ eventOf (now (line .entry)) ⌝ }
     ensures { λ r. ⌜ standsOn r (now (line .entry)) ≡ true ⌝ }
 {
-    if scan::starts_with(line, b"add=") {
+    if values::starts_with(line, b"add=") {
         return add_event(&line[4..]);
     }
-    if scan::starts_with(line, b"remove=") {
+    if values::starts_with(line, b"remove=") {
         return remove_event(&line[7..]);
     }
-    if scan::starts_with(line, b"start=") {
+    if values::starts_with(line, b"start=") {
         return start_event(&line[6..]);
     }
-    if scan::starts_with(line, b"stop=") {
+    if values::starts_with(line, b"stop=") {
         return stop_event(&line[5..]);
     }
-    if scan::starts_with(line, b"tick=") {
+    if values::starts_with(line, b"tick=") {
         return tick_event(&line[5..]);
     }
-    if scan::starts_with(line, b"rx=") {
+    if values::starts_with(line, b"rx=") {
         return rx_event(line);
     }
     Read::Bad

@@ -2,7 +2,7 @@
 use native.Mathlib.Omega.{arith}
 use mathlib.Core.Path.{sym, _∙_}
 use Rattle.checks.proofs.Laws.{part-from}
-use Rattle.scan.proofs.Readings.{decimal-bound}
+use Rattle.values.proofs.Readings.{decimal-bound}
 use Rattle.recording.specs.Lines.{slashed, addEvent}
 use Rattle.recording.proofs.Reader.{no-front, front-fits, says-bad, add-no-number, add-said}
 use borrow.Author.Needs.{needs}

@@ -3,8 +3,8 @@ use mathlib.Core.Path.{sym, ap, _∙_}
 use borrow.Author.Tests.{not-true, not-false}
 use Rattle.checks.proofs.Laws.{part-from}
 use Rattle.text.specs.Text.{text}
-use Rattle.scan.specs.declared.Number.the-variants.{Bad}
-use Rattle.scan.specs.Numbers.{decimalOf}
+use Rattle.values.specs.declared.Number.the-variants.{Bad}
+use Rattle.values.specs.Numbers.{decimalOf}
 use Rattle.recording.specs.Lines.{capabilityOf}
 use Rattle.recording.proofs.Reader.{key-fits, with-key, without-key}
 use borrow.Author.Needs.{needs}

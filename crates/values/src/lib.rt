@@ -5,9 +5,9 @@ ghost use Prim.Native.Nat.{_+_, _≤_, _<_};
 ghost use lib.ListN.{length};
 ghost use Rattle.octets.specs.Buffer.{over};
 ghost use Rattle.storing.specs.Written.{Written};
-ghost use Rattle.scan.specs.Numbers.{digitsOf, decimalOf, dottedOf};
-ghost use Rattle.scan.specs.Hex.{nibble, isHex, hexOctets, hexDigit, hexText};
-ghost use Rattle.scan.specs.Places.{placeOf, startsWith};
+ghost use Rattle.values.specs.Numbers.{digitsOf, decimalOf, dottedOf};
+ghost use Rattle.values.specs.Hex.{nibble, isHex, hexOctets, hexDigit, hexText};
+ghost use Rattle.values.specs.Places.{placeOf, startsWith};
 
 // What was read: a number, or text that is none.
 pub enum Number {

@@ -1,14 +1,14 @@
--- `scan::read_hex` meets its contract. The loop keeps: the text left is hex, and its octets are what is left to write. Assumes nothing.
+-- `values::read_hex` meets its contract. The loop keeps: the text left is hex, and its octets are what is left to write. Assumes nothing.
 use native.Mathlib.Omega.{arith}
 use mathlib.Core.Bool.{true}
 use mathlib.Core.Path.{_≡_}
 use lib.ListN.{length, length-drop}
 use Rattle.checks.proofs.Laws.{part-from}
 use Rattle.storing.proofs.Storing.{Writing, start, done}
-use Rattle.scan.specs.Hex.{isHex, hexOctets}
-use Rattle.scan.proofs.Laws.{pair-of, octet-room, octet-turn, octets-end, octets-over}
-use Rattle.scan.proofs.read_hex.Statement.{statement}
-use Rattle.scan.proofs.read_hex.Tie as tie
+use Rattle.values.specs.Hex.{isHex, hexOctets}
+use Rattle.values.proofs.Laws.{pair-of, octet-room, octet-turn, octets-end, octets-over}
+use Rattle.values.proofs.read_hex.Statement.{statement}
+use Rattle.values.proofs.read_hex.Tie as tie
 
 abbrev Inv-loop : tie.InvT-loop
 Inv-loop out₀ text i₀ rest₀ out i rest = (isHex rest ≡ true) × Writing (hexOctets text) 0 out₀ (hexOctets rest) i out

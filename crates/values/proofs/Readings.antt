@@ -14,12 +14,12 @@ use Rattle.checks.specs.Lists.{first, every}
 use Rattle.checks.proofs.Laws.{and-left, and-right, and-both, cond-elim}
 use Rattle.text.specs.Text.{text, digit, decimal, dotted}
 use Rattle.text.proofs.Laws.{decimal-one, decimal-more, decimal-elim, decimal-most, dotted-length}
-use Rattle.scan.specs.declared.Number.{Number}
-use Rattle.scan.specs.declared.Number.the-variants.{Bad, Is}
-use Rattle.scan.specs.Places.{placeOf}
-use Rattle.scan.specs.Numbers.{whenNumber, isDigit, digitsOf, leadsWithZero, decimalOf, quadOf, dottedOf}
-use Rattle.scan.specs.Hex.{hexDigit, hexText, nibble, isHex, hexOctets}
-use Rattle.scan.specs.Claims.{Decimals, Addresses, Hexes, areOctets}
+use Rattle.values.specs.declared.Number.{Number}
+use Rattle.values.specs.declared.Number.the-variants.{Bad, Is}
+use Rattle.values.specs.Places.{placeOf}
+use Rattle.values.specs.Numbers.{whenNumber, isDigit, digitsOf, leadsWithZero, decimalOf, quadOf, dottedOf}
+use Rattle.values.specs.Hex.{hexDigit, hexText, nibble, isHex, hexOctets}
+use Rattle.values.specs.Claims.{Decimals, Addresses, Hexes, areOctets}
 
 -- text that is no number gives none
 never : {A : Type 0} (n : ℕ) → Bad ≡ Is n → A

@@ -15,10 +15,10 @@ use Rattle.checks.proofs.Laws.{and-left, and-right, cond-elim}
 use Rattle.octets.specs.Buffer.{over}
 use Rattle.storing.specs.Written.{Written}
 use Rattle.storing.proofs.Storing.{Writing, turn, written-one}
-use Rattle.scan.specs.declared.Number.the-variants.{Bad, Is}
-use Rattle.scan.specs.Places.{placeOf, startsWith}
-use Rattle.scan.specs.Numbers.{whenNumber, isDigit, digitsOf, leadsWithZero, decimalOf, quadOf}
-use Rattle.scan.specs.Hex.{hexDigit, hexText, nibble, isHex, hexOctets}
+use Rattle.values.specs.declared.Number.the-variants.{Bad, Is}
+use Rattle.values.specs.Places.{placeOf, startsWith}
+use Rattle.values.specs.Numbers.{whenNumber, isDigit, digitsOf, leadsWithZero, decimalOf, quadOf}
+use Rattle.values.specs.Hex.{hexDigit, hexText, nibble, isHex, hexOctets}
 
 -- ---- places
 

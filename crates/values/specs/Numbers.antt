@@ -4,9 +4,9 @@ use mathlib.Core.Bool.{Bool, cond, not, _&&_}
 use mathlib.Core.List.{List, [], _∷_}
 use lib.Dec.{leb, ltb, eqb}
 use lib.ListN.{length, take, drop, getD}
-use Rattle.scan.specs.declared.Number.{Number}
-use Rattle.scan.specs.declared.Number.the-variants.{Bad, Is}
-use Rattle.scan.specs.Places.{placeOf}
+use Rattle.values.specs.declared.Number.{Number}
+use Rattle.values.specs.declared.Number.the-variants.{Bad, Is}
+use Rattle.values.specs.Places.{placeOf}
 
 -- what is made of a number, if there is one
 unfoldable pub whenNumber : {A : Type 0} → Number → A → (ℕ → A) → A

@@ -1,12 +1,12 @@
--- `scan::place` meets its contract. The loop keeps: none of the octets passed is the one looked for. Assumes nothing.
+-- `values::place` meets its contract. The loop keeps: none of the octets passed is the one looked for. Assumes nothing.
 use Prim.Native.Nat.{_+_, _-_, _≤_}
 use native.Mathlib.Omega.{arith}
 use mathlib.Core.Path.{_≡_}
 use lib.ListN.{length, drop}
-use Rattle.scan.specs.Places.{placeOf}
-use Rattle.scan.proofs.Laws.{place-here, place-next, place-end}
-use Rattle.scan.proofs.place.Statement.{statement}
-use Rattle.scan.proofs.place.Tie as tie
+use Rattle.values.specs.Places.{placeOf}
+use Rattle.values.proofs.Laws.{place-here, place-next, place-end}
+use Rattle.values.proofs.place.Statement.{statement}
+use Rattle.values.proofs.place.Tie as tie
 
 abbrev Inv-loop : tie.InvT-loop
 Inv-loop octets octet at₀ at = (at ≤ length octets) × (placeOf octet octets ≡ at + placeOf octet (drop at octets))

@@ -1,12 +1,12 @@
--- `scan::starts_with` meets its contract. The loop keeps: what is left of both decides. Assumes nothing.
+-- `values::starts_with` meets its contract. The loop keeps: what is left of both decides. Assumes nothing.
 use Prim.Native.Nat.{_-_, _≤_}
 use native.Mathlib.Omega.{arith}
 use mathlib.Core.Path.{_≡_, refl, sym, _∙_}
 use lib.ListN.{length, drop}
-use Rattle.scan.specs.Places.{startsWith}
-use Rattle.scan.proofs.Laws.{starts-short, starts-not, starts-next, starts-end}
-use Rattle.scan.proofs.starts_with.Statement.{statement}
-use Rattle.scan.proofs.starts_with.Tie as tie
+use Rattle.values.specs.Places.{startsWith}
+use Rattle.values.proofs.Laws.{starts-short, starts-not, starts-next, starts-end}
+use Rattle.values.proofs.starts_with.Statement.{statement}
+use Rattle.values.proofs.starts_with.Tie as tie
 
 abbrev Inv-loop : tie.InvT-loop
 Inv-loop octets front i₀ i = (i ≤ length front) × (startsWith front octets ≡ startsWith (drop i front) (drop i octets))

@@ -7,9 +7,9 @@ use lib.ListN.{length}
 use lib.Dec.{ltb}
 use Rattle.checks.specs.Lists.{every}
 use Rattle.text.specs.Text.{decimal, dotted}
-use Rattle.scan.specs.declared.Number.the-variants.{Is}
-use Rattle.scan.specs.Numbers.{decimalOf, dottedOf}
-use Rattle.scan.specs.Hex.{hexText, isHex, hexOctets}
+use Rattle.values.specs.declared.Number.the-variants.{Is}
+use Rattle.values.specs.Numbers.{decimalOf, dottedOf}
+use Rattle.values.specs.Hex.{hexText, isHex, hexOctets}
 
 -- numbers in decimal
 pub record Decimals : Type 0 where

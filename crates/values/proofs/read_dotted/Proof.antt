@@ -1,14 +1,14 @@
--- `scan::read_dotted` meets its contract. The loop keeps: the number so far and the text left give what all gives, and there is room for the rest. Assumes nothing.
+-- `values::read_dotted` meets its contract. The loop keeps: the number so far and the text left give what all gives, and there is room for the rest. Assumes nothing.
 use Prim.Native.Nat.{_+_, _-_, _≤_, _<_}
 use native.Mathlib.Omega.{arith}
 use mathlib.Core.Path.{_≡_, refl, sym, _∙_}
 use lib.ListN.{length, length-take, length-drop}
 use borrow.Author.Needs.{needs}
 use Rattle.checks.proofs.Laws.{part-from}
-use Rattle.scan.specs.Numbers.{quadOf, dottedOf}
-use Rattle.scan.proofs.Laws.{quadLimit, quad-start, quad-fits, quad-below, quad-no-dot, quad-bad, quad-next, quad-last-bad, quad-last}
-use Rattle.scan.proofs.read_dotted.Statement.{statement}
-use Rattle.scan.proofs.read_dotted.Tie as tie
+use Rattle.values.specs.Numbers.{quadOf, dottedOf}
+use Rattle.values.proofs.Laws.{quadLimit, quad-start, quad-fits, quad-below, quad-no-dot, quad-bad, quad-next, quad-last-bad, quad-last}
+use Rattle.values.proofs.read_dotted.Statement.{statement}
+use Rattle.values.proofs.read_dotted.Tie as tie
 
 abbrev Inv-loop : tie.InvT-loop
 Inv-loop text n₀ dots₀ rest₀ n dots rest = (n < quadLimit dots) × (length rest ≤ length text) × (dottedOf text ≡ quadOf dots n rest)

@@ -1,9 +1,9 @@
--- `scan::digit_of` meets its contract: one case for the digits, one for the letters. Assumes nothing.
+-- `values::digit_of` meets its contract: one case for the digits, one for the letters. Assumes nothing.
 use borrow.Author.Tests.{lt-ltb, le-ltb}
 use borrow.Author.Needs.{needs}
-use Rattle.scan.specs.Hex.{hexDigit}
-use Rattle.scan.proofs.digit_of.Statement.{statement}
-use Rattle.scan.proofs.digit_of.Tie as tie
+use Rattle.values.specs.Hex.{hexDigit}
+use Rattle.values.proofs.digit_of.Statement.{statement}
+use Rattle.values.proofs.digit_of.Tie as tie
 
 add-result : tie.Need-add-result
 add-result c = search needs

@@ -1,12 +1,12 @@
--- `scan::is_hex` meets its contract. The loop keeps: the text left decides for all. Assumes nothing.
+-- `values::is_hex` meets its contract. The loop keeps: the text left decides for all. Assumes nothing.
 use native.Mathlib.Omega.{arith}
 use mathlib.Core.Path.{_≡_, refl, sym, _∙_}
 use lib.ListN.{length, length-drop}
 use Rattle.checks.proofs.Laws.{part-from}
-use Rattle.scan.specs.Hex.{isHex}
-use Rattle.scan.proofs.Laws.{hex-first, hex-second, hex-next, hex-end}
-use Rattle.scan.proofs.is_hex.Statement.{statement}
-use Rattle.scan.proofs.is_hex.Tie as tie
+use Rattle.values.specs.Hex.{isHex}
+use Rattle.values.proofs.Laws.{hex-first, hex-second, hex-next, hex-end}
+use Rattle.values.proofs.is_hex.Statement.{statement}
+use Rattle.values.proofs.is_hex.Tie as tie
 
 abbrev Inv-loop : tie.InvT-loop
 Inv-loop text rest₀ rest = isHex text ≡ isHex rest

@@ -1,13 +1,13 @@
--- `scan::read_digits` meets its contract. The loop keeps: the number so far and the digits left give what all give, and it is within the limit. Assumes nothing.
+-- `values::read_digits` meets its contract. The loop keeps: the number so far and the digits left give what all give, and it is within the limit. Assumes nothing.
 use Prim.Native.Nat.{_-_, _≤_}
 use native.Mathlib.Omega.{arith}
 use mathlib.Core.Path.{_≡_, refl, sym, _∙_}
 use lib.ListN.{length, length-drop}
 use Rattle.checks.proofs.Laws.{part-from}
-use Rattle.scan.specs.Numbers.{digitsOf}
-use Rattle.scan.proofs.Laws.{digits-low, digits-high, digits-above, digits-next, digits-end}
-use Rattle.scan.proofs.read_digits.Statement.{statement}
-use Rattle.scan.proofs.read_digits.Tie as tie
+use Rattle.values.specs.Numbers.{digitsOf}
+use Rattle.values.proofs.Laws.{digits-low, digits-high, digits-above, digits-next, digits-end}
+use Rattle.values.proofs.read_digits.Statement.{statement}
+use Rattle.values.proofs.read_digits.Tie as tie
 
 abbrev Inv-loop : tie.InvT-loop
 Inv-loop text limit n₀ rest₀ n rest = (n ≤ limit) × (digitsOf limit 0 text ≡ digitsOf limit n rest)

@@ -1,12 +1,12 @@
--- `scan::put_hex` meets its contract. The loop keeps: what is left to write, and where. Assumes nothing.
+-- `values::put_hex` meets its contract. The loop keeps: what is left to write, and where. Assumes nothing.
 use Prim.Native.Nat.{_-_, _≤_}
 use native.Mathlib.Omega.{arith}
 use lib.ListN.{length, drop, length-set}
 use Rattle.storing.proofs.Storing.{Writing, start, done}
-use Rattle.scan.specs.Hex.{hexText}
-use Rattle.scan.proofs.Laws.{digits-room, digits-turn, text-end}
-use Rattle.scan.proofs.put_hex.Statement.{statement}
-use Rattle.scan.proofs.put_hex.Tie as tie
+use Rattle.values.specs.Hex.{hexText}
+use Rattle.values.proofs.Laws.{digits-room, digits-turn, text-end}
+use Rattle.values.proofs.put_hex.Statement.{statement}
+use Rattle.values.proofs.put_hex.Tie as tie
 
 abbrev Inv-loop : tie.InvT-loop
 Inv-loop out₀ at octets end₀ i₀ out end i = (i ≤ length octets) × Writing (hexText octets) at out₀ (hexText (drop i octets)) end out

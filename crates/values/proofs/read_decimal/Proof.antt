@@ -1,10 +1,10 @@
--- `scan::read_decimal` meets its contract: the two tests, then the digits. Assumes nothing.
+-- `values::read_decimal` meets its contract: the two tests, then the digits. Assumes nothing.
 use mathlib.Core.Logic.{⊎-elim}
 use mathlib.Core.Path.{sym, _∙_}
 use borrow.Author.Needs.{needs}
-use Rattle.scan.proofs.Laws.{decimal-empty, decimal-zero, decimal-digits}
-use Rattle.scan.proofs.read_decimal.Statement.{statement}
-use Rattle.scan.proofs.read_decimal.Tie as tie
+use Rattle.values.proofs.Laws.{decimal-empty, decimal-zero, decimal-digits}
+use Rattle.values.proofs.read_decimal.Statement.{statement}
+use Rattle.values.proofs.read_decimal.Tie as tie
 
 returns : tie.Need-returns
 returns c = sym (decimal-empty _ _ (c .if1 .taken))

@@ -1,11 +1,11 @@
--- `scan::digit_value` meets its contract: a digit, a letter, and two ways to be neither. Assumes nothing.
+-- `values::digit_value` meets its contract: a digit, a letter, and two ways to be neither. Assumes nothing.
 use native.Mathlib.Omega.{arith}
 use mathlib.Core.Logic.{⊎-elim}
 use mathlib.Core.Path.{sym}
 use borrow.Author.Needs.{needs}
-use Rattle.scan.proofs.Laws.{nibble-digit, nibble-letter, nibble-none}
-use Rattle.scan.proofs.digit_value.Statement.{statement}
-use Rattle.scan.proofs.digit_value.Tie as tie
+use Rattle.values.proofs.Laws.{nibble-digit, nibble-letter, nibble-none}
+use Rattle.values.proofs.digit_value.Statement.{statement}
+use Rattle.values.proofs.digit_value.Tie as tie
 
 returns : tie.Need-returns
 returns c = sym (nibble-digit _ (c .before .if1 .taken) (c .if2 .taken))

@@ -43,6 +43,8 @@ pub enum Answer {
     NoFreeSlot = 17,
     /// Remove: neighbour not Idle.
     NotIdle = 18,
+    /// A bad line of a recording (02, L1). It comes before all others: nothing is called for it.
+    BadLine = 19,
 }
 
 impl Answer {

@@ -3,12 +3,13 @@
 
 use std::fmt;
 use std::io::{self, BufReader, BufWriter, Write};
-use std::process::{Child, Command, Stdio};
+use std::process::{Child, Command, ExitStatus, Stdio};
 use std::thread;
 
 use crate::call::{Bench, Call};
 use crate::generate::Generator;
 use crate::record::{self, Given};
+use crate::recording::hex;
 
 /// The first call on which the two differ.
 #[derive(Debug)]
@@ -69,10 +70,6 @@ impl fmt::Display for Difference {
     }
 }
 
-fn hex(octets: &[u8]) -> String {
-    octets.iter().map(|octet| format!("{octet:02X}")).collect()
-}
-
 /// A driver at the other end of two pipes.
 pub struct Driver {
     child: Child,
@@ -96,8 +93,8 @@ impl Driver {
     }
 
     /// Waits for the driver to end; its standard input must be closed.
-    pub fn end(mut self) -> io::Result<()> {
-        self.child.wait().map(drop)
+    pub fn end(mut self) -> io::Result<ExitStatus> {
+        self.child.wait()
     }
 }
 

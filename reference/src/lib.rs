@@ -13,11 +13,15 @@
 //! * [`coverage`]: what a list of calls touched, and the laws every call must keep.
 //! * [`record`], [`compare`], [`sample`], [`speed`]: calls as octets, and another implementation
 //!   run on them call by call, or timed.
+//! * [`recording`], [`playback`]: a site's recording, and what playing it gives (02, L1).
+//! * [`compare_recordings`], [`site`]: another implementation's player beside this one, and the
+//!   technicians' example.
 
 pub mod answer;
 pub mod call;
 pub mod checksum;
 pub mod compare;
+pub mod compare_recordings;
 pub mod coverage;
 pub mod gateway;
 pub mod generate;
@@ -25,8 +29,11 @@ pub mod listing;
 pub mod message;
 pub mod neighbour;
 pub mod net;
+pub mod playback;
 pub mod random;
 pub mod record;
+pub mod recording;
 pub mod sample;
+pub mod site;
 pub mod speed;
 pub mod update;

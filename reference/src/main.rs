@@ -1,29 +1,56 @@
-//! The commands: what a list touches, and comparisons with a driver of another implementation.
+//! The commands: what a list touches, recordings, and comparisons with another implementation.
 
-use std::io::{self, Write};
+use std::fmt::Display;
+use std::fs;
+use std::io::{self, Read, Write};
 use std::process::ExitCode;
 
-use reference::{compare, coverage, sample, speed};
+use reference::generate::{day, recordings};
+use reference::{compare, compare_recordings, coverage, playback, sample, site, speed};
 
 fn main() -> ExitCode {
     let arguments: Vec<String> = std::env::args().skip(1).collect();
     let words: Vec<&str> = arguments.iter().map(String::as_str).collect();
     match words.as_slice() {
-        ["coverage", seed, count] => match (seed.parse(), count.parse()) {
-            (Ok(seed), Ok(count)) => print_coverage(seed, count),
-            _ => usage(),
-        },
-        ["compare", driver, seed, count] => match (seed.parse(), count.parse()) {
-            (Ok(seed), Ok(count)) => print_comparison(driver, seed, count),
-            _ => usage(),
-        },
-        ["case", seed, index] => match (seed.parse(), index.parse()) {
-            (Ok(seed), Ok(index)) => print_octets(&compare::case(seed, index)),
-            _ => usage(),
-        },
+        ["coverage", seed, count] => with_numbers(seed, count, print_coverage),
+        ["compare", driver, seed, count] => with_numbers(seed, count, |seed, count| {
+            let verdict = compare::compare(driver, seed, count);
+            print_comparison(seed, verdict.map(|()| format!("{count} calls")))
+        }),
+        ["case", seed, index] => with_numbers(seed, index, |seed, index| {
+            print_octets(&compare::case(seed, index))
+        }),
         ["sample", "records"] => print_octets(&sample::records()),
         ["sample", "answers"] => print_octets(&sample::answers()),
         ["speed", driver] => print_speed(driver),
+        _ => recording_command(&words),
+    }
+}
+
+/// The commands about recordings.
+fn recording_command(words: &[&str]) -> ExitCode {
+    match words {
+        ["play"] => print_playback(read_input()),
+        ["play", file] => print_playback(fs::read(file)),
+        ["recording", seed, lines] => with_numbers(seed, lines, |seed, lines| {
+            print_octets(&recordings::recording(seed, lines))
+        }),
+        ["compare-recordings", program, seed, count] => with_numbers(seed, count, |seed, count| {
+            print_comparison(seed, compare_recordings::compare(program, seed, count))
+        }),
+        ["day", seed] => with_numbers(seed, "0", |seed, _| {
+            print_octets(day::recording(seed, day::DAY).as_bytes())
+        }),
+        ["site", "recording"] => print_octets(site::recording().as_bytes()),
+        ["site", "output"] => print_octets(&site::output()),
+        _ => usage(),
+    }
+}
+
+/// Runs a command on a seed and a count.
+fn with_numbers(seed: &str, count: &str, run: impl FnOnce(u64, usize) -> ExitCode) -> ExitCode {
+    match (seed.parse(), count.parse()) {
+        (Ok(seed), Ok(count)) => run(seed, count),
         _ => usage(),
     }
 }
@@ -38,10 +65,11 @@ fn print_coverage(seed: u64, count: usize) -> ExitCode {
     }
 }
 
-fn print_comparison(driver: &str, seed: u64, count: usize) -> ExitCode {
-    match compare::compare(driver, seed, count) {
-        Ok(()) => {
-            println!("seed {seed}: {count} calls, no difference");
+/// Says what was compared, or why the comparison stopped.
+fn print_comparison(seed: u64, verdict: Result<impl Display, impl Display>) -> ExitCode {
+    match verdict {
+        Ok(compared) => {
+            println!("seed {seed}: {compared}, no difference");
             ExitCode::SUCCESS
         }
         Err(stop) => {
@@ -55,6 +83,22 @@ fn print_octets(octets: &[u8]) -> ExitCode {
     match io::stdout().write_all(octets) {
         Ok(()) => ExitCode::SUCCESS,
         Err(_) => ExitCode::FAILURE,
+    }
+}
+
+fn read_input() -> io::Result<Vec<u8>> {
+    let mut octets = Vec::new();
+    io::stdin().read_to_end(&mut octets)?;
+    Ok(octets)
+}
+
+fn print_playback(recording: io::Result<Vec<u8>>) -> ExitCode {
+    match recording {
+        Ok(recording) => print_octets(&playback::play(&recording)),
+        Err(error) => {
+            eprintln!("{error}");
+            ExitCode::FAILURE
+        }
     }
 }
 
@@ -77,7 +121,12 @@ fn usage() -> ExitCode {
        reference compare DRIVER SEED COUNT
        reference case SEED INDEX
        reference sample records|answers
-       reference speed DRIVER"
+       reference speed DRIVER
+       reference play [FILE]
+       reference recording SEED LINES
+       reference compare-recordings PROGRAM SEED COUNT
+       reference day SEED
+       reference site recording|output"
     );
     ExitCode::from(2)
 }

@@ -5,8 +5,11 @@
 //! both modes, polled, holding rows, stopped half way. Between such calls it puts calls with one
 //! thing wrong, states and tables handed in from outside, and reading and writing alone.
 
+pub mod day;
 pub mod faults;
+pub mod line_faults;
 pub mod material;
+pub mod recordings;
 
 use std::collections::VecDeque;
 

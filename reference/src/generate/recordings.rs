@@ -1,0 +1,272 @@
+//! Seeded recordings: the life of a few neighbours as lines, damaged ones among them.
+//!
+//! The lines are played as they are made, so that the next one fits the state: neighbours really
+//! come up and really hold rows.
+
+use super::line_faults::{self, Sound, LINE_FAULTS};
+use super::{faults, Generator, Temper};
+use crate::call::Call;
+use crate::message::LONGEST;
+use crate::neighbour::Neighbour;
+use crate::playback;
+use crate::random::Random;
+use crate::recording::{self, HEAD_LINES, LINE_END, MOST_OCTETS};
+
+/// How many ticks the lines of one recording ask for at most, so that it is soon played.
+const TICKS: u32 = 120_000;
+
+/// The recording of a seed, of so many lines; one with a damaged head may have fewer.
+pub fn recording(seed: u64, lines: usize) -> Vec<u8> {
+    let mut recorder = Recorder::new(seed);
+    while recorder.lines.len() < lines {
+        recorder.add_line();
+    }
+    recorder.lines.truncate(lines);
+    recorder.finish()
+}
+
+struct Recorder {
+    life: Generator,
+    /// The lines with their ends.
+    lines: Vec<Vec<u8>>,
+    ticks_left: u32,
+    /// Adds again the neighbour that was removed last.
+    add_again: Option<Call>,
+}
+
+impl Recorder {
+    /// A good head, and adds waiting in the queue of the life that follows it.
+    fn new(seed: u64) -> Recorder {
+        let mut life = Generator::new(seed);
+        life.begin_list();
+        let head = life
+            .queue
+            .iter()
+            .find_map(|(call, _)| recording::head_lines(call))
+            .expect("a list begins with fresh");
+        let lines: Vec<Vec<u8>> = head.into_iter().map(|line| end(line.into())).collect();
+        life.bench =
+            playback::begin(lines.iter().map(Vec::as_slice)).expect("fresh takes the settings");
+        Recorder {
+            life,
+            lines,
+            ticks_left: TICKS,
+            add_again: None,
+        }
+    }
+
+    /// Makes a line and plays it.
+    fn add_line(&mut self) {
+        let sound = self.sound();
+        let line = match self.life.random.below(1000) {
+            0..=89 => {
+                let (_, damage) = self.life.random.pick(&LINE_FAULTS);
+                damage(&mut self.life.random, &sound)
+            }
+            90..=119 => line_faults::changed_at_random(&mut self.life.random, &sound.line),
+            _ => sound.line.into_bytes(),
+        };
+        // What was changed at random may be two lines.
+        for part in line.split(|octet| *octet == LINE_END) {
+            let line = end(part.to_vec());
+            playback::play_line(&mut self.life.bench, 0, &line, &mut Vec::new());
+            self.lines.push(line);
+        }
+    }
+
+    /// A good line, and what it is made of.
+    fn sound(&mut self) -> Sound {
+        loop {
+            let call = self.call();
+            let times = self.times(&call);
+            if let Some(line) = recording::event_line(&call, times) {
+                let slot = self.life.used_slot();
+                let sender = self.life.sender(slot);
+                return Sound {
+                    line,
+                    address: address_of(&call),
+                    message: faults::good(&mut self.life.random, sender),
+                };
+            }
+        }
+    }
+
+    fn call(&mut self) -> Call {
+        if let Some((call, _)) = self.life.queue.pop_front() {
+            return call;
+        }
+        if self.life.filling {
+            return self.life.fill().0;
+        }
+        match self.life.random.below(1000) {
+            0..=79 => {
+                let slot = self.life.used_slot();
+                self.life.faulty_message(slot).0
+            }
+            80..=109 => self.membership(),
+            110..=129 => self.call_about_unknown(),
+            130..=139 => self.long_message(),
+            _ => self.life.live().0,
+        }
+    }
+
+    /// Add and remove; who was removed is added again more often than not.
+    fn membership(&mut self) -> Call {
+        if self.life.random.thousandths(600) {
+            if let Some(add) = self.add_again.take() {
+                return add;
+            }
+        }
+        let (call, _) = self.life.membership();
+        if let Call::Remove { address } = call {
+            let as_number = self.neighbour(address).as_number;
+            self.add_again = Some(Call::Add { address, as_number });
+        }
+        call
+    }
+
+    fn call_about_unknown(&mut self) -> Call {
+        let address = self.life.unknown_address();
+        let slot = self.life.used_slot();
+        let sender = self.life.sender(slot);
+        let random = &mut self.life.random;
+        match random.below(4) {
+            0 => recording::start(address),
+            1 => recording::stop(address),
+            2 => recording::tick(address),
+            _ => recording::received(address, faults::good(random, sender)),
+        }
+    }
+
+    /// As many octets as a message or a line may have.
+    fn long_message(&mut self) -> Call {
+        let slot = self.life.used_slot();
+        let sender = self.life.sender(slot);
+        let random = &mut self.life.random;
+        let mut octets = faults::good(random, sender);
+        octets.resize(random.pick(&[LONGEST, MOST_OCTETS]), random.octet());
+        crate::checksum::seal(&mut octets);
+        recording::received(self.life.bench.state.neighbours[slot].address, octets)
+    }
+
+    fn neighbour(&self, address: u32) -> Neighbour {
+        let state = &self.life.bench.state;
+        let slot = state.find(address);
+        slot.map(|slot| state.neighbours[slot]).unwrap_or_default()
+    }
+
+    /// How many times the call is made: a tick for some seconds, any other call once.
+    fn times(&mut self, call: &Call) -> u32 {
+        let Call::Tick { address, .. } = call else {
+            return 1;
+        };
+        let neighbour = self.neighbour(*address);
+        let is_silent = self.life.temper == Temper::Silent;
+        let wanted = seconds(&mut self.life.random, &neighbour, is_silent);
+        let times = wanted.min(self.ticks_left).max(1);
+        self.ticks_left = self.ticks_left.saturating_sub(times);
+        times
+    }
+
+    /// The octets of all lines; now and then the head is damaged or the last line not ended.
+    fn finish(mut self) -> Vec<u8> {
+        if self.life.random.thousandths(60) {
+            self.damage_head();
+        }
+        let mut octets = self.lines.concat();
+        if self.life.random.thousandths(150) {
+            octets.pop();
+        }
+        octets
+    }
+
+    fn damage_head(&mut self) {
+        let random = &mut self.life.random;
+        let lines = &mut self.lines;
+        let place = random.below(HEAD_LINES);
+        if lines.len() <= place {
+            return;
+        }
+        match random.below(6) {
+            0 => lines.truncate(place),
+            1 => {
+                lines.remove(place);
+            }
+            2 => lines.swap(place, 0),
+            3 => lines.insert(place, end(Vec::new())),
+            4 => lines[place] = end(unusual_setting(random, place)),
+            _ => {
+                let (_, damage) = random.pick(&LINE_FAULTS);
+                lines[place] = end(damage(random, &sound_setting(&lines[place])));
+            }
+        }
+    }
+}
+
+/// A head line as something to damage.
+fn sound_setting(line: &[u8]) -> Sound {
+    Sound {
+        line: String::from_utf8_lossy(line).trim_end().to_string(),
+        address: crate::net::address(128, 9, 0, 1),
+        message: vec![0xAB; 10],
+    }
+}
+
+/// A setting at an edge: one that no line may have, or one that fresh refuses.
+fn unusual_setting(random: &mut Random, place: usize) -> Vec<u8> {
+    let choices: &[&str] = match place {
+        0 => &[
+            "ownas=0",
+            "ownas=65536",
+            "ownas=00",
+            "ownas=01",
+            "ownas=65545",
+        ],
+        2 => &["cap=3", "cap=255", "cap=256", "cap=257", "cap=01", "cap=-1"],
+        1 => &[
+            "own=0.0.0.0",
+            "own=255.255.255.255",
+            "own=1.2.3",
+            "own=1.2.3.256",
+        ],
+        _ => &[
+            "net=224.0.0.0",
+            "net=128.9.0.1",
+            "net=0.0.0.0",
+            "net=256.0.0.0",
+            "net=10.0.0",
+        ],
+    };
+    random.pick(choices).as_bytes().to_vec()
+}
+
+fn end(mut line: Vec<u8>) -> Vec<u8> {
+    line.push(LINE_END);
+    line
+}
+
+/// The address in the event line of a call.
+fn address_of(call: &Call) -> u32 {
+    match call {
+        Call::Add { address, .. } | Call::Remove { address } => *address,
+        _ => call.event_address().unwrap_or_default(),
+    }
+}
+
+/// Few seconds more often than many, and often up to a timer's end. A neighbour that has not been
+/// heard yet gets time to be.
+fn seconds(random: &mut Random, neighbour: &Neighbour, is_silent: bool) -> u32 {
+    let unheard = neighbour.state.is_acquired() && neighbour.heard == 0;
+    let timer = match is_silent {
+        true => random.pick(&[neighbour.t1, neighbour.t2, neighbour.t3]),
+        false => neighbour.t1,
+    };
+    match random.below(1000) {
+        0..=3 => random.pick(&[3599, 3600, 7200, 86_399, 86_400]),
+        4..=9 => random.between(1, 400) as u32,
+        10..=299 => random.between(1, 9) as u32,
+        _ if unheard && !is_silent => random.between(1, 9) as u32,
+        300..=399 => u32::from(timer).saturating_sub(1).max(1),
+        _ => u32::from(timer).max(1),
+    }
+}

@@ -1,0 +1,432 @@
+//! Playing a recording back (02, L1). The number in a test's name is the reading's.
+
+mod common;
+
+use common::*;
+use reference::generate::recordings;
+use reference::net::dotted;
+use reference::playback;
+use reference::recording;
+use reference::site;
+
+const HEAD: &str = "ownas=9\nown=128.9.0.1\ncap=1\nnet=128.9.0.0\n";
+const NOBODY: &str = "neighbours=0\n";
+const N_IDLE: &str = "neighbours=1\nslot=0\naddr=128.9.0.5\nas=7\nstate=idle\nmode=none\nrows=0\n";
+
+fn play(recording: &str) -> String {
+    String::from_utf8(playback::play(recording.as_bytes())).expect("text")
+}
+
+/// What these event lines write behind a good head.
+fn after_head(lines: &[&str]) -> String {
+    let lines: String = lines.iter().map(|line| format!("{line}\n")).collect();
+    play(&format!("{HEAD}{lines}"))
+}
+
+fn rx(address: u32, octets: &[u8]) -> String {
+    format!("rx={}/{}", dotted(address), recording::hex(octets))
+}
+
+fn tx(address: u32, octets: &[u8]) -> String {
+    format!("tx={}/{}\n", dotted(address), recording::hex(octets))
+}
+
+/// N added, acquired and heard until it is Up, S 1.
+fn up() -> Vec<String> {
+    let heard = rx(N, &peer(I_H_U, 1, 0, &[]));
+    let mut lines = vec![
+        "add=128.9.0.5/7".to_string(),
+        rx(N, &request(0, 0, 30, 120)),
+    ];
+    for _ in 0..3 {
+        lines.push(heard.clone());
+        lines.push("tick=128.9.0.5/32".to_string());
+    }
+    lines
+}
+
+/// What is sent on the way there.
+fn sent_on_the_way_up() -> String {
+    [
+        our_confirm(1, 0),
+        our_hello(2, 0),
+        our_hello(2, 0),
+        our_hello(2, 0),
+        our_hello(1, 0),
+        our_poll(1),
+    ]
+    .map(|octets| tx(N, &octets))
+    .concat()
+}
+
+/// The lines up to Up and these, without what is sent on the way and without the listing.
+fn then(lines: &[String]) -> String {
+    let all = [up(), lines.to_vec()].concat();
+    let all: Vec<&str> = all.iter().map(String::as_str).collect();
+    let output = after_head(&all);
+    let rest = output.strip_prefix(&sent_on_the_way_up()).expect("Up");
+    let listing = rest.find("neighbours=").expect("a listing");
+    rest[..listing].to_string()
+}
+
+#[test]
+fn case_u_played() {
+    let update = rx(N, &hex(CASE_U));
+    let lines = [up(), vec![update]].concat();
+    let lines: Vec<&str> = lines.iter().map(String::as_str).collect();
+    let rows = "net=10.0.0.0\ngw=128.9.0.5\ndist=0\nside=int\n\
+        net=192.5.6.0\ngw=128.9.0.5\ndist=0\nside=int\n";
+    let listing = "neighbours=1\nslot=0\naddr=128.9.0.5\nas=7\nstate=up\nmode=active\nrows=2\n";
+    assert_eq!(
+        after_head(&lines),
+        format!("{}{listing}{rows}", sent_on_the_way_up())
+    );
+}
+
+#[test]
+fn nothing_but_a_head() {
+    assert_eq!(play(HEAD), NOBODY);
+}
+
+#[test]
+fn two_messages_of_one_call_are_two_lines() {
+    let request = rx(N, &request(0, 9, 30, 120));
+    let output = after_head(&["add=128.9.0.5/7", &request]);
+    let expected = tx(N, &our_confirm(1, 9)) + &tx(N, &our_hello(2, 0));
+    assert!(output.starts_with(&(expected + "neighbours=1\n")));
+}
+
+#[test]
+fn refused_messages_are_answered_as_their_refusal_says() {
+    let bad_status = peer(HELLO, 3, 9, &[]);
+    let error = our_error(1, 0, 1, &bad_status);
+    assert_eq!(then(&[rx(N, &bad_status)]), tx(N, &error));
+    let bad_body = peer(UPDATE, 1, 1, &[1, 0, 128, 9, 0, 0, 0]);
+    assert_eq!(
+        then(&[rx(N, &bad_body)]),
+        tx(N, &our_error(1, 0, 2, &bad_body))
+    );
+    // AS 12 is not the neighbour's: Refuse 4 in Idle, nothing in Up.
+    let stranger = raw(REQUEST, 0, 12, 9, &intervals(30, 120));
+    assert_eq!(then(&[rx(N, &stranger)]), "");
+    let idle = after_head(&["add=128.9.0.5/7", &rx(N, &stranger)]);
+    assert_eq!(idle, tx(N, &ours(REFUSE, 4, 9, &[])) + N_IDLE);
+}
+
+#[test]
+fn the_home_list_is_empty() {
+    let answer = ours(UPDATE, 1, 9, &[0, 0, 128, 9, 0, 0]);
+    assert_eq!(then(&[rx(N, &poll(1, 9, NET))]), tx(N, &answer));
+}
+
+#[test]
+fn refused_calls_print_nothing_else() {
+    let hello = rx(P, &peer(HELLO, 1, 1, &[]));
+    let lines = [
+        "add=128.9.0.5/7",
+        "add=128.9.0.5/7",
+        "add=128.9.0.1/7",
+        "add=128.9.0.6/9",
+        "add=0.0.0.0/7",
+        "remove=128.9.0.6",
+        "start=128.9.0.6",
+        "stop=0.0.0.0",
+        "tick=128.9.0.6/86400",
+        &hello,
+        "rx=128.9.0.5/0205",
+    ];
+    assert_eq!(after_head(&lines), N_IDLE);
+}
+
+#[test]
+fn a_ninth_neighbour_is_refused() {
+    let lines: Vec<String> = (1..=9)
+        .map(|last| format!("add=128.9.1.{last}/7"))
+        .collect();
+    let lines: Vec<&str> = lines.iter().map(String::as_str).collect();
+    let output = after_head(&lines);
+    assert!(output.starts_with("neighbours=8\n"));
+    assert!(!output.contains("128.9.1.9"));
+}
+
+#[test]
+fn ticks_are_calls_one_by_one() {
+    let output = after_head(&["add=128.9.0.5/7", "start=128.9.0.5", "tick=128.9.0.5/120"]);
+    // A Request by Start, one every 30 seconds, and Idle when t3 has run out.
+    let expected = tx(N, &our_request(1, 0)).repeat(4) + N_IDLE;
+    assert_eq!(output, expected);
+    let one_less = after_head(&["add=128.9.0.5/7", "start=128.9.0.5", "tick=128.9.0.5/119"]);
+    assert!(one_less.contains("state=acquisition\n"));
+}
+
+#[test]
+fn b77_empty_and_odd_hex() {
+    assert_eq!(after_head(&["add=128.9.0.5/7", "rx=128.9.0.5/"]), N_IDLE);
+    assert_eq!(after_head(&["rx=128.9.0.5/"]), NOBODY);
+    for line in ["rx=128.9.0.5/020", "rx=128.9.0.5/0a", "rx=128.9.0.5/A"] {
+        assert_eq!(after_head(&[line]), format!("bad=5\n{NOBODY}"));
+    }
+}
+
+#[test]
+fn b78_refused_is_not_bad() {
+    assert_eq!(after_head(&["add=128.9.0.5/0"]), NOBODY);
+    for (line, refused) in [
+        ("ownas=9", "ownas=0"),
+        ("cap=1", "cap=3"),
+        ("cap=1", "cap=255"),
+    ] {
+        assert_eq!(play(&HEAD.replace(line, refused)), "bad=4\n");
+    }
+    for (line, bad) in [("cap=1", "cap=256"), ("cap=1", "cap=01")] {
+        assert_eq!(play(&HEAD.replace(line, bad)), "bad=3\n");
+    }
+    assert_eq!(play(&HEAD.replace("ownas=9", "ownas=65536")), "bad=1\n");
+    for (line, refused) in [
+        ("net=128.9.0.0", "net=128.9.0.1"),
+        ("net=128.9.0.0", "net=224.0.0.0"),
+        ("net=128.9.0.0", "net=10.0.0.0"),
+        ("own=128.9.0.1", "own=128.10.0.1"),
+    ] {
+        let recording = HEAD.replace(line, refused);
+        assert_eq!(play(&(recording + "add=128.9.0.5/7\n")), "bad=4\n");
+    }
+}
+
+#[test]
+fn b79_a_long_line_is_bad_once() {
+    let long = format!("rx=128.9.0.5/{}", "0".repeat(10_000));
+    assert_eq!(after_head(&[&long]), format!("bad=5\n{NOBODY}"));
+    let octets_2050 = format!("rx=128.9.0.5/{}", "00".repeat(2050));
+    let octets_2049 = format!("rx=128.9.0.5/{}", "00".repeat(2049));
+    assert_eq!(
+        after_head(&[&octets_2050, &octets_2049, "add=128.9.0.5/7", &octets_2050]),
+        format!("bad=5\nbad=8\n{N_IDLE}")
+    );
+    // What is left of it is no line of its own.
+    let hidden = format!("{}add=128.9.0.5/7", " ".repeat(4096));
+    assert_eq!(after_head(&[&hidden]), format!("bad=5\n{NOBODY}"));
+}
+
+#[test]
+fn b80_ticks_go_on_whatever_one_answers() {
+    // All of them refused, then none.
+    let lines = [
+        "tick=128.9.0.5/40",
+        "add=128.9.0.5/7",
+        "start=128.9.0.5",
+        "tick=128.9.0.5/30",
+    ];
+    let output = after_head(&lines);
+    assert!(output.starts_with(&(tx(N, &our_request(1, 0)).repeat(2) + "neighbours=1\n")));
+    let idle = after_head(&["add=128.9.0.5/7", "start=128.9.0.5", "tick=128.9.0.5/86400"]);
+    assert_eq!(idle, tx(N, &our_request(1, 0)).repeat(4) + N_IDLE);
+}
+
+#[test]
+fn b81_heads_that_are_cut_short() {
+    assert_eq!(play(""), "bad=1\n");
+    assert_eq!(play("\n"), "bad=1\n");
+    assert_eq!(play("ownas=9"), "bad=1\n");
+    assert_eq!(play("ownas=9\n"), "bad=2\n");
+    assert_eq!(play("ownas=9\nown=128.9.0.1\n"), "bad=3\n");
+    assert_eq!(play("ownas=9\nown=128.9.0.1\ncap=1\n"), "bad=4\n");
+    assert_eq!(
+        play("ownas=9\nown=128.9.0.1\ncap=1\nnet=128.9.0.0"),
+        "bad=4\n"
+    );
+    assert_eq!(play(&HEAD.replace('\n', "\r\n")), "bad=1\n");
+    assert_eq!(play(&format!("\n{HEAD}")), "bad=1\n");
+}
+
+#[test]
+fn b81_blank_lines_and_line_ends() {
+    assert_eq!(
+        after_head(&["", "add=128.9.0.5/7\r", ""]),
+        format!("bad=5\nbad=6\nbad=7\n{NOBODY}")
+    );
+}
+
+#[test]
+fn an_unended_last_line_is_bad_whatever_it_says() {
+    for last in ["add=128.9.0.5/7", "start=128.9.0.5", "x", "\r", "cap=1"] {
+        assert_eq!(play(&format!("{HEAD}{last}")), format!("bad=5\n{NOBODY}"));
+    }
+    assert_eq!(
+        play(&format!("{HEAD}add=128.9.0.5/7\nstart=128.9.0.5")),
+        format!("bad=6\n{N_IDLE}")
+    );
+}
+
+#[test]
+fn a_bad_head_is_reported_alone() {
+    let events = "add=128.9.0.5/7\nstart=128.9.0.5\nnonsense\n";
+    for (number, line) in HEAD.lines().enumerate() {
+        let recording = HEAD.replacen(line, "nonsense", 1) + events;
+        assert_eq!(play(&recording), format!("bad={}\n", number + 1));
+        let without = HEAD.replacen(&format!("{line}\n"), "", 1) + events;
+        assert_eq!(play(&without), format!("bad={}\n", number + 1));
+    }
+    // The first of several.
+    assert_eq!(
+        play("ownas=9\nown=128.9.0\ncap=256\nnet=128.9.0.0\n"),
+        "bad=2\n"
+    );
+    // A bad fourth line, though fresh would refuse the others.
+    assert_eq!(
+        play("ownas=0\nown=128.9.0.1\ncap=7\nnet=128.9.0\n"),
+        "bad=4\n"
+    );
+    // A bad third line, though fresh would refuse the first.
+    assert_eq!(
+        play("ownas=0\nown=128.9.0.1\ncap=256\nnet=128.9.0.0\n"),
+        "bad=3\n"
+    );
+}
+
+#[test]
+fn bad_lines_are_reported_in_their_places() {
+    let output = after_head(&[
+        "nonsense",
+        "add=128.9.0.5/7",
+        "",
+        "start=128.9.0.5",
+        "tick=128.9.0.5/0",
+        "tick=128.9.0.5/30",
+        "own=128.9.0.1",
+    ]);
+    let sent = tx(N, &our_request(1, 0));
+    let expected = format!("bad=5\nbad=7\n{sent}bad=9\n{sent}bad=11\nneighbours=1\n");
+    assert!(output.starts_with(&expected));
+}
+
+#[test]
+fn line_numbers_have_as_many_digits_as_they_need() {
+    let output = play(&format!("{HEAD}{}", "\n".repeat(100_000)));
+    assert!(output.ends_with(&format!("bad=100003\nbad=100004\n{NOBODY}")));
+}
+
+/// "Refusals: 19, bad line, before all others": a line that is bad is reported, whatever else
+/// would be refused, and nothing of it is done.
+#[test]
+fn bad_line_comes_before_all_others() {
+    let bad_after = |before: &[String], line: &str| {
+        let lines = [before, &[line.to_string()]].concat();
+        let with: Vec<&str> = lines.iter().map(String::as_str).collect();
+        let without = after_head(&with[..with.len() - 1]);
+        let (sent, listing) = without.split_at(without.find("neighbours=").expect("a listing"));
+        let number = 4 + with.len();
+        assert_eq!(
+            after_head(&with),
+            format!("{sent}bad={number}\n{listing}"),
+            "{line}"
+        );
+    };
+    let wrong_checksum = "02050001FFFF00070001";
+    for line in [
+        // 5, nobody has this address.
+        "start=128.9.0.9 ",
+        "tick=128.9.0.9/86401",
+        "rx=128.9.0.9/2",
+        // 6, above 2,048 octets.
+        &format!("rx=128.9.0.5/{}", "00".repeat(2050)),
+        // 6, below 10 octets.
+        "rx=128.9.0.5/0",
+        // 7 and 8.
+        "rx=128.9.0.5/03050001FDF000070001 ",
+        &format!("rx=128.9.0.5/{wrong_checksum}\r"),
+        // 16: present, ours, AS 0.
+        "add=128.9.0.5/65536",
+        "add=128.9.0.1/07",
+        "add=128.9.0.6/00",
+        // 18, not Idle.
+        "remove=128.9.0.5/",
+        // Not refused if they were good.
+        "stop=128.9.0.5 ",
+        "stop=128.9.0.5\r",
+        "tick=128.9.0.5/032",
+        "rx=128.9.0.5/02030300FAF500070001f",
+    ] {
+        bad_after(&up(), line);
+    }
+    let eight: Vec<String> = (1..=8)
+        .map(|last| format!("add=128.9.1.{last}/7"))
+        .collect();
+    // 17, no free slot.
+    bad_after(&eight, "add=128.9.1.9/7/");
+}
+
+/// The head and the lines of a generated recording with a good head and ended lines.
+fn generated(seed: u64) -> Option<(Vec<String>, String)> {
+    let recording = recordings::recording(seed, 150);
+    let output = String::from_utf8(playback::play(&recording)).expect("text");
+    let is_whole = recording.ends_with(b"\n") && output.contains("neighbours=");
+    is_whole.then(|| {
+        let lines = recording::lines(&recording)
+            .map(|line| String::from_utf8_lossy(line).into_owned())
+            .collect();
+        (lines, output)
+    })
+}
+
+fn without_bad_lines(output: &str) -> String {
+    let kept = output.lines().filter(|line| !line.starts_with("bad="));
+    kept.map(|line| format!("{line}\n")).collect()
+}
+
+/// "Skipped whole": without its bad lines a recording plays the same.
+#[test]
+fn bad_lines_change_nothing() {
+    let mut bad_lines = 0;
+    for (lines, output) in (1..=60).filter_map(generated) {
+        let is_bad = |number: usize| output.contains(&format!("bad={number}\n"));
+        let (bad, good): (Vec<_>, Vec<_>) = lines
+            .iter()
+            .zip(1..)
+            .partition(|(_, number)| is_bad(*number));
+        bad_lines += bad.len();
+        let good: String = good.into_iter().map(|(line, _)| line.as_str()).collect();
+        assert_eq!(play(&good), without_bad_lines(&output));
+    }
+    assert!(bad_lines > 300);
+}
+
+/// A line of ticks is as many lines of one tick.
+#[test]
+fn ticks_in_lines_of_their_own() {
+    let single = |line: &String| match line.trim_end().split_once('/') {
+        Some((tick, count)) if tick.starts_with("tick=") => {
+            format!("{tick}/1\n").repeat(count.parse().unwrap_or(1))
+        }
+        _ => line.clone(),
+    };
+    for (lines, output) in (100..=130).filter_map(generated) {
+        let is_bad = |number: usize| output.contains(&format!("bad={number}\n"));
+        let good = lines.iter().zip(1..).filter(|(_, number)| !is_bad(*number));
+        let seconds: String = good.map(|(line, _)| single(line)).collect();
+        assert_eq!(play(&seconds), without_bad_lines(&output));
+    }
+}
+
+#[test]
+fn the_stored_example_is_the_site() {
+    let stored = include_str!("../../examples/site.rec");
+    assert_eq!(site::recording(), stored);
+    assert_eq!(play(stored), include_str!("../../examples/site.out"));
+}
+
+#[test]
+fn the_example_shows_what_it_is_for() {
+    let stored = include_str!("../../examples/site.rec");
+    let shared = format!("net={}\n", dotted(site::SHARED));
+    let (before, _) = stored.split_once("stop=").expect("a Stop");
+    let before = play(before);
+    assert!(before.matches("bad=").count() >= 1);
+    assert_eq!(before.matches("rows=2\n").count(), 2);
+    assert_eq!(before.matches(&shared).count(), 2);
+    // The row of the other neighbour stays.
+    let after = play(stored);
+    assert!(after.contains("addr=128.9.0.5\nas=7\nstate=idle\nmode=none\nrows=0\n"));
+    assert!(after.contains(&format!("rows=2\n{shared}gw=128.9.0.6\n")));
+    assert_eq!(after.matches(&shared).count(), 1);
+}

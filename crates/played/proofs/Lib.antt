@@ -6,6 +6,7 @@ pub mod Short
 pub mod Due
 pub mod LineEnds
 pub mod Turns
+pub mod Listed
 pub mod Playing
 pub mod Ends
 pub mod Cases

@@ -17,11 +17,12 @@ use Rattle.bad_line.specs.BadLine.{badText, oneMore}
 use Rattle.model.specs.Theorem.{Gateway, gatewayFrom, run, emptyTable}
 use Rattle.calling.specs.Told.{on}
 use Rattle.player.specs.declared.Player.{Player}
-use Rattle.player.specs.Player.{beginning, nextLine, breaking, reported, badStep, brokenStep, quietStep, usedOf, closeStep, finishStep}
+use Rattle.player.specs.Player.{beginning, roomy, nextLine, breaking, reported, badStep, brokenStep, quietStep, usedOf, closeStep, finishStep}
 use Rattle.played.specs.Output.{Line, unended, linesFrom, linesOf, eventIn, valueIn, broken, opened, openingOf, fromOwn, fromCapability, fromNet, callsOf, goodCalls, eventTold, toldFrom, toldText, eventsText, listed, openingText, outputOf}
 use Rattle.played.specs.Theorem.{Deck, start, stepOn, afterTurn, Driven, writing, drive, isDone, closed, finished, written, EndsAs, Played, Recordings}
 use Rattle.played.proofs.Laws.{no-length, left-of}
 use Rattle.played.proofs.OneByOne.{one-by-one}
+use Rattle.played.proofs.Listed.{finish-in}
 use Rattle.played.proofs.Held.{holds-none}
 use Rattle.played.proofs.Due.{Final, unplayed, playedTo, Due, saying, saying-twice, silence, eventsDue, finalOf, openingDue, openingFrom, remaining, remaining-broken, remaining-early}
 use Rattle.played.proofs.LineEnds.{Kept, kept-early, then-events, more-lines}
@@ -34,7 +35,7 @@ unfoldable pub finalIn : Deck → Final
 finalIn d = cond (d .player .broken) unplayed (cond (ltb (d .player .lines) 4) unplayed (playedTo (on (d .player .state) (d .table))))
 
 unfoldable pub endDue : Deck → Due
-endDue d = record { text = (closed d) .text ++ (finished d) .text; final = finalIn d }
+endDue d = record { text = (closed d) .text ++ (finished (zeros 65536) d) .text; final = finalIn d }
 
 broken-end : (d : Deck) (held : List ℕ) → d .player .broken ≡ true → remaining (d .player) (d .table) (linesFrom held []) ≡ endDue d
 unfolding endDue closed finished closeStep finishStep finalIn quietStep silence
@@ -185,9 +186,11 @@ module _ (recording sizes : List ℕ) (done : isDone (drive sizes start recordin
   whole-due : openingDue (openingOf (linesOf recording)) ≡ saying (r .text) (endDue (r .deck))
   whole-due = sym (start-due recording) ∙ finished-so .same
 
-  same-output : written r ≡ outputOf recording
-  unfolding written outputOf openingDue saying endDue
-  same-output = sym (ap (λ (d : Due). d .text) whole-due)
+  same-output : (out : List ℕ) → roomy out ≡ true → written out r ≡ outputOf recording
+  unfolding written finished outputOf openingDue saying endDue
+  same-output out h =
+      ap (λ (l : List ℕ). r .text ++ ((closed (r .deck)) .text ++ l)) (finish-in out ((closed (r .deck)) .player) (r .deck .table) h)
+      ∙ sym (ap (λ (d : Due). d .text) whole-due)
 
   same-final : finalOf (openingOf (linesOf recording)) ≡ finalIn (r .deck)
   unfolding openingDue saying endDue

@@ -12,7 +12,7 @@ use Rattle.slots.specs.Calls.{freshOf}
 use Rattle.model.specs.Model as M
 use Rattle.model.specs.Theorem.{Seen, seenBy, begun, run, emptyTable, carriesOctets, Agreement}
 use Rattle.player.specs.declared.Player.{Player}
-use Rattle.player.specs.Player.{beginning, Step, turnStep, usedOf, heldOf, closeStep, finishStep}
+use Rattle.player.specs.Player.{beginning, Step, roomy, turnStep, usedOf, heldOf, closeStep, finishStep}
 use Rattle.played.specs.Output.{Line, ended, unended, linesOf, broken, opened, openingOf, goodCalls, Told, badLine, called, toldFrom, outputOf}
 
 -- ---- lines are what they should be
@@ -91,15 +91,15 @@ drive (size ∷ sizes) d input =
 unfoldable pub isDone : Driven → Bool
 isDone r = eqb (length (r .rest)) 0 && (r .deck .player .broken || eqb (r .deck .player .ticks) 0)
 
--- what close and finish add, each with a buffer of the least size
+-- what close and finish add; finish is lent any buffer with room, whatever it holds
 unfoldable pub closed : Deck → Step
 closed d = closeStep true (d .player) (d .table)
 
-unfoldable pub finished : Deck → Step
-finished d = finishStep (zeros 65536) ((closed d) .player) (d .table)
+unfoldable pub finished : List ℕ → Deck → Step
+finished out d = finishStep out ((closed d) .player) (d .table)
 
-unfoldable pub written : Driven → List ℕ
-written r = r .text ++ ((closed (r .deck)) .text ++ (finished (r .deck)) .text)
+unfoldable pub written : List ℕ → Driven → List ℕ
+written out r = r .text ++ ((closed (r .deck)) .text ++ (finished out (r .deck)) .text)
 
 -- ---- the statement
 
@@ -110,7 +110,7 @@ pub record EndsAs (d : Deck) (g : Settings) (events : List Line) : Type 0 where
 
 -- however the recording was cut into pieces
 pub record Played (recording sizes : List ℕ) : Type 0 where
-  pub output : written (drive sizes start recording) ≡ outputOf recording
+  pub output : (out : List ℕ) → roomy out ≡ true → written out (drive sizes start recording) ≡ outputOf recording
   pub ends :
       (g : Settings) (events : List Line) → openingOf (linesOf recording) ≡ opened g events → EndsAs ((drive sizes start recording) .deck) g events
   -- nothing is played: the table is still all zero

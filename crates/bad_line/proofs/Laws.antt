@@ -2,10 +2,10 @@
 use Prim.Native.Nat.{ℕ, _+_, _≤_, _<_}
 use native.Mathlib.Nat.{zero-add}
 use native.Mathlib.Omega.{arith}
-use mathlib.Core.Path.{_≡_, refl, sym, ap, _∙_}
+use mathlib.Core.Path.{_≡_, refl, _∙_}
 use mathlib.Core.List.{List, [], _∷_, _++_}
-use lib.ListN.{length, drop, length-append}
-use lib.Seq.{sets, sets-eq}
+use lib.ListN.{length, length-append}
+use lib.Seq.{sets-eq}
 use Rattle.octets.specs.Buffer.{over}
 use Rattle.storing.specs.Written.{Written}
 use Rattle.storing.proofs.Storing.{Writing, start, room, turn, last}

@@ -12,7 +12,6 @@ use Rattle.fixed.specs.Writing as Writing
 use Rattle.codec.specs.Octets as Octets
 use Rattle.neighbour.specs.Record as Record
 use Rattle.neighbour.specs.Rules as Rules
-use Rattle.sent.specs.Sent as Sent
 use Rattle.machine.specs.Table as Table
 use Rattle.machine.specs.Tick as Tick
 use Rattle.machine.specs.Step as Step

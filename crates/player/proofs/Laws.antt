@@ -3,7 +3,7 @@ use Prim.Native.Nat.{ℕ, _≤_, _<_, _-_}
 use native.Mathlib.Omega.{arith}
 use mathlib.Core.Path.{_≡_, refl, sym, ap, _∙_}
 use mathlib.Core.Bool.{Bool, true, false, cond}
-use mathlib.Core.List.{List, [], _∷_, _++_}
+use mathlib.Core.List.{List, [], _∷_}
 use lib.Dec.{leb, ltb, eqb}
 use lib.ListN.{length, take, drop}
 use lib.Seq.{take-append-seam}
@@ -13,7 +13,6 @@ use denote.Enum.Declared.{tagOf}
 use Rattle.checks.specs.Checks.{ifOk}
 use Rattle.checks.proofs.Laws.{and-left, and-right, cond-elim}
 use Rattle.octets.specs.Buffer.{over}
-use Rattle.octets.proofs.Laws.{over-nothing}
 use Rattle.neighbour.specs.declared.Settings.{Settings}
 use Rattle.state.specs.declared.State.{State}
 use Rattle.state.specs.declared.Outcome.{Outcome}

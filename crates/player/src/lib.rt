@@ -5,15 +5,15 @@ use recording::Read;
 use state::State;
 use values::Number;
 ghost use mathlib.Core.Path.{_≡_};
-ghost use mathlib.Core.Bool.{Bool, true, false};
-ghost use mathlib.Core.List.{List, []};
-ghost use Prim.Native.Nat.{ℕ, _+_, _≤_, _<_};
+ghost use mathlib.Core.Bool.{true, false};
+ghost use mathlib.Core.List.{List};
+ghost use Prim.Native.Nat.{ℕ, _≤_, _<_};
 ghost use lib.ListN.{length};
 ghost use Rattle.octets.specs.Buffer.{over};
-ghost use Rattle.recording.specs.Lines.{ownAsOf, ownOf, capabilityOf, netOf, eventOf};
+ghost use Rattle.recording.specs.Lines.{ownAsOf, ownOf, capabilityOf, netOf};
 ghost use Rattle.recording.specs.Meant.{meant};
 ghost use Rattle.recording.specs.Steps.{standsOn};
-ghost use Rattle.player.specs.Player.{beginning, nextLine, holding, breaking, due, settled, having, roomy, reported, badStep, brokenStep, quietStep, withAs, withOwn, withCapability, withNet, settingStep, freshStep, netStep, headStep, callStep, eventStep, lineStep, tickStep, turnStep, usedOf, heldOf, toldOf, closeStep, finishStep};
+ghost use Rattle.player.specs.Player.{beginning, nextLine, holding, breaking, due, settled, having, roomy, reported, badStep, brokenStep, quietStep, withAs, withOwn, withCapability, settingStep, freshStep, netStep, headStep, eventStep, lineStep, tickStep, turnStep, usedOf, heldOf, toldOf, closeStep, finishStep};
 ghost use Rattle.player.specs.Steps.{carriedTurn, usingOf};
 
 // The least output buffer, as for a listing.

@@ -3,7 +3,7 @@ use Prim.Native.Nat.{ℕ, suc, _≤_, _<_}
 use native.Mathlib.Numerals.{add-one}
 use native.Mathlib.Omega.{arith}
 use mathlib.Core.Path.{_≡_, refl, sym, ap, _∙_}
-use mathlib.Core.Bool.{Bool, true, false, cond, _&&_, false≢true}
+use mathlib.Core.Bool.{true, false, _&&_, false≢true}
 use mathlib.Core.List.{List, [], _∷_, _++_}
 use borrow.Author.Tests.{lt-ltb, ltb-true, le-leb, leb-true, eq-eqb, ne-eqb, eqb-true, eqb-false}
 use lib.Dec.{leb, ltb, eqb}
@@ -18,7 +18,7 @@ use Rattle.values.specs.declared.Number.the-variants.{Bad, Is}
 use Rattle.values.specs.Places.{placeOf, startsWith}
 use Rattle.values.specs.Numbers.{whenNumber, decimalOf, dottedOf}
 use Rattle.values.specs.Hex.{hexText, isHex, hexOctets}
-use Rattle.values.proofs.Readings.{decimals, addresses, hexes, hex-half, slash-place}
+use Rattle.values.proofs.Readings.{decimals, addresses, hexes, hex-half, slash-place, never, place-found}
 use Rattle.recording.specs.Lines.{behind, ownAsOf, ownOf, capabilityOf, netOf, Event, bad, add, remove, start, stop, tick, rx, alone, slashed, addEvent, tickEvent, rxEvent, eventOf}
 use Rattle.recording.specs.Claims.{eventText, isAddress, inRange, isGood, Events, Setting, Settings}
 
@@ -101,18 +101,6 @@ event-back (tick a count) h =
 event-back (rx a octets) h =
     slashed-back rxEvent a (hexText octets) (and-left (isAddress a) (leb (length octets) 2049 && every (λ o. ltb o 256) octets) h)
     ∙ rx-back a octets (and-right (isAddress a) (leb (length octets) 2049 && every (λ o. ltb o 256) octets) h)
-
--- ---- and nothing else is good
-
-place-found : (octet : ℕ) (l : List ℕ) → placeOf octet l < length l → getD l (placeOf octet l) 0 ≡ octet
-unfolding placeOf first
-place-found octet [] h = absurd (omega arith)
-place-found octet (x ∷ l) h = go (eqb x octet) refl (place-found octet l) h
-  where
-    go : (b : Bool) → eqb x octet ≡ b → (placeOf octet l < length l → getD l (placeOf octet l) 0 ≡ octet)
-        → cond b 0 (suc (placeOf octet l)) < suc (length l) → getD (x ∷ l) (cond b 0 (suc (placeOf octet l))) 0 ≡ octet
-    go true e r h = eqb-true x octet e
-    go false e r h = r (omega arith)
 
 -- an event, if it is a good one, is in range, and the line is its text
 record Told (line : List ℕ) (e : Event) : Type 0 where
@@ -232,9 +220,6 @@ events =
     }
 
 -- ---- the first four lines
-
-never : {A : Type 0} (n : ℕ) → Bad ≡ Is n → A
-never n e = let z : _≡_ {A = ℕ} 0 1 = cc in absurd (omega arith)
 
 module _ (key : List ℕ) (read : List ℕ → Number) (value : ℕ → List ℕ) (most : ℕ) (short : length key ≤ 6)
     (back : (n : ℕ) → n ≤ most → read (value n) ≡ Is n) (only : (n : ℕ) (t : List ℕ) → read t ≡ Is n → (t ≡ value n) × (n ≤ most))

@@ -6,7 +6,6 @@ use mathlib.Core.List.{List, [], _∷_, _++_, map}
 use lib.ListN.{replicate}
 use Rattle.checks.specs.Lists.{every}
 use Rattle.text.specs.Text.{text}
-use Rattle.values.specs.declared.Number.{Number}
 use Rattle.values.specs.declared.Number.the-variants.{Bad, Is}
 use Rattle.recording.specs.Lines.{Event, add, remove, start, stop, tick, rx, eventOf, ownAsOf, ownOf, capabilityOf, netOf}
 use Rattle.recording.specs.Claims.{isGood}

@@ -22,7 +22,7 @@ use Rattle.values.specs.Hex.{hexDigit, hexText, nibble, isHex, hexOctets
 use Rattle.values.specs.Claims.{Decimals, Addresses, Hexes, areOctets}
 
 -- text that is no number gives none
-never : {A : Type 0} (n : ℕ) → Bad ≡ Is n → A
+pub never : {A : Type 0} (n : ℕ) → Bad ≡ Is n → A
 never n e = let z : _≡_ {A = ℕ} 0 1 = cc in absurd (omega arith)
 
 -- a choice that gives a number took its first branch
@@ -214,7 +214,7 @@ place-behind octet (x ∷ l) rest h =
     let other = not-true (eqb x octet) (and-left (not (eqb x octet)) (every (λ o. not (eqb o octet)) l) h) in
     rw other (ap suc (place-behind octet l rest (and-right (not (eqb x octet)) (every (λ o. not (eqb o octet)) l) h)))
 
-place-found : (octet : ℕ) (l : List ℕ) → placeOf octet l < length l → getD l (placeOf octet l) 0 ≡ octet
+pub place-found : (octet : ℕ) (l : List ℕ) → placeOf octet l < length l → getD l (placeOf octet l) 0 ≡ octet
 unfolding placeOf first
 place-found octet [] h = absurd (omega arith)
 place-found octet (x ∷ l) h = go (eqb x octet) refl (place-found octet l) h

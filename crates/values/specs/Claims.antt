@@ -1,5 +1,5 @@
 -- What is written reads back the same, and nothing else reads: one text for each number, each address and each list of octets. The proofs are in proofs/.
-use Prim.Native.Nat.{ℕ, _+_, _*_, _^_, _≤_, _<_}
+use Prim.Native.Nat.{ℕ, _*_, _≤_, _<_}
 use mathlib.Core.Path.{_≡_}
 use mathlib.Core.Bool.{true}
 use mathlib.Core.List.{List}

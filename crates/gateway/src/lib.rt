@@ -185,7 +185,7 @@ fn happen(st: State, table: &mut [u32], reply: &mut [u8], address: u32, event: E
         second: 0,
         third: 0,
     };
-    let after = machine::step(settings, slot.asn, n, event, head);
+    let after = machine_step::step(settings, slot.asn, n, event, head);
     let v = verdict::step_verdict(n, after);
     let home = [0u32; 0];
     let message = [0u8; 0];

@@ -112,7 +112,7 @@ fn carry_out(settings: Settings, asn: u16, n: Neighbour, message: &[u8], m: Mess
 {
     step_verdict(
         n,
-        machine::step(settings, asn, n, Event::Received(m), head_of(message)),
+        machine_step::step(settings, asn, n, Event::Received(m), head_of(message)),
     )
 }
 
@@ -122,7 +122,7 @@ fn take_update(settings: Settings, asn: u16, n: Neighbour, message: &[u8], m: Me
 {
     match walk::walk(settings.net, message, 128) {
         Walked::Rows(count) => {
-            let after = machine::step(settings, asn, n, Event::Received(m), head_of(message));
+            let after = machine_step::step(settings, asn, n, Event::Received(m), head_of(message));
             let reply = after.reply;
             let next = after.neighbour;
             Verdict {

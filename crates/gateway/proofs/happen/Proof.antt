@@ -9,7 +9,7 @@ use Rattle.gateway.proofs.happen.Reads as reads
 use Rattle.gateway.proofs.happen.Lts as lts
 use Rattle.gateway.proofs.apply.Reads as apply-reads
 use Rattle.gateway.proofs.event_answer.Reads as event-answer-reads
-use Rattle.machine.proofs.step.Reads as step-reads
+use Rattle.machine_step.proofs.step.Reads as step-reads
 use Rattle.state.proofs.refused.Reads as refused-reads
 use Rattle.state.proofs.slot_at.Reads as slot-at-reads
 use Rattle.state.proofs.slot_of.Reads as slot-of-reads

@@ -5,7 +5,7 @@ use Rattle.verdict.proofs.carry_out.Statement.{statement}
 use Rattle.verdict.proofs.carry_out.Tie as tie
 use Rattle.verdict.proofs.carry_out.Reads as reads
 use Rattle.verdict.proofs.carry_out.Lts as lts
-use Rattle.machine.proofs.step.Reads as step-reads
+use Rattle.machine_step.proofs.step.Reads as step-reads
 use Rattle.verdict.proofs.head_of.Reads as head-of-reads
 use Rattle.verdict.proofs.step_verdict.Reads as step-verdict-reads
 

@@ -8,7 +8,7 @@ use Rattle.verdict.proofs.take_update.Statement.{statement}
 use Rattle.verdict.proofs.take_update.Tie as tie
 use Rattle.verdict.proofs.take_update.Reads as reads
 use Rattle.verdict.proofs.take_update.Lts as lts
-use Rattle.machine.proofs.step.Reads as step-reads
+use Rattle.machine_step.proofs.step.Reads as step-reads
 use Rattle.verdict.proofs.error_to.Reads as error-to-reads
 use Rattle.verdict.proofs.head_of.Reads as head-of-reads
 use Rattle.verdict.proofs.refuse.Reads as refuse-reads

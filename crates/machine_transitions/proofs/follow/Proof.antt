@@ -1,0 +1,29 @@
+use Rattle.machine.specs.Table.{followed}
+use borrow.Author.Needs.{needs}
+use Rattle.machine_transitions.proofs.follow.Statement.{statement}
+use Rattle.machine_transitions.proofs.follow.Tie as tie
+
+enum-told : tie.Need-enum-told
+enum-told c = search needs
+
+enum-known-reply : tie.Need-enum-known-reply
+enum-known-reply c = search needs
+
+enum-known-reply-2 : tie.Need-enum-known-reply-2
+enum-known-reply-2 c = search needs
+
+returns : tie.Need-returns
+unfolding followed
+returns c = rw (c .enum-told .given .1)
+
+returns-2 : tie.Need-returns-2
+unfolding followed
+returns-2 c = rw (c .before .reply .given .1)
+
+returns-3 : tie.Need-returns-3
+unfolding followed
+returns-3 c = rw (c .before .reply2 .given .1, c .known-told2 .given .1)
+
+pub follow-spec : {M : Type 1} → statement M
+follow-spec =
+    tie.close (tie.spec enum-told enum-known-reply enum-known-reply-2 returns returns-2 returns-3)

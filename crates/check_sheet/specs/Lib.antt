@@ -1,0 +1,14 @@
+pub mod Given
+pub mod Line
+pub mod Numbers
+pub mod Orders
+pub mod Replies
+pub mod Formed
+pub mod Homes
+pub mod Settings
+pub mod Kinds
+pub mod Sequences
+pub mod Bodies
+pub mod Writings
+pub mod Listings
+pub mod Sheet

@@ -1,0 +1,42 @@
+-- The check sheet: 01's checks as lists of calls with their answers, and the claim about them. Calls and answers are
+-- written from 01 alone, and the checksums in them were worked out apart from our definitions: so a check that is wrong
+-- in definition and code together shows here.
+use mathlib.Core.Path.{_≡_}
+use mathlib.Core.List.{map}
+use Rattle.check_sheet.specs.Line.{computed, written}
+use Rattle.check_sheet.specs.Numbers.{numbers}
+use Rattle.check_sheet.specs.Orders.{orders}
+use Rattle.check_sheet.specs.Replies.{replies}
+use Rattle.check_sheet.specs.Formed.{forms}
+use Rattle.check_sheet.specs.Homes.{homes}
+use Rattle.check_sheet.specs.Settings.{settings}
+use Rattle.check_sheet.specs.Kinds.{kinds}
+use Rattle.check_sheet.specs.Sequences.{sequences}
+use Rattle.check_sheet.specs.Bodies.{bodies}
+use Rattle.check_sheet.specs.Writings.{writings}
+use Rattle.check_sheet.specs.Listings.{listings}
+
+-- every line of every list comes out as it says
+pub record CheckSheet : Type 0 where
+  -- 01's answer numbers, from each call that can give them
+  pub numbers : map computed numbers ≡ map written numbers
+  -- "the first that fails answers"
+  pub orders : map computed orders ≡ map written orders
+  -- the column "Reply"
+  pub replies : map computed replies ≡ map written replies
+  -- 1: "Well formed means"
+  pub forms : map computed forms ≡ map written forms
+  -- 4: "A home list is good when"
+  pub homes : map computed homes ≡ map written homes
+  -- 16 from fresh and add
+  pub settings : map computed settings ≡ map written settings
+  -- 10, 11 and 12: the table of kinds
+  pub kinds : map computed kinds ≡ map written kinds
+  -- 13: "response out of sequence"
+  pub sequences : map computed sequences ≡ map written sequences
+  -- 14 and 15: an Update's body
+  pub bodies : map computed bodies ≡ map written bodies
+  -- 16 from the writer
+  pub writings : map computed writings ≡ map written writings
+  -- 1, 2 and 3 from a listing
+  pub listings : map computed listings ≡ map written listings

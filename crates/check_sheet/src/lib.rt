@@ -1,0 +1,1 @@
+// The check sheet: the calls and the claim are in specs/, the proof in proofs/.

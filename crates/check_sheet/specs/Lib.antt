@@ -11,4 +11,5 @@ pub mod Sequences
 pub mod Bodies
 pub mod Writings
 pub mod Listings
+pub mod Effects
 pub mod Sheet

@@ -15,6 +15,8 @@ use Rattle.check_sheet.specs.Sequences.{sequences}
 use Rattle.check_sheet.specs.Bodies.{bodies}
 use Rattle.check_sheet.specs.Writings.{writings}
 use Rattle.check_sheet.specs.Listings.{listings}
+use Rattle.check_sheet.specs.Effects.{effects, readOnC, writtenOnC}
+use Rattle.check_sheet.specs.Effects as Effects
 
 -- every line of every list comes out as it says
 pub record CheckSheet : Type 0 where
@@ -40,3 +42,7 @@ pub record CheckSheet : Type 0 where
   pub writings : map computed writings ≡ map written writings
   -- 1, 2 and 3 from a listing
   pub listings : map computed listings ≡ map written listings
+  -- what a call that is carried out leaves in the state, the buffer and the table
+  pub effects : map Effects.computed effects ≡ map Effects.written effects
+  -- an Update read on a net of class C
+  pub class-c : readOnC ≡ writtenOnC

@@ -7,7 +7,7 @@ ghost use mathlib.Core.Path.{_≡_};
 ghost use mathlib.Core.Bool.{true};
 ghost use Prim.Native.Nat.{_*_, _≤_};
 ghost use lib.ListN.{length};
-ghost use Rattle.driver.specs.Bounds.{Within, Rooms};
+ghost use Rattle.driver.specs.Bounds.{Within};
 
 // What one record leaves for the next.
 struct Turn {
@@ -134,17 +134,18 @@ fn show_table(table: &[u32], raw: &mut [u8]) -> bool
 }
 
 // Writes what a call left: its outcome, the whole buffer and the whole table.
-fn show(o: Outcome, buffer: &[u8], room: usize, table: &[u32], count: usize, raw: &mut [u8]) -> bool
+fn show(o: Outcome, buffer: &[u8], room: usize, table: &[u32], count: usize) -> bool
     requires { ⌜ (room ≤ length (now buffer)) × (room ≤ 70000) ⌝ }
-    requires { ⌜ (count ≤ length (now table)) × (count ≤ 4096) × (length (now raw) ≡ 16384) ⌝ }
+    requires { ⌜ (count ≤ length (now table)) × (count ≤ 4096) ⌝ }
 {
-    if !show_outcome(o, room as u32, count as u32, raw) {
+    let mut raw = [0u8; 16384];
+    if !show_outcome(o, room as u32, count as u32, &mut raw) {
         return false;
     }
     if !show_front(buffer, room) {
         return false;
     }
-    show_table(&table[..count], raw)
+    show_table(&table[..count], &mut raw)
 }
 
 // Reads octets from standard input to the front.
@@ -155,11 +156,12 @@ fn take_octets(octets: &mut [u8], size: usize)
 }
 
 // Reads numbers from standard input to the front.
-fn take_numbers(numbers: &mut [u32], count: usize, raw: &mut [u8])
-    requires { ⌜ (count ≤ length (now numbers)) × (count * 4 ≤ length (now raw)) ⌝ }
+fn take_numbers(numbers: &mut [u32], count: usize)
+    requires { ⌜ (count ≤ length (now numbers)) × (count ≤ 4096) ⌝ }
 {
-    take_octets(raw, count * 4);
-    record::read_numbers(&mut numbers[..count], raw);
+    let mut raw = [0u8; 16384];
+    take_octets(&mut raw, count * 4);
+    record::read_numbers(&mut numbers[..count], &raw);
 }
 
 // The buffer as it is lent.
@@ -182,20 +184,38 @@ fn is_within(head: Head) -> bool
     head.room <= 70000
 }
 
+// The next record's head. Where the input ends, one that asks for more than the driver keeps.
+fn next_head() -> Head {
+    let mut first = [255u8; 32];
+    if io::read_full(0, &mut first) < 32 {
+        return record::read_head(&[255u8; 32]);
+    }
+    record::read_head(&first)
+}
+
 // A record that hands in a table.
-fn hand_in(st: State, table: &mut [u32], head: Head, raw: &mut [u8]) -> Turn
-    requires { ⌜ (length (now table) ≡ 4096) × (length (now raw) ≡ 16384) ⌝ }
+fn hand_in(st: State, table: &mut [u32; 4096], head: Head) -> Turn
     requires { ⌜ Within head ⌝ }
     ensures { λ r. ⌜ r .count ≤ 4096 ⌝ }
 {
     let count = head.numbers as usize;
-    take_numbers(table, count, raw);
-    let is_open = show(kept(st), b"", 0, table, count, raw);
+    take_numbers(table, count);
+    let is_open = show(kept(st), b"", 0, table, count);
     Turn {
         state: st,
         count,
         is_open,
     }
+}
+
+// The rest of a record, and the buffer as it is lent.
+fn take_rest(head: Head, octets: &mut [u8], numbers: &mut [u32], buffer: &mut [u8; 70000])
+    requires { ⌜ Within head ⌝ }
+    requires { ⌜ (length (now octets) ≡ 4096) × (length (now numbers) ≡ 4096) ⌝ }
+{
+    take_octets(octets, head.octets as usize);
+    take_numbers(numbers, head.numbers as usize);
+    lend(buffer, head.room as usize, head.octet);
 }
 
 // The call on the parts of the rooms that the record names.
@@ -223,27 +243,25 @@ fn make(
     )
 }
 
-// The rest of a record, its call and the answer.
+// A record whose head is read: the rest of it, its call and the answer.
 fn serve(
     st: State,
-    table: &mut [u32],
+    table: &mut [u32; 4096],
     count: usize,
     head: Head,
-    octets: &mut [u8],
-    numbers: &mut [u32],
-    raw: &mut [u8],
-    buffer: &mut [u8],
+    buffer: &mut [u8; 70000],
 ) -> Turn
-    requires { ⌜ Rooms (now table) (now octets) (now numbers) (now raw) (now buffer) ⌝ }
     requires { ⌜ (count ≤ 4096) × Within head ⌝ }
     ensures { λ r. ⌜ r .count ≤ 4096 ⌝ }
 {
-    let room = head.room as usize;
-    take_octets(octets, head.octets as usize);
-    take_numbers(numbers, head.numbers as usize, raw);
-    lend(buffer, room, head.octet);
-    let o = make(st, table, count, head, octets, numbers, buffer);
-    let is_open = show(o, buffer, room, table, count, raw);
+    if head.kind == 11 {
+        return hand_in(st, table, head);
+    }
+    let mut octets = [0u8; 4096];
+    let mut numbers = [0u32; 4096];
+    take_rest(head, &mut octets, &mut numbers, buffer);
+    let o = make(st, table, count, head, &octets, &numbers, buffer);
+    let is_open = show(o, buffer, head.room as usize, table, count);
     let after = o.state;
     Turn {
         state: after,
@@ -252,55 +270,18 @@ fn serve(
     }
 }
 
-// One record, if there is one and it fits.
-fn next_turn(
-    st: State,
-    table: &mut [u32],
-    count: usize,
-    octets: &mut [u8],
-    numbers: &mut [u32],
-    raw: &mut [u8],
-    buffer: &mut [u8],
-) -> Turn
-    requires { ⌜ Rooms (now table) (now octets) (now numbers) (now raw) (now buffer) ⌝ }
-    requires { ⌜ count ≤ 4096 ⌝ }
-    ensures { λ r. ⌜ r .count ≤ 4096 ⌝ }
-{
-    let over = Turn {
-        state: st,
-        count,
-        is_open: false,
-    };
-    let mut first = [0u8; 32];
-    if io::read_full(0, &mut first) < 32 {
-        return over;
-    }
-    let head = record::read_head(&first);
-    if !is_within(head) {
-        return over;
-    }
-    if head.kind == 11 {
-        return hand_in(st, table, head, raw);
-    }
-    serve(st, table, count, head, octets, numbers, raw, buffer)
-}
-
 // Records until the input ends, from the all-zero state. Nothing says that an input ends, so the turns are counted down from a number
 // that no run uses up.
-fn play(
-    table: &mut [u32],
-    octets: &mut [u8],
-    numbers: &mut [u32],
-    raw: &mut [u8],
-    buffer: &mut [u8],
-)
-    requires { ⌜ Rooms (now table) (now octets) (now numbers) (now raw) (now buffer) ⌝ }
-{
+fn play(table: &mut [u32; 4096], buffer: &mut [u8; 70000]) {
     let mut st = state_block::read_state(b"");
     let mut count = 3072;
     let mut turns = u64::MAX;
     while turns > 0 {
-        let next = next_turn(st, table, count, octets, numbers, raw, buffer);
+        let head = next_head();
+        if !is_within(head) {
+            return;
+        }
+        let next = serve(st, table, count, head, buffer);
         if !next.is_open {
             return;
         }
@@ -312,9 +293,6 @@ fn play(
 
 fn main() {
     let mut table = [0u32; 4096];
-    let mut octets = [0u8; 4096];
-    let mut numbers = [0u32; 4096];
-    let mut raw = [0u8; 16384];
     let mut buffer = [0u8; 70000];
-    play(&mut table, &mut octets, &mut numbers, &mut raw, &mut buffer);
+    play(&mut table, &mut buffer);
 }

@@ -1,17 +1,21 @@
 use native.Mathlib.Omega.{arith}
-use mathlib.Core.Path.{refl, sym, _∙_}
+use mathlib.Core.Path.{refl}
 use Prim.Native.Nat.{_≤_}
-use Rattle.driver.specs.Bounds.{Rooms}
+use borrow.Author.Tests.{not-false}
 use Rattle.driver.proofs.play.Statement.{statement}
 use Rattle.driver.proofs.play.Tie as tie
+use Rattle.driver.proofs.play.Reads as reads
+use Rattle.driver.proofs.play.Lts as lts
+use Rattle.driver.proofs.is_within.Reads as is-within-reads
+use Rattle.driver.proofs.next_head.Reads as next-head-reads
+use Rattle.driver.proofs.serve.Reads as serve-reads
+use Rattle.state_block.proofs.read_state.Reads as read-state-reads
 
 abbrev Inv-loop : tie.InvT-loop
-Inv-loop table₀ octets₀ numbers₀ raw₀ buffer₀ st₀ count₀ turns₀ table octets numbers raw buffer st count turns =
-    (count ≤ 4096) × Rooms table octets numbers raw buffer
+Inv-loop table₀ buffer₀ st₀ count₀ turns₀ table buffer st count turns = count ≤ 4096
 
 abbrev μ-loop : tie.MeasureT-loop
-μ-loop table₀ octets₀ numbers₀ raw₀ buffer₀ st₀ count₀ turns₀ table octets numbers raw buffer st count turns =
-    turns
+μ-loop table₀ buffer₀ st₀ count₀ turns₀ table buffer st count turns = turns
 
 slice-aggregate-read-state : tie.Need-slice-aggregate-read-state Inv-loop μ-loop
 slice-aggregate-read-state c = refl
@@ -20,28 +24,22 @@ read-state-requires : tie.Need-read-state-requires Inv-loop μ-loop
 read-state-requires c κs = tt
 
 loop-holds : tie.Need-loop-holds Inv-loop μ-loop
-loop-holds c = (omega arith, c .before .before .before .before .before .before .before .pre)
+loop-holds c = omega arith
 
-next-turn-requires : tie.Need-next-turn-requires Inv-loop μ-loop
-next-turn-requires c κs = (c .before .before .before .before .before .before .loop .inv .1, c .before .before .before .before .before .before .loop .inv .0)
+next-head-requires : tie.Need-next-head-requires Inv-loop μ-loop
+next-head-requires c κs = tt
 
-same-length : tie.Need-same-length Inv-loop μ-loop
-same-length c = c .before .before .before .before .before .before .before .before .before .before .before .before .next-turn .kept .1 .0 ∙ c .before .before .before .before .before .before .before .before .before .before .before .before .before .before .before .before .before .before .before .loop .inv .1 .table-size ∙ sym (c .before .before .before .before .before .before .before .before .before .before .before .before .before .before .before .before .before .before .before .before .before .before .before .before .before .before .before .pre .table-size)
-
-same-length-2 : tie.Need-same-length-2 Inv-loop μ-loop
-same-length-2 c = c .before .before .before .before .before .before .before .before .before .before .before .before .next-turn .kept .1 .1 .1 .0 ∙ c .before .before .before .before .before .before .before .before .before .before .before .before .before .before .before .before .before .before .before .loop .inv .1 .octets-size ∙ sym (c .before .before .before .before .before .before .before .before .before .before .before .before .before .before .before .before .before .before .before .before .before .before .before .before .before .before .before .pre .octets-size)
-
-same-length-3 : tie.Need-same-length-3 Inv-loop μ-loop
-same-length-3 c = c .before .before .before .before .before .before .before .before .before .before .before .before .next-turn .kept .1 .1 .1 .1 .0 ∙ c .before .before .before .before .before .before .before .before .before .before .before .before .before .before .before .before .before .before .before .loop .inv .1 .numbers-size ∙ sym (c .before .before .before .before .before .before .before .before .before .before .before .before .before .before .before .before .before .before .before .before .before .before .before .before .before .before .before .pre .numbers-size)
-
-same-length-4 : tie.Need-same-length-4 Inv-loop μ-loop
-same-length-4 c = c .before .before .before .before .before .before .before .before .before .before .before .before .next-turn .kept .1 .1 .1 .1 .1 .0 ∙ c .before .before .before .before .before .before .before .before .before .before .before .before .before .before .before .before .before .before .before .loop .inv .1 .raw-size ∙ sym (c .before .before .before .before .before .before .before .before .before .before .before .before .before .before .before .before .before .before .before .before .before .before .before .before .before .before .before .pre .raw-size)
-
-same-length-5 : tie.Need-same-length-5 Inv-loop μ-loop
-same-length-5 c = c .before .before .before .before .before .before .before .before .before .before .before .before .next-turn .kept .1 .1 .1 .1 .1 .1 .0 ∙ c .before .before .before .before .before .before .before .before .before .before .before .before .before .before .before .before .before .before .before .loop .inv .1 .buffer-size ∙ sym (c .before .before .before .before .before .before .before .before .before .before .before .before .before .before .before .before .before .before .before .before .before .before .before .before .before .before .before .pre .buffer-size)
+is-within-requires : tie.Need-is-within-requires Inv-loop μ-loop
+is-within-requires c κs = tt
 
 returns : tie.Need-returns Inv-loop μ-loop
 returns c = tt
+
+serve-requires : tie.Need-serve-requires Inv-loop μ-loop
+serve-requires c κs = (c .before .before .before .before .before .before .loop .inv, c .before .before .before .is-within .ensures (not-false (c .before .before .before .is-within .result) (c .before .before .if1 .left)))
+
+returns-2 : tie.Need-returns-2 Inv-loop μ-loop
+returns-2 c = tt
 
 sub-turns : tie.Need-sub-turns Inv-loop μ-loop
 sub-turns c = omega arith
@@ -50,25 +48,10 @@ loop-less : tie.Need-loop-less Inv-loop μ-loop
 loop-less c = omega arith
 
 loop-again : tie.Need-loop-again Inv-loop μ-loop
-loop-again c = (c .before .before .before .before .before .before .before .before .before .before .before .before .before .next-turn .ensures, record { table-size = c .before .before .before .before .before .before .before .before .before .before .before .before .before .next-turn .kept .1 .0 ∙ c .before .before .before .before .before .before .before .before .before .before .before .before .before .before .before .before .before .before .before .before .loop .inv .1 .table-size; octets-size = c .before .before .before .before .before .before .before .before .before .before .before .before .before .next-turn .kept .1 .1 .1 .0 ∙ c .before .before .before .before .before .before .before .before .before .before .before .before .before .before .before .before .before .before .before .before .loop .inv .1 .octets-size; numbers-size = c .before .before .before .before .before .before .before .before .before .before .before .before .before .next-turn .kept .1 .1 .1 .1 .0 ∙ c .before .before .before .before .before .before .before .before .before .before .before .before .before .before .before .before .before .before .before .before .loop .inv .1 .numbers-size; raw-size = c .before .before .before .before .before .before .before .before .before .before .before .before .before .next-turn .kept .1 .1 .1 .1 .1 .0 ∙ c .before .before .before .before .before .before .before .before .before .before .before .before .before .before .before .before .before .before .before .before .loop .inv .1 .raw-size; buffer-size = c .before .before .before .before .before .before .before .before .before .before .before .before .before .next-turn .kept .1 .1 .1 .1 .1 .1 .0 ∙ c .before .before .before .before .before .before .before .before .before .before .before .before .before .before .before .before .before .before .before .before .loop .inv .1 .buffer-size })
+loop-again c = c .before .before .before .serve .ensures
 
-same-length-6 : tie.Need-same-length-6 Inv-loop μ-loop
-same-length-6 c = c .before .loop .inv .1 .table-size ∙ sym (c .before .before .before .before .before .before .before .before .before .pre .table-size)
-
-same-length-7 : tie.Need-same-length-7 Inv-loop μ-loop
-same-length-7 c = c .before .loop .inv .1 .octets-size ∙ sym (c .before .before .before .before .before .before .before .before .before .pre .octets-size)
-
-same-length-8 : tie.Need-same-length-8 Inv-loop μ-loop
-same-length-8 c = c .before .loop .inv .1 .numbers-size ∙ sym (c .before .before .before .before .before .before .before .before .before .pre .numbers-size)
-
-same-length-9 : tie.Need-same-length-9 Inv-loop μ-loop
-same-length-9 c = c .before .loop .inv .1 .raw-size ∙ sym (c .before .before .before .before .before .before .before .before .before .pre .raw-size)
-
-same-length-10 : tie.Need-same-length-10 Inv-loop μ-loop
-same-length-10 c = c .before .loop .inv .1 .buffer-size ∙ sym (c .before .before .before .before .before .before .before .before .before .pre .buffer-size)
-
-returns-2 : tie.Need-returns-2 Inv-loop μ-loop
-returns-2 c = tt
+returns-3 : tie.Need-returns-3 Inv-loop μ-loop
+returns-3 c = tt
 
 pub play-spec : {M : Type 1} → statement M
 play-spec =
@@ -79,19 +62,12 @@ play-spec =
     slice-aggregate-read-state
     read-state-requires
     loop-holds
-    next-turn-requires
-    same-length
-    same-length-2
-    same-length-3
-    same-length-4
-    same-length-5
+    next-head-requires
+    is-within-requires
     returns
+    serve-requires
+    returns-2
     sub-turns
     loop-less
     loop-again
-    same-length-6
-    same-length-7
-    same-length-8
-    same-length-9
-    same-length-10
-    returns-2)
+    returns-3)

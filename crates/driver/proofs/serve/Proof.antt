@@ -2,64 +2,58 @@ use native.Mathlib.Omega.{arith}
 use borrow.Author.Needs.{needs}
 use Rattle.driver.proofs.serve.Statement.{statement}
 use Rattle.driver.proofs.serve.Tie as tie
+use Rattle.driver.proofs.serve.Reads as reads
+use Rattle.driver.proofs.serve.Lts as lts
+use Rattle.driver.proofs.hand_in.Reads as hand-in-reads
+use Rattle.driver.proofs.make.Reads as make-reads
+use Rattle.driver.proofs.show.Reads as show-reads
+use Rattle.driver.proofs.take_rest.Reads as take-rest-reads
 
-cast-room : tie.Need-cast-room
-cast-room c = search needs
-
-cast-take-octets : tie.Need-cast-take-octets
-cast-take-octets c = search needs
-
-take-octets-requires : tie.Need-take-octets-requires
-take-octets-requires c κs = search needs
-
-cast-take-numbers : tie.Need-cast-take-numbers
-cast-take-numbers c = search needs
-
-take-numbers-requires : tie.Need-take-numbers-requires
-take-numbers-requires c κs = search needs
-
-lend-requires : tie.Need-lend-requires
-lend-requires c κs = omega (arith, c .before .before .before .before .before .before .before .before .before .before .before .before .before .before .before .before .before .before .before .before .pre .0 .buffer-size, c .before .before .before .before .before .before .before .before .before .before .before .before .before .before .before .before .before .before .before .before .pre .1 .1 .room)
-
-make-requires : tie.Need-make-requires
-make-requires c κs = (omega (arith, c .before .before .before .before .before .before .before .before .before .before .before .before .before .before .before .before .before .before .before .before .before .before .before .before .before .before .before .pre .0 .table-size, c .before .before .before .before .before .before .before .before .before .before .before .before .before .before .before .before .before .before .before .before .before .before .before .before .before .before .before .pre .1 .0), omega (arith, c .before .before .before .before .before .before .before .before .before .before .before .before .before .before .before .before .before .before .before .before .before .before .before .before .before .before .before .pre .0 .octets-size, c .before .before .before .before .before .before .before .before .before .before .before .before .before .before .before .before .before .before .before .before .before .before .before .before .before .before .before .pre .1 .1 .octets, c .before .before .before .before .before .before .before .before .before .before .before .before .before .before .before .before .before .before .take-octets .kept .0), omega (arith, c .before .before .before .before .before .before .before .before .before .before .before .before .before .before .before .before .before .before .before .before .before .before .before .before .before .before .before .pre .0 .numbers-size, c .before .before .before .before .before .before .before .before .before .before .before .before .before .before .before .before .before .before .before .before .before .before .before .before .before .before .before .pre .1 .1 .numbers, c .before .before .before .before .before .before .before .before .before .before .before .before .take-numbers .kept .0), omega (arith, c .before .before .before .before .before .before .before .before .before .before .before .before .before .before .before .before .before .before .before .before .before .before .before .before .before .before .before .pre .0 .buffer-size, c .before .before .before .before .before .before .before .before .before .before .before .before .before .before .before .before .before .before .before .before .before .before .before .before .before .before .before .pre .1 .1 .room, c .before .before .before .before .before .before .lend .kept .0))
-
-show-requires : tie.Need-show-requires
-show-requires c κs = ((omega (arith, c .before .before .before .before .before .before .before .before .before .before .before .before .before .before .before .before .before .before .before .before .before .before .before .before .before .before .before .before .before .before .before .before .before .before .before .pre .0 .buffer-size, c .before .before .before .before .before .before .before .before .before .before .before .before .before .before .before .before .before .before .before .before .before .before .before .before .before .before .before .before .before .before .before .before .before .before .before .pre .1 .1 .room, c .before .before .before .before .before .before .before .before .before .before .before .before .before .before .lend .kept .0, c .before .before .before .before .before .before .before .make .kept .1 .1 .1 .1 .1 .1 .0), omega (arith, c .before .before .before .before .before .before .before .before .before .before .before .before .before .before .before .before .before .before .before .before .before .before .before .before .before .before .before .before .before .before .before .before .before .before .before .pre .1 .1 .room)), (omega (arith, c .before .before .before .before .before .before .before .before .before .before .before .before .before .before .before .before .before .before .before .before .before .before .before .before .before .before .before .before .before .before .before .before .before .before .before .pre .0 .table-size, c .before .before .before .before .before .before .before .before .before .before .before .before .before .before .before .before .before .before .before .before .before .before .before .before .before .before .before .before .before .before .before .before .before .before .before .pre .1 .0, c .before .before .before .before .before .before .before .make .kept .1 .0), c .before .before .before .before .before .before .before .before .before .before .before .before .before .before .before .before .before .before .before .before .before .before .before .before .before .before .before .before .before .before .before .before .before .before .before .pre .1 .0, omega (arith, c .before .before .before .before .before .before .before .before .before .before .before .before .before .before .before .before .before .before .before .before .before .before .before .before .before .before .before .before .before .before .before .before .before .before .before .pre .0 .raw-size, c .before .before .before .before .before .before .before .before .before .before .before .before .before .before .before .before .before .before .before .before .take-numbers .kept .1 .1 .0)))
-
-same-length : tie.Need-same-length
-same-length c = search needs
-
-same-length-2 : tie.Need-same-length-2
-same-length-2 c = c .before .before .before .before .before .before .before .before .before .before .before .before .before .before .before .before .before .before .before .before .before .before .before .before .before .before .before .before .before .before .take-octets .kept .0
-
-same-length-3 : tie.Need-same-length-3
-same-length-3 c = search needs
-
-same-length-4 : tie.Need-same-length-4
-same-length-4 c = search needs
-
-same-length-5 : tie.Need-same-length-5
-same-length-5 c = search needs
+hand-in-requires : tie.Need-hand-in-requires
+hand-in-requires c κs = search needs
 
 returns : tie.Need-returns
-returns c = c .before .before .before .before .before .before .before .before .before .before .before .before .before .before .before .before .before .before .before .before .before .before .before .before .before .before .before .before .before .before .before .before .before .before .before .before .before .before .before .pre .1 .0
+returns c = search needs
+
+slice-aggregate-take-rest : tie.Need-slice-aggregate-take-rest
+slice-aggregate-take-rest c = search needs
+
+slice-aggregate-take-rest-2 : tie.Need-slice-aggregate-take-rest-2
+slice-aggregate-take-rest-2 c = search needs
+
+take-rest-requires : tie.Need-take-rest-requires
+take-rest-requires c κs = search needs
+
+slice-aggregate-make : tie.Need-slice-aggregate-make
+slice-aggregate-make c = search needs
+
+slice-aggregate-make-2 : tie.Need-slice-aggregate-make-2
+slice-aggregate-make-2 c = search needs
+
+make-requires : tie.Need-make-requires
+make-requires c κs = search needs
+
+cast-show : tie.Need-cast-show
+cast-show c = search needs
+
+show-requires : tie.Need-show-requires
+show-requires c κs = ((omega (arith, c .before .before .before .show-arg2 .given .0, c .before .before .before .before .before .before .before .before .before .before .before .before .before .before .before .before .before .before .pre .1 .room), c .before .before .before .before .before .before .before .before .before .before .before .before .before .before .before .before .before .before .pre .1 .room), (omega (arith, c .show-arg4 .given .0, c .before .before .before .before .before .before .before .before .before .before .before .before .before .before .before .before .before .before .pre .0), c .before .before .before .before .before .before .before .before .before .before .before .before .before .before .before .before .before .before .pre .0))
+
+returns-2 : tie.Need-returns-2
+returns-2 c = c .before .before .before .before .before .before .before .before .before .before .before .before .before .before .before .before .before .before .before .before .pre .0
 
 pub serve-spec : {M : Type 1} → statement M
 serve-spec =
     tie.close
     (tie.spec
-    cast-room
-    cast-take-octets
-    take-octets-requires
-    cast-take-numbers
-    take-numbers-requires
-    lend-requires
+    hand-in-requires
+    returns
+    slice-aggregate-take-rest
+    slice-aggregate-take-rest-2
+    take-rest-requires
+    slice-aggregate-make
+    slice-aggregate-make-2
     make-requires
+    cast-show
     show-requires
-    same-length
-    same-length-2
-    same-length-3
-    same-length-4
-    same-length-5
-    returns)
+    returns-2)

@@ -43,7 +43,9 @@ use Rattle.recording.specs.Steps.{standsOn}
 use Rattle.player.specs.declared.Player.{Player}
 use Rattle.player.specs.declared.Told.{Told}
 use Rattle.player.specs.Player.{Step, nextLine, holding, due, settled, having, roomy, reported, badStep, brokenStep, quietStep, withAs, withOwn, withCapability, withNet, settingStep, freshStep, netStep, headStep, callStep, eventStep, lineStep, tickStep, turnStep, usedOf, heldOf, toldOf, closeStep, listedIn, finishStep}
-use Rattle.player.specs.Steps.{carriedTurn, usingOf}
+use Rattle.player.specs.declared.Heard.{Heard}
+use Rattle.player.specs.declared.Heard.the-variants as H
+use Rattle.player.specs.Steps.{heardOf, carriedTurn, usingOf}
 
 -- what is promised of a step: the turn that is answered, and the output buffer after it
 abbrev pub Taken : Step → ℕ → Told → List ℕ → List ℕ → Type 0
@@ -111,23 +113,79 @@ pub capability-bound : (line : List ℕ) (n : ℕ) → capabilityOf line ≡ Is 
 unfolding capabilityOf
 capability-bound line n e = behind-bound 255 n (text "cap=") line e
 
-module _ (room : Bool) (p : Player) (table : List ℕ) (value : Number) where
-  pub setting-bad : (put : Settings → ℕ → Settings) → value ≡ Bad → settingStep room p table value put ≡ brokenStep room p table 19
-  unfolding settingStep whenNumber
-  setting-bad put e = rw e
+-- a line with a good value, or not
+pub no-value : (value : Number) (some : ℕ → Heard) → value ≡ Bad → H.Bad ≡ whenNumber value H.Bad some
+unfolding whenNumber
+no-value value some e = rw e
 
-  pub setting-good : (put : Settings → ℕ → Settings) (n : ℕ) → value ≡ Is n
-      → settingStep room p table value put ≡ quietStep (settled p (put (p .settings) n)) table 0
-  unfolding settingStep whenNumber
-  setting-good put n e = rw e
+pub one-value : (value : Number) (some : ℕ → Heard) (n : ℕ) → value ≡ Is n → some n ≡ whenNumber value H.Bad some
+unfolding whenNumber
+one-value value some n e = rw e
 
-  pub net-bad : value ≡ Bad → netStep room p table value ≡ brokenStep room p table 19
-  unfolding netStep whenNumber
-  net-bad e = rw e
+-- which of the four is read
+module _ (g : Settings) (number : ℕ) (line : List ℕ) where
+  pub heard-1 : number ≡ 1 → whenNumber (ownAsOf line) H.Bad (λ n. H.Part (withAs g n)) ≡ heardOf g number line
+  unfolding heardOf
+  heard-1 e = sym (on-true (eqb number 1) _ _ (eq-eqb number 1 e))
 
-  pub net-good : (n : ℕ) → value ≡ Is n → netStep room p table value ≡ freshStep room p table (withNet (p .settings) n)
-  unfolding netStep whenNumber
-  net-good n e = rw e
+  pub heard-2 : (number ≡ 1 → ⊥) → number ≡ 2 → whenNumber (ownOf line) H.Bad (λ n. H.Part (withOwn g n)) ≡ heardOf g number line
+  unfolding heardOf
+  heard-2 a e = sym (on-false (eqb number 1) _ _ (ne-eqb number 1 a) ∙ on-true (eqb number 2) _ _ (eq-eqb number 2 e))
+
+  pub heard-3 : (number ≡ 1 → ⊥) → (number ≡ 2 → ⊥) → number ≡ 3
+      → whenNumber (capabilityOf line) H.Bad (λ n. H.Part (withCapability g n)) ≡ heardOf g number line
+  unfolding heardOf
+  heard-3 a b e =
+      sym (on-false (eqb number 1) _ _ (ne-eqb number 1 a) ∙ on-false (eqb number 2) _ _ (ne-eqb number 2 b) ∙ on-true (eqb number 3) _ _ (eq-eqb number 3 e))
+
+  pub heard-4 : (number ≡ 1 → ⊥) → (number ≡ 2 → ⊥) → (number ≡ 3 → ⊥)
+      → whenNumber (netOf line) H.Bad (λ n. H.Whole (withNet g n)) ≡ heardOf g number line
+  unfolding heardOf
+  heard-4 a b e =
+      sym (on-false (eqb number 1) _ _ (ne-eqb number 1 a) ∙ on-false (eqb number 2) _ _ (ne-eqb number 2 b) ∙ on-false (eqb number 3) _ _ (ne-eqb number 3 e))
+
+-- the step that such a line asks for
+module _ (room : Bool) (p : Player) (table : List ℕ) where
+  heardStep : Heard → Step
+  heardStep H.Bad = brokenStep room p table 19
+  heardStep (H.Part g) = quietStep (settled p g) table 0
+  heardStep (H.Whole g) = freshStep room p table g
+
+  by-number : (one two three : Bool) (asn own capability net : Number)
+      → cond one (settingStep room p table asn withAs)
+      (cond two (settingStep room p table own withOwn) (cond three (settingStep room p table capability withCapability) (netStep room p table net)))
+      ≡ heardStep
+      (cond one (whenNumber asn H.Bad (λ n. H.Part (withAs (p .settings) n)))
+      (cond two (whenNumber own H.Bad (λ n. H.Part (withOwn (p .settings) n)))
+      (cond three (whenNumber capability H.Bad (λ n. H.Part (withCapability (p .settings) n)))
+      (whenNumber net H.Bad (λ n. H.Whole (withNet (p .settings) n))))))
+  unfolding settingStep netStep whenNumber heardStep
+  by-number true two three Bad own capability net = refl
+  by-number true two three (Is n) own capability net = refl
+  by-number false true three asn Bad capability net = refl
+  by-number false true three asn (Is n) capability net = refl
+  by-number false false true asn own Bad net = refl
+  by-number false false true asn own (Is n) net = refl
+  by-number false false false asn own capability Bad = refl
+  by-number false false false asn own capability (Is n) = refl
+
+  module _ (line : List ℕ) (h : Heard) (e : h ≡ heardOf (p .settings) (p .lines) line) where
+    heard-step : headStep room p table line ≡ heardStep h
+    unfolding headStep heardOf
+    heard-step =
+        by-number (eqb (p .lines) 1) (eqb (p .lines) 2) (eqb (p .lines) 3) (ownAsOf line) (ownOf line) (capabilityOf line) (netOf line) ∙ ap heardStep (sym e)
+
+    pub heard-bad : h ≡ H.Bad → headStep room p table line ≡ brokenStep room p table 19
+    unfolding heardStep
+    heard-bad k = heard-step ∙ ap heardStep k
+
+    pub heard-part : (g : Settings) → h ≡ H.Part g → headStep room p table line ≡ quietStep (settled p g) table 0
+    unfolding heardStep
+    heard-part g k = heard-step ∙ ap heardStep k
+
+    pub heard-whole : (g : Settings) → h ≡ H.Whole g → headStep room p table line ≡ freshStep room p table g
+    unfolding heardStep
+    heard-whole g k = heard-step ∙ ap heardStep k
 
 module _ (room : Bool) (p : Player) (table : List ℕ) (g : Settings) (o : Outcome) (e : o ≡ freshOf (g .asn) (g .own) (g .capability) (g .net)) where
   pub fresh-refused : (o .answer ≡ 0 → ⊥) → freshStep room p table g ≡ brokenStep room p table (o .answer)
@@ -161,29 +219,6 @@ module _ (room : Bool) (p : Player) (table : List ℕ) where
       (λ e. cond-elim (λ (s : Step). s .table ≡ table) (eqb (p .lines) 2) _ _ (λ e. setting-table (ownOf line) withOwn)
       (λ e. cond-elim (λ (s : Step). s .table ≡ table) (eqb (p .lines) 3) _ _ (λ e. setting-table (capabilityOf line) withCapability)
       (λ e. net-table (netOf line))))
-
--- which of the four is read
-module _ (room : Bool) (p : Player) (table line : List ℕ) where
-  pub head-1 : p .lines ≡ 1 → headStep room p table line ≡ settingStep room p table (ownAsOf line) withAs
-  unfolding headStep
-  head-1 e = on-true (eqb (p .lines) 1) _ _ (eq-eqb (p .lines) 1 e)
-
-  pub head-2 : (p .lines ≡ 1 → ⊥) → p .lines ≡ 2 → headStep room p table line ≡ settingStep room p table (ownOf line) withOwn
-  unfolding headStep
-  head-2 a e = on-false (eqb (p .lines) 1) _ _ (ne-eqb (p .lines) 1 a) ∙ on-true (eqb (p .lines) 2) _ _ (eq-eqb (p .lines) 2 e)
-
-  pub head-3 : (p .lines ≡ 1 → ⊥) → (p .lines ≡ 2 → ⊥) → p .lines ≡ 3
-      → headStep room p table line ≡ settingStep room p table (capabilityOf line) withCapability
-  unfolding headStep
-  head-3 a b e =
-      on-false (eqb (p .lines) 1) _ _ (ne-eqb (p .lines) 1 a) ∙ on-false (eqb (p .lines) 2) _ _ (ne-eqb (p .lines) 2 b)
-      ∙ on-true (eqb (p .lines) 3) _ _ (eq-eqb (p .lines) 3 e)
-
-  pub head-4 : (p .lines ≡ 1 → ⊥) → (p .lines ≡ 2 → ⊥) → (p .lines ≡ 3 → ⊥) → headStep room p table line ≡ netStep room p table (netOf line)
-  unfolding headStep
-  head-4 a b e =
-      on-false (eqb (p .lines) 1) _ _ (ne-eqb (p .lines) 1 a) ∙ on-false (eqb (p .lines) 2) _ _ (ne-eqb (p .lines) 2 b)
-      ∙ on-false (eqb (p .lines) 3) _ _ (ne-eqb (p .lines) 3 e)
 
 -- ---- events without room
 

@@ -1,9 +1,25 @@
 -- What the inner functions of the player promise of a turn.
 use Prim.Native.Nat.{ℕ}
+use mathlib.Core.Bool.{cond}
+use mathlib.Core.List.{List}
+use lib.Dec.{eqb}
+use Rattle.neighbour.specs.declared.Settings.{Settings}
+use Rattle.values.specs.Numbers.{whenNumber}
+use Rattle.recording.specs.Lines.{ownAsOf, ownOf, capabilityOf, netOf}
 use Rattle.calling.specs.declared.Called.{Called}
 use Rattle.player.specs.declared.Player.{Player}
 use Rattle.player.specs.declared.Told.{Told}
-use Rattle.player.specs.Player.{having}
+use Rattle.player.specs.declared.Heard.{Heard}
+use Rattle.player.specs.declared.Heard.the-variants as H
+use Rattle.player.specs.Player.{having, withAs, withOwn, withCapability, withNet}
+
+-- the settings with that of the line of this number
+unfoldable pub heardOf : Settings → ℕ → List ℕ → Heard
+heardOf g number line =
+    cond (eqb number 1) (whenNumber (ownAsOf line) H.Bad (λ n. H.Part (withAs g n)))
+    (cond (eqb number 2) (whenNumber (ownOf line) H.Bad (λ n. H.Part (withOwn g n)))
+    (cond (eqb number 3) (whenNumber (capabilityOf line) H.Bad (λ n. H.Part (withCapability g n)))
+    (whenNumber (netOf line) H.Bad (λ n. H.Whole (withNet g n)))))
 
 -- after a call
 unfoldable pub carriedTurn : Player → Called → Told

@@ -10,11 +10,10 @@ ghost use mathlib.Core.List.{List};
 ghost use Prim.Native.Nat.{ℕ, _≤_, _<_};
 ghost use lib.ListN.{length};
 ghost use Rattle.octets.specs.Buffer.{over};
-ghost use Rattle.recording.specs.Lines.{ownAsOf, ownOf, capabilityOf, netOf};
 ghost use Rattle.recording.specs.Meant.{meant};
 ghost use Rattle.recording.specs.Steps.{standsOn};
-ghost use Rattle.player.specs.Player.{beginning, nextLine, holding, breaking, due, settled, having, roomy, reported, badStep, brokenStep, quietStep, withAs, withOwn, withCapability, settingStep, freshStep, netStep, headStep, eventStep, lineStep, tickStep, turnStep, usedOf, heldOf, toldOf, closeStep, finishStep};
-ghost use Rattle.player.specs.Steps.{carriedTurn, usingOf};
+ghost use Rattle.player.specs.Player.{beginning, nextLine, holding, breaking, due, settled, having, roomy, reported, badStep, brokenStep, quietStep, freshStep, headStep, eventStep, lineStep, tickStep, turnStep, usedOf, heldOf, toldOf, closeStep, finishStep};
+ghost use Rattle.player.specs.Steps.{heardOf, carriedTurn, usingOf};
 
 // The least output buffer, as for a listing.
 pub const ROOM: usize = 65536;
@@ -151,43 +150,46 @@ fn give_up(p: Player, answer: u8, out: &mut [u8]) -> Told
     }
 }
 
-// The first line: our own AS.
-fn take_own_as(p: Player, line: &[u8], out: &mut [u8]) -> Told
-    ensures { λ r. ⌜ ((table : List ℕ) → r ≡ toldOf (settingStep (roomy (now (out .entry))) p table (ownAsOf (now (line .entry))) withAs) 0) ⌝ }
-    ensures { λ _. ⌜ ((table : List ℕ) → now (out .exit) ≡ over ((settingStep (roomy (now (out .entry))) p table (ownAsOf (now (line .entry))) withAs) .text) (now (out .entry))) ⌝ }
-{
-    let Number::Is(n) = recording::own_as(line) else {
-        return give_up(p, 19, out);
-    };
-    let mut settings = p.settings;
-    settings.asn = n as u16;
-    quiet(settle(p, settings), 0)
+// What one of the first four lines leaves of the settings.
+enum Heard {
+    Bad,
+    // One of the first three: more are to come.
+    Part(Settings),
+    // The fourth.
+    Whole(Settings),
 }
 
-// The second: our own address.
-fn take_own(p: Player, line: &[u8], out: &mut [u8]) -> Told
-    ensures { λ r. ⌜ ((table : List ℕ) → r ≡ toldOf (settingStep (roomy (now (out .entry))) p table (ownOf (now (line .entry))) withOwn) 0) ⌝ }
-    ensures { λ _. ⌜ ((table : List ℕ) → now (out .exit) ≡ over ((settingStep (roomy (now (out .entry))) p table (ownOf (now (line .entry))) withOwn) .text) (now (out .entry))) ⌝ }
+// The line of this number: our own AS, our own address, the capability, the common net.
+fn read_setting(settings: Settings, number: u64, line: &[u8]) -> Heard
+    ensures { λ r. ⌜ r ≡ heardOf settings number (now (line .entry)) ⌝ }
 {
-    let Number::Is(n) = recording::own(line) else {
-        return give_up(p, 19, out);
+    let mut next = settings;
+    if number == 1 {
+        let Number::Is(n) = recording::own_as(line) else {
+            return Heard::Bad;
+        };
+        next.asn = n as u16;
+        return Heard::Part(next);
+    }
+    if number == 2 {
+        let Number::Is(n) = recording::own(line) else {
+            return Heard::Bad;
+        };
+        next.own = n;
+        return Heard::Part(next);
+    }
+    if number == 3 {
+        let Number::Is(n) = recording::capability(line) else {
+            return Heard::Bad;
+        };
+        next.capability = n as u8;
+        return Heard::Part(next);
+    }
+    let Number::Is(n) = recording::net(line) else {
+        return Heard::Bad;
     };
-    let mut settings = p.settings;
-    settings.own = n;
-    quiet(settle(p, settings), 0)
-}
-
-// The third: the capability.
-fn take_capability(p: Player, line: &[u8], out: &mut [u8]) -> Told
-    ensures { λ r. ⌜ ((table : List ℕ) → r ≡ toldOf (settingStep (roomy (now (out .entry))) p table (capabilityOf (now (line .entry))) withCapability) 0) ⌝ }
-    ensures { λ _. ⌜ ((table : List ℕ) → now (out .exit) ≡ over ((settingStep (roomy (now (out .entry))) p table (capabilityOf (now (line .entry))) withCapability) .text) (now (out .entry))) ⌝ }
-{
-    let Number::Is(n) = recording::capability(line) else {
-        return give_up(p, 19, out);
-    };
-    let mut settings = p.settings;
-    settings.capability = n as u8;
-    quiet(settle(p, settings), 0)
+    next.net = n;
+    Heard::Whole(next)
 }
 
 // All four are read: a fresh state.
@@ -208,34 +210,18 @@ fn begin_state(p: Player, settings: Settings, out: &mut [u8]) -> Told
     quiet(have(settle(p, settings), st), 0)
 }
 
-// The fourth: the common net.
-fn take_net(p: Player, line: &[u8], out: &mut [u8]) -> Told
-    ensures { λ r. ⌜ ((table : List ℕ) → r ≡ toldOf (netStep (roomy (now (out .entry))) p table (netOf (now (line .entry)))) 0) ⌝ }
-    ensures { λ _. ⌜ ((table : List ℕ) → now (out .exit) ≡ over ((netStep (roomy (now (out .entry))) p table (netOf (now (line .entry)))) .text) (now (out .entry))) ⌝ }
-{
-    let Number::Is(n) = recording::net(line) else {
-        return give_up(p, 19, out);
-    };
-    let mut settings = p.settings;
-    settings.net = n;
-    begin_state(p, settings, out)
-}
-
 // One of the first four lines, already counted.
 fn take_setting(p: Player, line: &[u8], out: &mut [u8]) -> Told
     ensures { λ r. ⌜ ((table : List ℕ) → r ≡ toldOf (headStep (roomy (now (out .entry))) p table (now (line .entry))) 0) ⌝ }
     ensures { λ _. ⌜ ((table : List ℕ) → now (out .exit) ≡ over ((headStep (roomy (now (out .entry))) p table (now (line .entry))) .text) (now (out .entry))) ⌝ }
 {
-    if p.lines == 1 {
-        return take_own_as(p, line, out);
+    let settings = p.settings;
+    let heard = read_setting(settings, p.lines, line);
+    match heard {
+        Heard::Bad => give_up(p, 19, out),
+        Heard::Part(next) => quiet(settle(p, next), 0),
+        Heard::Whole(next) => begin_state(p, next, out),
     }
-    if p.lines == 2 {
-        return take_own(p, line, out);
-    }
-    if p.lines == 3 {
-        return take_capability(p, line, out);
-    }
-    take_net(p, line, out)
 }
 
 // What a call leaves.

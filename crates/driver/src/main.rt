@@ -186,7 +186,7 @@ fn is_within(head: Head) -> bool
 
 // The next record's head. Where the input ends, one that asks for more than the driver keeps.
 fn next_head() -> Head {
-    let mut first = [255u8; 32];
+    let mut first = [0u8; 32];
     if io::read_full(0, &mut first) < 32 {
         return record::read_head(&[255u8; 32]);
     }

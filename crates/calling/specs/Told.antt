@@ -1,28 +1,17 @@
--- What is shown of a call. 02: "each reply message as a `tx` line (address, slash, hex)".
+-- What is shown of a call: its replies, as lines.
 use Prim.Native.Nat.{ℕ}
-use mathlib.Core.List.{List, [], _∷_, _++_}
-use lib.ListN.{take, drop, length}
+use mathlib.Core.List.{List}
+use lib.ListN.{length}
 use Rattle.rows.specs.Storing.{zeros}
-use Rattle.text.specs.Text.{text, dotted, line}
-use Rattle.values.specs.Hex.{hexText}
 use Rattle.state.specs.declared.State.{State}
 use Rattle.calling.specs.declared.Called.{Called}
 use Rattle.model.specs.Model.{Call, add, remove, start, stop, tick, receive, listing}
-use Rattle.model.specs.Theorem.{Gateway, Seen, outcomeOf, seenOf}
+use Rattle.model.specs.Theorem.{Gateway, outcomeOf, seenOf}
+unfoldable pub use Rattle.reply_lines.specs.Replies.{txText, repliesText}
 
 -- 01: "Reply buffer at least 2,048 octets": each call is lent one, all zero
 unfoldable pub lent : List ℕ
 lent = zeros 2048
-
--- a message that was sent; where nothing was, no line
-unfoldable pub txText : ℕ → List ℕ → List ℕ
-txText a [] = []
-txText a (octet ∷ rest) = line (text "tx=") (dotted a ++ (text "/" ++ hexText (octet ∷ rest)))
-
--- 01: "A reply is at most two messages, the second written straight after the first": in order
-unfoldable pub repliesText : ℕ → Seen → List ℕ
-repliesText a seen =
-    txText a (take (seen .first) (seen .buffer)) ++ txText a (take (seen .second) (drop (seen .first) (seen .buffer)))
 
 -- the address of the neighbour that a call is about
 unfoldable pub addressOf : Call → ℕ

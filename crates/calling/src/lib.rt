@@ -4,48 +4,20 @@ use state::State;
 ghost use mathlib.Core.Path.{_≡_};
 ghost use mathlib.Core.Bool.{true};
 ghost use mathlib.Core.List.{List, []};
-ghost use Prim.Native.Nat.{ℕ, _+_, _≤_};
+ghost use Prim.Native.Nat.{ℕ, _≤_};
 ghost use lib.ListN.{length};
 ghost use Rattle.octets.specs.Buffer.{over};
-ghost use Rattle.storing.specs.Written.{Written};
 ghost use Rattle.values.specs.Hex.{isHex, hexOctets};
 ghost use Rattle.model.specs.Model.{add, remove, start, stop, tick, receive};
 ghost use Rattle.model.specs.Theorem.{tableAfter};
-ghost use Rattle.calling.specs.Told.{lent, txText, repliesText, callText, calledOf, on};
-ghost use Rattle.calling.specs.Steps.{seenIn, toldOf};
+ghost use Rattle.calling.specs.Told.{lent, callText, calledOf, on};
+ghost use Rattle.calling.specs.Steps.{toldOf};
 
 // What a call leaves: the state, its number, and how many octets of lines were written.
 pub struct Called {
     pub state: State,
     pub answer: u8,
     pub written: usize,
-}
-
-// Writes a message that was sent as a line; nothing where none was.
-fn put_tx(out: &mut [u8], at: usize, address: u32, message: &[u8]) -> usize
-    requires { ⌜ at + length (txText address (now message)) ≤ length (now out) ⌝ }
-    ensures { λ r. ⌜ Written (txText address (now (message .entry))) at (now (out .entry)) (now (out .exit)) r ⌝ }
-{
-    if message.len() == 0 {
-        return at;
-    }
-    let name = storing::put(out, at, b"tx=");
-    let slash = text::put_dotted(out, name, address);
-    let digits = storing::put(out, slash, b"/");
-    let end = values::put_hex(out, digits, message);
-    storing::put(out, end, b"\n")
-}
-
-// Writes the two messages of a reply at the front of out, and says how long the lines are.
-fn put_replies(out: &mut [u8], o: Outcome, reply: &[u8], address: u32) -> usize
-    requires { ⌜ (o .first + o .second ≤ 2048) × (length (now reply) ≡ 2048) × (5000 ≤ length (now out)) ⌝ }
-    ensures { λ r. ⌜ r ≡ length (repliesText address (seenIn o (now (reply .entry)))) ⌝ }
-    ensures { λ _. ⌜ now (out .exit) ≡ over (repliesText address (seenIn o (now (reply .entry)))) (now (out .entry)) ⌝ }
-{
-    let first = o.first as usize;
-    let end = first + o.second as usize;
-    let next = put_tx(out, 0, address, &reply[..first]);
-    put_tx(out, next, address, &reply[first..end])
 }
 
 // What is left of an outcome once its replies are written.
@@ -80,7 +52,7 @@ pub fn start_neighbour(st: State, table: &mut [u32], out: &mut [u8], address: u3
 {
     let mut reply = [0u8; 2048];
     let o = gateway::start(st, table, &mut reply, address);
-    let written = put_replies(out, o, &reply, address);
+    let written = reply_lines::put_replies(out, o, &reply, address);
     told(o, written)
 }
 
@@ -92,7 +64,7 @@ pub fn stop_neighbour(st: State, table: &mut [u32], out: &mut [u8], address: u32
 {
     let mut reply = [0u8; 2048];
     let o = gateway::stop(st, table, &mut reply, address);
-    let written = put_replies(out, o, &reply, address);
+    let written = reply_lines::put_replies(out, o, &reply, address);
     told(o, written)
 }
 
@@ -104,7 +76,7 @@ pub fn tick_neighbour(st: State, table: &mut [u32], out: &mut [u8], address: u32
 {
     let mut reply = [0u8; 2048];
     let o = gateway::tick(st, table, &mut reply, address);
-    let written = put_replies(out, o, &reply, address);
+    let written = reply_lines::put_replies(out, o, &reply, address);
     told(o, written)
 }
 
@@ -126,6 +98,6 @@ pub fn hear_neighbour(
     let mut reply = [0u8; 2048];
     let home = [0u32; 0];
     let o = gateway::receive(st, table, &mut reply, &home, address, &octets[..size]);
-    let written = put_replies(out, o, &reply, address);
+    let written = reply_lines::put_replies(out, o, &reply, address);
     told(o, written)
 }

@@ -25,7 +25,7 @@ use Rattle.calls.specs.Verdict.{effectOf, stepped, receiveVerdict}
 use Rattle.calls.specs.Carried.{outcomeAfter, tableAfter, bufferAfter}
 use Rattle.calls.specs.Calls.{eventChecks, messageChecks, noHead, eventVerdict, messageVerdict, eventOutcome, eventTable, eventBuffer, messageOutcome, messageTable, messageBuffer}
 use Rattle.home.proofs.Laws.{home-writable, none-writable}
-use Rattle.gateway.specs.Asked.{sendable, takes}
+use Rattle.carry.specs.Asked.{sendable, takes}
 use Rattle.gateway.proofs.Replies.{stepped-fine, receive-fine}
 use Rattle.gateway.proofs.Checks.{Passed, event-passed, message-passed}
 

@@ -40,8 +40,8 @@ use Rattle.machine.specs.declared.After.{After}
 use Rattle.machine.specs.Table.{followed, quiet, answers, says, helloIf, doesA, doesB, ceases, repeatsCease, acquires, stray, onRequest, settles, onConfirm, onRefuse, onCease, onCeaseAck, onHello, onIHeardYou, answersPoll, onPoll, onUpdate, onStart, onStop}
 use Rattle.machine.specs.Tick.{expired, repeats, listens, polls, pollsOnEntry, takesT2, pollsInUp, runs, onTick}
 use Rattle.machine.specs.Step.{onMessage, stepOf}
-use Rattle.gateway.specs.Asked.{brief, sendable, isAccepted, takes}
-use Rattle.gateway.proofs.Sending.{brief-fits}
+use Rattle.carry.specs.Asked.{brief, sendable, isAccepted, takes}
+use Rattle.carry.proofs.Sending.{brief-fits}
 
 module _ {A : Type 0} where
   under-holds : (P : A → Type 0) (phase : Phase) (a b c d e : A) → P a → P b → P c → P d → P e → P (under phase a b c d e)

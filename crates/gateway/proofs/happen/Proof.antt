@@ -7,7 +7,7 @@ use Rattle.gateway.proofs.happen.Statement.{statement}
 use Rattle.gateway.proofs.happen.Tie as tie
 use Rattle.gateway.proofs.happen.Reads as reads
 use Rattle.gateway.proofs.happen.Lts as lts
-use Rattle.gateway.proofs.apply.Reads as apply-reads
+use Rattle.carry.proofs.apply.Reads as apply-reads
 use Rattle.gateway.proofs.event_answer.Reads as event-answer-reads
 use Rattle.machine_step.proofs.step.Reads as step-reads
 use Rattle.state.proofs.refused.Reads as refused-reads

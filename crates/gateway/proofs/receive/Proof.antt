@@ -6,7 +6,7 @@ use Rattle.gateway.proofs.receive.Statement.{statement}
 use Rattle.gateway.proofs.receive.Tie as tie
 use Rattle.gateway.proofs.receive.Reads as reads
 use Rattle.gateway.proofs.receive.Lts as lts
-use Rattle.gateway.proofs.apply.Reads as apply-reads
+use Rattle.carry.proofs.apply.Reads as apply-reads
 use Rattle.gateway.proofs.message_answer.Reads as message-answer-reads
 use Rattle.state.proofs.refused.Reads as refused-reads
 use Rattle.state.proofs.slot_at.Reads as slot-at-reads

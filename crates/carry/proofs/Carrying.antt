@@ -9,8 +9,8 @@ use Rattle.state.specs.declared.Outcome.{Outcome}
 use Rattle.state.specs.Slots.{slotAt, withSlot}
 use Rattle.calls.specs.declared.Verdict.{Verdict}
 use Rattle.calls.specs.Carried.{slotAfter, outcomeAfter}
-use Rattle.gateway.specs.declared.Lengths.{Lengths}
-use Rattle.gateway.specs.Asked.{lengthsOf}
+use Rattle.carry.specs.declared.Lengths.{Lengths}
+use Rattle.carry.specs.Asked.{lengthsOf}
 
 pub carried : (st : State) (i : ℕ) (v : Verdict) (home : List Row) (lengths : Lengths) (slot next : Slot) (after : State)
     → lengths ≡ lengthsOf (v .reply) home → slot ≡ slotAt st i → next ≡ slotAfter slot v → after ≡ withSlot st i next

@@ -1,13 +1,13 @@
--- `gateway::apply` meets its contract. Assumes nothing.
-use Rattle.gateway.proofs.Carrying.{carried}
+-- `carry::apply` meets its contract. Assumes nothing.
+use Rattle.carry.proofs.Carrying.{carried}
 use borrow.Author.Needs.{needs}
-use Rattle.gateway.proofs.apply.Statement.{statement}
-use Rattle.gateway.proofs.apply.Tie as tie
-use Rattle.gateway.proofs.apply.Reads as reads
-use Rattle.gateway.proofs.apply.Lts as lts
-use Rattle.gateway.proofs.change_rows.Reads as change-rows-reads
-use Rattle.gateway.proofs.send.Reads as send-reads
-use Rattle.gateway.proofs.slot_after.Reads as slot-after-reads
+use Rattle.carry.proofs.apply.Statement.{statement}
+use Rattle.carry.proofs.apply.Tie as tie
+use Rattle.carry.proofs.apply.Reads as reads
+use Rattle.carry.proofs.apply.Lts as lts
+use Rattle.carry.proofs.change_rows.Reads as change-rows-reads
+use Rattle.carry.proofs.send.Reads as send-reads
+use Rattle.carry.proofs.slot_after.Reads as slot-after-reads
 use Rattle.state.proofs.slot_at.Reads as slot-at-reads
 use Rattle.state.proofs.with_slot.Reads as with-slot-reads
 

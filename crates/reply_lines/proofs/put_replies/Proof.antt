@@ -1,9 +1,9 @@
--- `calling::put_replies` meets its contract: the first message's line, then the second's. Assumes nothing.
-use Rattle.calling.proofs.Laws.{first-length, first-room, second-room, both-done}
+-- `reply_lines::put_replies` meets its contract: the first message's line, then the second's. Assumes nothing.
+use Rattle.reply_lines.proofs.Laws.{first-length, first-room, second-room, both-done}
 use mathlib.Core.Path.{sym}
 use borrow.Author.Needs.{needs}
-use Rattle.calling.proofs.put_replies.Statement.{statement}
-use Rattle.calling.proofs.put_replies.Tie as tie
+use Rattle.reply_lines.proofs.put_replies.Statement.{statement}
+use Rattle.reply_lines.proofs.put_replies.Tie as tie
 
 cast-first : tie.Need-cast-first
 cast-first c = search needs

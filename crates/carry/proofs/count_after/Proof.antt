@@ -1,10 +1,10 @@
--- `gateway::count_after` meets its contract. Assumes nothing.
+-- `carry::count_after` meets its contract. Assumes nothing.
 use Rattle.calls.specs.Carried.{countAfter}
 use borrow.Author.Needs.{needs}
-use Rattle.gateway.proofs.count_after.Statement.{statement}
-use Rattle.gateway.proofs.count_after.Tie as tie
-use Rattle.gateway.proofs.count_after.Reads as reads
-use Rattle.gateway.proofs.count_after.Lts as lts
+use Rattle.carry.proofs.count_after.Statement.{statement}
+use Rattle.carry.proofs.count_after.Tie as tie
+use Rattle.carry.proofs.count_after.Reads as reads
+use Rattle.carry.proofs.count_after.Lts as lts
 
 -- src/lib.rt:74:25
 enum-told : tie.Need-enum-told

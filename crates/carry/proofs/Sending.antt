@@ -20,8 +20,8 @@ use Rattle.codec.proofs.Laws.{octets-fit, room-most}
 use Rattle.machine.specs.declared.Reply.{Reply}
 use Rattle.machine.specs.declared.Reply.the-variants.{Nothing, One, Two}
 use Rattle.calls.specs.Carried.{firstOctets, secondOctets, replyOctets, bufferAfter}
-use Rattle.gateway.specs.declared.Lengths.{Lengths}
-use Rattle.gateway.specs.Asked.{brief, sendable, lengthsOf}
+use Rattle.carry.specs.declared.Lengths.{Lengths}
+use Rattle.carry.specs.Asked.{brief, sendable, lengthsOf}
 
 -- ---- octets laid over a buffer, and others straight after them
 

@@ -1,11 +1,11 @@
--- `gateway::slot_after` meets its contract. Assumes nothing.
+-- `carry::slot_after` meets its contract. Assumes nothing.
 use Rattle.calls.specs.Carried.{slotAfter}
 use borrow.Author.Needs.{needs}
-use Rattle.gateway.proofs.slot_after.Statement.{statement}
-use Rattle.gateway.proofs.slot_after.Tie as tie
-use Rattle.gateway.proofs.slot_after.Reads as reads
-use Rattle.gateway.proofs.slot_after.Lts as lts
-use Rattle.gateway.proofs.count_after.Reads as count-after-reads
+use Rattle.carry.proofs.slot_after.Statement.{statement}
+use Rattle.carry.proofs.slot_after.Tie as tie
+use Rattle.carry.proofs.slot_after.Reads as reads
+use Rattle.carry.proofs.slot_after.Lts as lts
+use Rattle.carry.proofs.count_after.Reads as count-after-reads
 
 -- src/lib.rt:89:15
 count-after-requires : tie.Need-count-after-requires

@@ -1,10 +1,10 @@
--- `gateway::change_rows` meets its contract, effect by effect. Assumes nothing.
-use Rattle.gateway.proofs.Rows.{change-keep, change-clear, change-asked, change-replace}
+-- `carry::change_rows` meets its contract, effect by effect. Assumes nothing.
+use Rattle.carry.proofs.Rows.{change-keep, change-clear, change-asked, change-replace}
 use borrow.Author.Needs.{needs}
-use Rattle.gateway.proofs.change_rows.Statement.{statement}
-use Rattle.gateway.proofs.change_rows.Tie as tie
-use Rattle.gateway.proofs.change_rows.Reads as reads
-use Rattle.gateway.proofs.change_rows.Lts as lts
+use Rattle.carry.proofs.change_rows.Statement.{statement}
+use Rattle.carry.proofs.change_rows.Tie as tie
+use Rattle.carry.proofs.change_rows.Reads as reads
+use Rattle.carry.proofs.change_rows.Lts as lts
 use Rattle.rows.proofs.clear.Reads as clear-reads
 use Rattle.rows.proofs.store_rows.Reads as store-rows-reads
 

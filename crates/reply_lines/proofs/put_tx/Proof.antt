@@ -1,8 +1,8 @@
--- `calling::put_tx` meets its contract: nothing, or name, address, slash, octets, end of line. Assumes nothing.
-use Rattle.calling.proofs.Laws.{nothing-done, name-room, address-room, slash-room, octets-room, end-room, tx-done}
+-- `reply_lines::put_tx` meets its contract: nothing, or name, address, slash, octets, end of line. Assumes nothing.
+use Rattle.reply_lines.proofs.Laws.{nothing-done, name-room, address-room, slash-room, octets-room, end-room, tx-done}
 use borrow.Author.Needs.{needs}
-use Rattle.calling.proofs.put_tx.Statement.{statement}
-use Rattle.calling.proofs.put_tx.Tie as tie
+use Rattle.reply_lines.proofs.put_tx.Statement.{statement}
+use Rattle.reply_lines.proofs.put_tx.Tie as tie
 
 returns : tie.Need-returns
 returns c = nothing-done (c .before .before .before .args .address) (c .before .before .before .args .message .now) (c .if1 .taken) (c .before .before .before .args .at) (c .before .before .before .args .out .now)

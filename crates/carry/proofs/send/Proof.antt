@@ -1,11 +1,11 @@
--- `gateway::send` meets its contract, reply by reply. Assumes nothing.
-use Rattle.gateway.proofs.Sending.{send-nothing, one-asked, one-short, send-one, first-asked, first-short, first-within, second-asked, second-short, send-two}
+-- `carry::send` meets its contract, reply by reply. Assumes nothing.
+use Rattle.carry.proofs.Sending.{send-nothing, one-asked, one-short, send-one, first-asked, first-short, first-within, second-asked, second-short, send-two}
 use native.Mathlib.Omega.{arith}
 use borrow.Author.Needs.{needs}
-use Rattle.gateway.proofs.send.Statement.{statement}
-use Rattle.gateway.proofs.send.Tie as tie
-use Rattle.gateway.proofs.send.Reads as reads
-use Rattle.gateway.proofs.send.Lts as lts
+use Rattle.carry.proofs.send.Statement.{statement}
+use Rattle.carry.proofs.send.Tie as tie
+use Rattle.carry.proofs.send.Reads as reads
+use Rattle.carry.proofs.send.Lts as lts
 use Rattle.codec.proofs.write_message.Reads as write-message-reads
 
 -- src/lib.rt:32:27

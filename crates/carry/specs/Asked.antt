@@ -13,7 +13,7 @@ use Rattle.machine.specs.declared.Reply.the-variants.{Nothing, One, Two}
 use Rattle.calls.specs.declared.Effect.{Effect}
 use Rattle.calls.specs.declared.Effect.the-variants.{Keep, Clear, Replace}
 use Rattle.calls.specs.Carried.{firstOctets, secondOctets}
-use Rattle.gateway.specs.declared.Lengths.{Lengths}
+use Rattle.carry.specs.declared.Lengths.{Lengths}
 
 -- a message of fixed length: any but an Update
 unfoldable pub brief : Message → Bool

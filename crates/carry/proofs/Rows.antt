@@ -16,7 +16,7 @@ use Rattle.codec.specs.Reading.{most}
 use Rattle.calls.specs.declared.Effect.{Effect}
 use Rattle.calls.specs.declared.Effect.the-variants.{Keep, Clear, Replace}
 use Rattle.calls.specs.Carried.{withPart, tableAfter}
-use Rattle.gateway.specs.Asked.{isAccepted, takes}
+use Rattle.carry.specs.Asked.{isAccepted, takes}
 
 accepted-rows : (u : UpdateRead) → isAccepted u ≡ true → u ≡ accepted (rowsRead u)
 unfolding isAccepted rowsRead

@@ -78,13 +78,13 @@ atActive st = record { settings = set 9 ours 1 (ip 128 9 0 0); slots = st .slots
 
 unfoldable pub effects : List Call
 effects =
-    -- Update in Up: "its rows replace the slot's", "the rest zero", "the count is their number"
+    -- left by an Update in Up: "its rows replace the slot's", "the rest zero", "the count is their number"
     hears "02 01 00 01 73 07 00 07 00 03 01 01 80 09 00 00 00 05 01 03 01 0A 00 06 01 04 01 C0 05 06" (at reporting 3) 0 ""
     (at (made Up 3 5 32 122 Active 20 60 3600 7 1 0) 2)
     ((ip 10 0 0 0 ∷ ip 128 9 0 5 ∷ 3 ∷ ip 192 5 6 0 ∷ ip 128 9 0 6 ∷ 260 ∷ []) ++ replicate 378 0) ∷
-    -- Update without rows in Up
+    -- left by an Update without rows in Up
     hears "02 01 00 01 7D EA 00 07 00 03 00 00 80 09 00 00" (at reporting 3) 0 "" (at (made Up 3 5 32 122 Active 20 60 3600 7 1 0) 0) zeroed ∷
-    -- "Leaving Up zeroes t2 and the neighbour's rows and count": Stop, Start, Cease, Request acceptable and unacceptable, t3, going Down by a tick
+    -- left on leaving Up: "zeroes t2 and the neighbour's rows and count": Stop, Start, Cease, Request acceptable and unacceptable, t3, going Down by a tick
     event Stop (at reporting 3) 10 0 (hex "02 03 03 05 FA EB 00 09 00 03") (at (made Cease 3 5 0 0 Unset 30 0 120 0 0 5) 0) zeroed ∷
     event Start (at reporting 3) 14 0 (hex "02 03 00 00 FD 5A 00 09 00 03 00 1E 00 78") (at (made Acquisition 3 5 0 0 Unset 30 0 120 0 0 0) 0) zeroed ∷
     hears "02 03 03 00 FA EC 00 07 00 09" (at reporting 3) 10 "02 03 04 00 F9 EA 00 09 00 09" (at resting 0) zeroed ∷
@@ -96,23 +96,23 @@ effects =
     (at (made Cease 3 5 0 0 Unset 30 0 120 0 0 5) 0) zeroed ∷
     event Tick (at (made Up 3 5 32 122 Active 1 60 100 1 0 0) 3) 10 0 (hex "02 05 00 02 FD EC 00 09 00 03")
     (at (made Down 3 5 32 122 Active 32 0 99 2 0 0) 0) zeroed ∷
-    -- no other call writes the table: Hello in Up, a tick in Up, Update in Down, Stop in Down
+    -- left as it was, for no other call writes the table: Hello in Up, a tick in Up, Update in Down, Stop in Down
     hears "02 05 00 01 FD E9 00 07 00 09" (at reporting 3) 10 "02 05 01 01 FC E7 00 09 00 09" (at (made Up 3 9 32 122 Active 20 60 100 7 0 0) 3) kept ∷
     event Tick (at reporting 3) 0 0 [] (at (made Up 3 5 32 122 Active 19 59 99 7 0 0) 3) kept ∷
     hears "02 01 00 00 7A DC 00 07 00 03 01 00 80 09 00 00 00 05 01 00 01 0A" (at falling 0) 0 "" (at falling 0) kept ∷
     event Stop (at falling 0) 10 0 (hex "02 03 03 05 FA EB 00 09 00 03") (at (made Cease 3 5 0 0 Unset 30 0 120 0 0 5) 0) kept ∷
-    -- "the second written straight after the first; two lengths are reported": Confirm and Hello; Hello and Poll, its reserved octets 0
+    -- two messages: "the second written straight after the first; two lengths are reported": Confirm and Hello; Hello and Poll, its reserved octets 0
     message (hex "02 03 00 00 FC E8 00 07 00 09 00 3C 00 C8") [] (atActive (at resting 0)) 14 10
     (hex "02 03 01 01 FC 53 00 09 00 09 00 1E 00 78 02 05 00 02 FD EF 00 09 00 00")
     (atActive (at (made Down 0 9 62 202 Active 62 0 120 0 0 0) 0)) kept ∷
     event Tick (at (made Down 3 5 32 122 Active 1 0 100 3 1 0) 0) 10 16
     (hex "02 05 00 01 FD ED 00 09 00 03 02 02 00 01 7D E6 00 09 00 04 00 00 80 09 00 00")
     (at (made Up 4 5 32 122 Active 32 122 99 7 0 0) 0) kept ∷
-    -- "Poll's reserved octets are ignored": the Update with the home list
+    -- reserved octets: "Poll's reserved octets are ignored": the Update with the home list
     message (hex "02 02 00 00 D2 16 00 07 00 09 AB CD 80 09 00 00") (ip 10 0 0 0 ∷ ours ∷ 7 ∷ []) (at reporting 3) 22 0
     (hex "02 01 00 01 7A D0 00 09 00 09 01 00 80 09 00 00 00 01 01 07 01 0A")
     (at (made Up 3 9 32 122 Active 20 60 100 7 0 0) 3) kept ∷
-    -- 14 and 15 only in Up: an Update with a bad body in Acquisition, Down and Cease
+    -- a bad body outside Up, where 14 and 15 are not given: an Update with a bad body in Acquisition, Down and Cease
     hears "02 01 00 00 7C EB 00 07 00 03 01 00 80 09 00 00 00" (at asking 0) 0 "" (at asking 0) kept ∷
     hears "02 01 00 00 7C EB 00 07 00 03 01 00 80 09 00 00 00" (at falling 0) 0 "" (at falling 0) kept ∷
     hears "02 01 00 00 7C EB 00 07 00 03 01 00 80 09 00 00 00" (at ceasing 0) 0 "" (at ceasing 0) kept ∷

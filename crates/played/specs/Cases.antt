@@ -30,3 +30,13 @@ pub record Cases : Type 0 where
       outputOf (head ++ text "add=128.9.0.5/7\nstart=128.9.0.5\ntick=128.9.0.5/31\nstop=128.9.0.5\n")
       ≡ text "tx=128.9.0.5/02030001FD5C00090000001E0078\ntx=128.9.0.5/02030001FD5C00090000001E0078\n"
       ++ text "neighbours=1\nslot=0\naddr=128.9.0.5\nas=7\nstate=idle\nmode=none\nrows=0\n"
+  -- a Request at an active gateway draws a Confirm and a Hello: two lines, in that order
+  pub two-replies :
+      outputOf (head ++ text "add=128.9.0.5/7\nrx=128.9.0.5/02030000FCE800070009003C00C8\n")
+      ≡ text "tx=128.9.0.5/02030101FC5300090009001E0078\ntx=128.9.0.5/02050002FDEF00090000\n"
+      ++ text "neighbours=1\nslot=0\naddr=128.9.0.5\nas=7\nstate=down\nmode=active\nrows=0\n"
+  -- a message that is refused draws its reply too: a Refuse to a Request of another AS
+  pub refused-reply :
+      outputOf (head ++ text "add=128.9.0.5/7\nrx=128.9.0.5/02030000FD51000C0009001E0078\n")
+      ≡ text "tx=128.9.0.5/02030204FBE600090009\n"
+      ++ text "neighbours=1\nslot=0\naddr=128.9.0.5\nas=7\nstate=idle\nmode=none\nrows=0\n"

@@ -68,9 +68,11 @@ pub enum Call {
         octets: Vec<u8>,
         net: u32,
     },
-    /// Writing.
+    /// Writing. Numbers that are no rows are loose: any beside a kind without rows, one or two
+    /// after the rows of an Update.
     Write {
         message: Message,
+        loose: Vec<u32>,
         buffer: Buffer,
     },
 }
@@ -234,7 +236,7 @@ impl Bench {
             } => gateway::message(state, table, &mut buffer, home, *address, octets),
             Call::Listing { .. } => listing::listing(state, table, &mut buffer),
             Call::Read { octets, net } => return self.read(octets, *net),
-            Call::Write { message, .. } => return self.write(message, buffer),
+            Call::Write { message, loose, .. } => return self.write(message, loose, buffer),
         };
         self.state = outcome.state;
         Record {
@@ -258,8 +260,8 @@ impl Bench {
         }
     }
 
-    fn write(&self, message: &Message, mut buffer: Vec<u8>) -> Record {
-        let (answer, length) = match message::write(message, &mut buffer) {
+    fn write(&self, message: &Message, loose: &[u32], mut buffer: Vec<u8>) -> Record {
+        let (answer, length) = match message::write(message, loose, &mut buffer) {
             Ok(length) => (Answer::Done, length),
             Err(answer) => (answer, 0),
         };

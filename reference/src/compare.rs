@@ -7,7 +7,9 @@ use std::process::{Child, Command, ExitStatus, Stdio};
 use std::thread;
 
 use crate::call::{Bench, Call};
+use crate::coverage::{Moment, Survey};
 use crate::generate::Generator;
+use crate::places::Seen;
 use crate::record::{self, Given};
 use crate::recording::hex;
 
@@ -98,11 +100,11 @@ impl Driver {
     }
 }
 
-/// Compares the first `count` calls of the list of a seed.
+/// Compares the first `count` calls of the list of a seed, and counts the places they reach.
 ///
 /// A thread of its own writes the records, so that neither end waits for the other for ever.
 /// Both it and the comparison make the list anew: a seed names one list.
-pub fn compare(program: &str, seed: u64, count: usize) -> Result<(), Stop> {
+pub fn compare(program: &str, seed: u64, count: usize, survey: &mut Survey) -> Result<(), Stop> {
     let (mut driver, mut records) =
         Driver::start(program).map_err(|error| Stop::Broken(0, error))?;
     let writer = thread::spawn(move || -> io::Result<()> {
@@ -111,7 +113,7 @@ pub fn compare(program: &str, seed: u64, count: usize) -> Result<(), Stop> {
         }
         records.flush()
     });
-    let verdict = follow(&mut driver, seed, count);
+    let verdict = follow(&mut driver, seed, count, survey);
     if verdict.is_err() {
         // The writer may be waiting for a driver that nobody reads any more.
         let _ = driver.child.kill();
@@ -121,7 +123,7 @@ pub fn compare(program: &str, seed: u64, count: usize) -> Result<(), Stop> {
     verdict
 }
 
-fn follow(driver: &mut Driver, seed: u64, count: usize) -> Result<(), Stop> {
+fn follow(driver: &mut Driver, seed: u64, count: usize, survey: &mut Survey) -> Result<(), Stop> {
     let mut bench = Bench::default();
     for (index, step) in Generator::new(seed).take(count).enumerate() {
         let before = bench.state;
@@ -143,6 +145,14 @@ fn follow(driver: &mut Driver, seed: u64, count: usize) -> Result<(), Stop> {
                 theirs,
             })));
         }
+        survey.observe_places(&Seen {
+            step: &step,
+            before: &Moment {
+                state: &before,
+                table: table_before.as_ref().unwrap_or(&bench.table),
+            },
+            record: &given,
+        });
     }
     Ok(())
 }

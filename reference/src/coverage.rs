@@ -9,11 +9,14 @@ use crate::gateway::{State, SLOTS, SLOT_NUMBERS};
 use crate::generate::{faults, Generator, Origin, Step};
 use crate::message::{self, Body, Intervals, Kind, Message};
 use crate::neighbour::{self, Mode, Neighbour, NeighbourState};
+use crate::places::{self, Place, Seen};
 use crate::update::{Row, MOST_ROWS};
 
 /// Every item is to be hit this often in [`FULL_COUNT`] calls.
 const WANTED: usize = 100;
 const FULL_COUNT: usize = 200_000;
+/// A comparison is to reach every place this often, however many calls it makes.
+pub const PLACES_WANTED: usize = 100;
 
 /// The parts of the coverage table, in the order they are printed.
 #[derive(Clone, Copy, Debug, PartialEq, Eq, PartialOrd, Ord)]
@@ -25,6 +28,7 @@ enum Section {
     Refusals,
     Indications,
     Depth,
+    Places,
     Aims,
 }
 
@@ -38,6 +42,7 @@ impl Section {
             Section::Refusals => "Refused messages",
             Section::Indications => "Indications noted",
             Section::Depth => "Depth",
+            Section::Places => "Places",
             Section::Aims => "What calls were made for",
         }
     }
@@ -54,13 +59,14 @@ struct Count {
 pub struct Survey {
     calls: usize,
     items: BTreeMap<(Section, String), Count>,
+    places: Vec<Place>,
     breaches: Vec<String>,
 }
 
 /// State and table on one side of a call.
-struct Moment<'a> {
-    state: &'a State,
-    table: &'a [u32],
+pub struct Moment<'a> {
+    pub state: &'a State,
+    pub table: &'a [u32],
 }
 
 impl Moment<'_> {
@@ -94,17 +100,49 @@ pub fn survey(seed: u64, count: usize) -> Survey {
     survey
 }
 
+/// The places that the first `count` steps of the lists of these seeds reach.
+pub fn survey_places(seeds: &[u64], count: usize) -> Survey {
+    let mut survey = Survey::of_places();
+    for &seed in seeds {
+        let mut bench = Bench::default();
+        for step in Generator::new(seed).take(count) {
+            let before = bench.clone();
+            let record = bench.run(&step.call);
+            survey.observe_places(&Seen {
+                step: &step,
+                before: &Moment {
+                    state: &before.state,
+                    table: &before.table,
+                },
+                record: &record,
+            });
+        }
+    }
+    survey
+}
+
 impl Survey {
     fn new() -> Survey {
-        let mut survey = Survey {
-            calls: 0,
-            items: BTreeMap::new(),
-            breaches: Vec::new(),
-        };
+        let mut survey = Survey::of_places();
         for (section, label) in expected() {
             survey.items.insert((section, label), Count::default());
         }
         survey
+    }
+
+    /// One that counts places only.
+    pub fn of_places() -> Survey {
+        let places = places::all();
+        let label = |place: &Place| (Section::Places, place.name.clone());
+        Survey {
+            calls: 0,
+            items: places
+                .iter()
+                .map(|place| (label(place), Count::default()))
+                .collect(),
+            places,
+            breaches: Vec::new(),
+        }
     }
 
     /// What no call may do, as far as it was found.
@@ -163,6 +201,42 @@ impl Survey {
         text
     }
 
+    /// How often each place was reached, a line each.
+    pub fn places_report(&self) -> String {
+        let mut text = String::new();
+        for place in &self.places {
+            let _ = writeln!(text, "  {:<50} {:>8}", place.name, self.hits_of(place));
+        }
+        text
+    }
+
+    /// The places that were not reached often enough.
+    pub fn missed_places(&self) -> Vec<&str> {
+        self.places
+            .iter()
+            .filter(|place| self.hits_of(place) < PLACES_WANTED)
+            .map(|place| place.name.as_str())
+            .collect()
+    }
+
+    fn hits_of(&self, place: &Place) -> usize {
+        let key = (Section::Places, place.name.clone());
+        self.items.get(&key).map_or(0, |count| count.total)
+    }
+
+    /// Counts the places that this call reaches.
+    pub fn observe_places(&mut self, seen: &Seen) {
+        let reached: Vec<String> = self
+            .places
+            .iter()
+            .filter(|place| place.holds(seen))
+            .map(|place| place.name.clone())
+            .collect();
+        for name in reached {
+            self.hit(Section::Places, name, seen.step.origin);
+        }
+    }
+
     fn hit(&mut self, section: Section, label: impl Into<String>, origin: Origin) {
         let count = self.items.entry((section, label.into())).or_default();
         count.total += 1;
@@ -180,6 +254,11 @@ impl Survey {
         for breach in breaches(kind, &step.call, before, after, record) {
             self.breaches.push(format!("call {}: {breach}", self.calls));
         }
+        self.observe_places(&Seen {
+            step,
+            before,
+            record,
+        });
         let origin = step.origin;
         let number = record.answer.number();
         self.hit(Section::Answers, format!("{kind:?} {number}"), origin);

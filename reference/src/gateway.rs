@@ -43,7 +43,7 @@ impl State {
     }
 
     /// What add asks of an address and AS, apart from the address being present.
-    fn may_be_neighbour(&self, address: u32, as_number: u16) -> bool {
+    pub(crate) fn may_be_neighbour(&self, address: u32, as_number: u16) -> bool {
         as_number != 0 && as_number != self.as_number && address != 0 && address != self.address
     }
 

@@ -10,7 +10,8 @@
 //! * [`listing`]: the table as text (01, "The listing").
 //! * [`call`]: one call with all its raw arguments, and a bench that runs it.
 //! * [`generate`]: seeded lists of calls that steer into deep states.
-//! * [`coverage`]: what a list of calls touched, and the laws every call must keep.
+//! * [`coverage`], [`places`]: what a list of calls touched, the places among it that a comparison
+//!   must reach, and the laws every call must keep.
 //! * [`record`], [`compare`], [`sample`], [`speed`]: calls as octets, and another implementation
 //!   run on them call by call, or timed.
 //! * [`recording`], [`playback`]: a site's recording, and what playing it gives (02, L1).
@@ -29,6 +30,7 @@ pub mod listing;
 pub mod message;
 pub mod neighbour;
 pub mod net;
+pub mod places;
 pub mod playback;
 pub mod random;
 pub mod record;

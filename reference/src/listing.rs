@@ -43,7 +43,7 @@ pub fn rows_of<'a>(
 }
 
 /// Check 2 of a listing: 3,072 numbers, and no used row's third number above 511.
-fn table_is_listable(state: &State, table: &[u32]) -> bool {
+pub(crate) fn table_is_listable(state: &State, table: &[u32]) -> bool {
     table.len() == TABLE_NUMBERS
         && used_slots(state).all(|(slot, neighbour)| {
             rows_of(neighbour, slot, table).all(|row| row.distance <= LARGEST_DISTANCE)

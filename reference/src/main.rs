@@ -5,6 +5,7 @@ use std::fs;
 use std::io::{self, Read, Write};
 use std::process::ExitCode;
 
+use reference::coverage::{Survey, PLACES_WANTED};
 use reference::generate::{day, recordings};
 use reference::{compare, compare_recordings, coverage, playback, sample, site, speed};
 
@@ -13,9 +14,11 @@ fn main() -> ExitCode {
     let words: Vec<&str> = arguments.iter().map(String::as_str).collect();
     match words.as_slice() {
         ["coverage", seed, count] => with_numbers(seed, count, print_coverage),
-        ["compare", driver, seed, count] => with_numbers(seed, count, |seed, count| {
-            let verdict = compare::compare(driver, seed, count);
-            print_comparison(seed, verdict.map(|()| format!("{count} calls")))
+        ["compare", driver, count, seeds @ ..] => with_seeds(count, seeds, |count, seeds| {
+            compare_lists(driver, count, seeds)
+        }),
+        ["places", count, seeds @ ..] => with_seeds(count, seeds, |count, seeds| {
+            print_places(&coverage::survey_places(seeds, count))
         }),
         ["case", seed, index] => with_numbers(seed, index, |seed, index| {
             print_octets(&compare::case(seed, index))
@@ -52,6 +55,47 @@ fn with_numbers(seed: &str, count: &str, run: impl FnOnce(u64, usize) -> ExitCod
     match (seed.parse(), count.parse()) {
         (Ok(seed), Ok(count)) => run(seed, count),
         _ => usage(),
+    }
+}
+
+/// Runs a command on a count and one seed or more.
+fn with_seeds(
+    count: &str,
+    seeds: &[&str],
+    run: impl FnOnce(usize, &[u64]) -> ExitCode,
+) -> ExitCode {
+    let seeds: Result<Vec<u64>, _> = seeds.iter().map(|seed| seed.parse()).collect();
+    match (count.parse(), seeds) {
+        (Ok(count), Ok(seeds)) if !seeds.is_empty() => run(count, &seeds),
+        _ => usage(),
+    }
+}
+
+/// Compares the lists of all seeds, and asks that they reach every place.
+fn compare_lists(driver: &str, count: usize, seeds: &[u64]) -> ExitCode {
+    let mut survey = Survey::of_places();
+    for &seed in seeds {
+        let verdict = compare::compare(driver, seed, count, &mut survey);
+        let compared = verdict.map(|()| format!("{count} calls"));
+        let exit = print_comparison(seed, compared);
+        if exit != ExitCode::SUCCESS {
+            return exit;
+        }
+    }
+    print_places(&survey)
+}
+
+/// Says how often each place was reached, and which were not reached often enough.
+fn print_places(survey: &Survey) -> ExitCode {
+    print!("places reached:\n{}", survey.places_report());
+    let missed = survey.missed_places();
+    for place in &missed {
+        println!("fewer than {PLACES_WANTED} times: {place}");
+    }
+    if missed.is_empty() {
+        ExitCode::SUCCESS
+    } else {
+        ExitCode::FAILURE
     }
 }
 
@@ -118,7 +162,8 @@ fn print_speed(driver: &str) -> ExitCode {
 fn usage() -> ExitCode {
     eprintln!(
         "usage: reference coverage SEED COUNT
-       reference compare DRIVER SEED COUNT
+       reference compare DRIVER COUNT SEED..
+       reference places COUNT SEED..
        reference case SEED INDEX
        reference sample records|answers
        reference speed DRIVER

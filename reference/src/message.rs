@@ -246,12 +246,13 @@ pub fn can_write(message: &Message) -> bool {
     body && message.kind().allows_status(message.status)
 }
 
-/// Writing: "makes 3, then 16"; the answer is the length.
-pub fn write(message: &Message, buffer: &mut [u8]) -> Result<usize, Answer> {
+/// Writing: "makes 3, then 16"; the answer is the length. Loose numbers, which are no rows of the
+/// meaning, the reader never gives.
+pub fn write(message: &Message, loose: &[u32], buffer: &mut [u8]) -> Result<usize, Answer> {
     if buffer.len() < REPLY_BUFFER {
         return Err(Answer::ShortBuffer);
     }
-    if !can_write(message) {
+    if !can_write(message) || !loose.is_empty() {
         return Err(Answer::BadSetting);
     }
     let octets = encode(message);

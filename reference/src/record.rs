@@ -128,8 +128,13 @@ pub fn encode(call: &Call, times: u32) -> Vec<u8> {
             ..Head::about(kind::READ, 0)
         }
         .record(times, octets, &[]),
-        Call::Write { message, buffer } => {
-            let numbers: Vec<u32> = rows(message).iter().flat_map(Row::numbers).collect();
+        Call::Write {
+            message,
+            loose,
+            buffer,
+        } => {
+            let mut numbers: Vec<u32> = rows(message).iter().flat_map(Row::numbers).collect();
+            numbers.extend(loose);
             Head::about(kind::WRITE, 0)
                 .lent(*buffer)
                 .record(times, &meaning(message), &numbers)

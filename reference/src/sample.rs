@@ -52,6 +52,7 @@ fn calls() -> Vec<Call> {
                     rows: vec![row(address(10, 0, 0, 0)), row(address(192, 5, 6, 0))],
                 },
             },
+            loose: Vec::new(),
             buffer: reply,
         },
         Call::Fresh {

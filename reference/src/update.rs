@@ -56,18 +56,25 @@ pub fn read_blocks(
     if !net::is_net(common_net) {
         return Err(Answer::BadUpdate);
     }
-    let rows = walk(part, internal, external, common_net).ok_or(Answer::BadUpdate)?;
+    let mut rows = Vec::new();
+    walk(part, internal, external, common_net, &mut rows).ok_or(Answer::BadUpdate)?;
     if rows.len() > MOST_ROWS {
         return Err(Answer::TooManyRows);
     }
     Ok(rows)
 }
 
-/// The walk over the blocks; `None` when something is missing, left over, or no net.
-fn walk(part: &[u8], internal: u8, external: u8, common_net: u32) -> Option<Vec<Row>> {
+/// The walk over the blocks; `None` when something is missing, left over, or no net. The rows
+/// before such a defect are in `rows` all the same.
+pub fn walk(
+    part: &[u8],
+    internal: u8,
+    external: u8,
+    common_net: u32,
+    rows: &mut Vec<Row>,
+) -> Option<()> {
     let host_octets = Class::of(common_net)?.host_octets();
     let mut rest = part;
-    let mut rows = Vec::new();
     let sides = [(internal, 0), (external, EXTERNAL)];
     for (gateways, mark) in sides {
         for _ in 0..gateways {
@@ -88,7 +95,7 @@ fn walk(part: &[u8], internal: u8, external: u8, common_net: u32) -> Option<Vec<
             }
         }
     }
-    rest.is_empty().then_some(rows)
+    rest.is_empty().then_some(())
 }
 
 /// The next `count` octets, which are then behind us.

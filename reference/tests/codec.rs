@@ -24,7 +24,7 @@ fn rows_of(octets: &[u8], net: u32) -> Vec<[u32; 3]> {
 
 fn written(message: &Message) -> Result<Vec<u8>, u8> {
     let mut buffer = vec![FILL; 2048];
-    let answer = message::write(message, &mut buffer);
+    let answer = message::write(message, &[], &mut buffer);
     let length = *answer.as_ref().unwrap_or(&0);
     assert!(buffer[length..].iter().all(|octet| *octet == FILL));
     match answer {
@@ -425,9 +425,9 @@ fn the_longest_update_that_can_be_written() {
 fn short_buffer_3_before_bad_meaning_16() {
     let mut short = vec![FILL; 2047];
     let hello = meaning(1, Body::Hello);
-    assert_eq!(message::write(&hello, &mut short), Err(Answer::ShortBuffer));
+    assert_eq!(message::write(&hello, &[], &mut short), Err(Answer::ShortBuffer));
     let bad = meaning(3, Body::Hello);
-    assert_eq!(message::write(&bad, &mut short), Err(Answer::ShortBuffer));
+    assert_eq!(message::write(&bad, &[], &mut short), Err(Answer::ShortBuffer));
     assert!(short.iter().all(|octet| *octet == FILL));
     assert_eq!(written(&bad), Err(16));
 }

@@ -35,7 +35,7 @@ fn read(octets: &[u8], net: u32) -> Result<Message, u8> {
 
 fn write(message: &Message) -> Result<Vec<u8>, u8> {
     let mut buffer = vec![0; 2048];
-    message::write(message, &mut buffer)
+    message::write(message, &[], &mut buffer)
         .map(|length| buffer[..length].to_vec())
         .map_err(Answer::number)
 }
@@ -300,7 +300,7 @@ fn b23_the_writer_asks_for_the_whole_buffer() {
         body: Body::Hello,
     };
     let mut buffer = vec![FILL; 100];
-    let answer = message::write(&hello, &mut buffer).map_err(Answer::number);
+    let answer = message::write(&hello, &[], &mut buffer).map_err(Answer::number);
     assert_eq!(answer, Err(3));
     assert_eq!(buffer, vec![FILL; 100]);
 }

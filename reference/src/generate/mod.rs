@@ -878,7 +878,9 @@ impl Generator {
         if self.random.thousandths(100) {
             buffer.length = self.random.pick(&[0, 10, 100, 2047]);
         }
-        (Call::Write { message, buffer }, aim)
+        let loose = Vec::new();
+        let call = Call::Write { message, loose, buffer };
+        (call, aim)
     }
 }
 

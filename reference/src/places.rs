@@ -1,0 +1,598 @@
+//! Places that a comparison must reach.
+//!
+//! A place is a predicate on a call, the state and table before it, and what it gave. Each is
+//! one where a gateway can be wrong while nearly every other call agrees: two checks that fail
+//! at once, a number at its limit or one beyond, a message that nearly gets a reply.
+
+use crate::answer::Answer;
+use crate::call::{Call, CallKind, Record};
+use crate::checksum;
+use crate::coverage::Moment;
+use crate::gateway::{self, State, TABLE_NUMBERS};
+use crate::generate::{Origin, Step};
+use crate::listing::{self, LISTING_BUFFER};
+use crate::message::{self, Body, Kind, LONGEST, REPLY_BUFFER, SHORTEST, VERSION};
+use crate::neighbour::{Mode, Neighbour, NeighbourState};
+use crate::net::{self, Class};
+use crate::update::{self, Row, MOST_ROWS};
+
+/// A call with what it was made on and what it gave.
+pub struct Seen<'a> {
+    pub step: &'a Step,
+    pub before: &'a Moment<'a>,
+    pub record: &'a Record,
+}
+
+impl Seen<'_> {
+    fn gives(&self, number: u8) -> bool {
+        self.record.answer.number() == number
+    }
+
+    fn is_silent(&self) -> bool {
+        self.record.lengths == (0, 0)
+    }
+
+    /// The neighbour that a message comes from, and its octets.
+    fn message(&self) -> Option<(&Neighbour, &[u8])> {
+        let Call::Message {
+            address, octets, ..
+        } = &self.step.call
+        else {
+            return None;
+        };
+        let slot = self.before.state.find(*address)?;
+        Some((&self.before.state.neighbours[slot], octets))
+    }
+
+    /// An Update that passes checks 1 to 12, and its neighbour.
+    fn update(&self) -> Option<(&Neighbour, &[u8])> {
+        let looked_at = self.gives(0) || (13..=15).contains(&self.record.answer.number());
+        self.message()
+            .filter(|(_, octets)| looked_at && kind_of(octets) == Some(Kind::Update))
+    }
+}
+
+/// A named place.
+pub struct Place {
+    pub name: String,
+    holds: Box<dyn Fn(&Seen) -> bool>,
+}
+
+impl Place {
+    pub fn holds(&self, seen: &Seen) -> bool {
+        (self.holds)(seen)
+    }
+}
+
+fn place(name: impl Into<String>, holds: impl Fn(&Seen) -> bool + 'static) -> Place {
+    Place {
+        name: name.into(),
+        holds: Box::new(holds),
+    }
+}
+
+/// All places, in the order in which they are printed.
+pub fn all() -> Vec<Place> {
+    let mut places = checks_together();
+    places.extend(states());
+    places.extend(strangers());
+    places.extend(updates());
+    places.extend(home_lists());
+    places.extend(readings());
+    places.extend(writings());
+    places
+}
+
+// Two checks that fail in one call.
+
+/// Checks of a call that stand next to each other, or would if 5 and 18 could both fail.
+const PAIRS: [(CallKind, &[(u8, u8)]); 8] = [
+    (
+        CallKind::Message,
+        &[
+            (1, 2),
+            (2, 3),
+            (3, 4),
+            (4, 5),
+            (5, 6),
+            (6, 7),
+            (7, 8),
+            (8, 9),
+            (9, 10),
+            (10, 11),
+            (11, 12),
+            (12, 13),
+            (13, 14),
+            (14, 15),
+        ],
+    ),
+    (CallKind::Start, &[(1, 2), (2, 3), (3, 5)]),
+    (CallKind::Stop, &[(1, 2), (2, 3), (3, 5)]),
+    (CallKind::Tick, &[(1, 2), (2, 3), (3, 5)]),
+    (CallKind::Listing, &[(1, 2), (2, 3)]),
+    (CallKind::Add, &[(1, 16), (16, 17)]),
+    (CallKind::Remove, &[(1, 5), (1, 18)]),
+    (CallKind::Write, &[(3, 16)]),
+];
+
+fn checks_together() -> Vec<Place> {
+    let mut places = Vec::new();
+    for (kind, pairs) in PAIRS {
+        for &(first, second) in pairs {
+            let name = format!("{kind:?}: {first} before {second}");
+            places.push(place(name, move |seen| {
+                seen.step.call.kind() == Some(kind) && seen.gives(first) && fails(seen, second)
+            }));
+        }
+    }
+    places.push(place("Listing: 2 for a row before 3", |seen| {
+        matches!(seen.step.call, Call::Listing { .. })
+            && seen.gives(2)
+            && seen.before.table.len() == TABLE_NUMBERS
+            && fails(seen, 3)
+    }));
+    places
+}
+
+/// Whether a check fails, taken by itself: what stands before it may have failed already.
+fn fails(seen: &Seen, check: u8) -> bool {
+    let (state, table) = (seen.before.state, seen.before.table);
+    let is_unknown = |address: u32| state.find(address).is_none();
+    match (check, &seen.step.call) {
+        (1, _) => !state.is_well_formed(),
+        (2, Call::Listing { .. }) => !listing::table_is_listable(state, table),
+        (2, _) => table.len() != TABLE_NUMBERS,
+        (3, Call::Listing { buffer }) => buffer.length < LISTING_BUFFER,
+        (3, call) => call
+            .buffer()
+            .is_some_and(|buffer| buffer.length < REPLY_BUFFER),
+        (4, Call::Message { home, .. }) => gateway::home_rows(state, home).is_none(),
+        (5, Call::Remove { address }) => is_unknown(*address),
+        (5, call) => call.event_address().is_some_and(is_unknown),
+        (
+            6..=8,
+            Call::Message {
+                octets: message, ..
+            },
+        ) => frame_fails(message, check),
+        (9..=15, Call::Message { .. }) => seen
+            .message()
+            .is_some_and(|(neighbour, octets)| content_fails(state, neighbour, octets, check)),
+        (16, Call::Add { address, as_number }) => {
+            !state.may_be_neighbour(*address, *as_number) || !is_unknown(*address)
+        }
+        (16, Call::Write { message, loose, .. }) => {
+            !message::can_write(message) || !loose.is_empty()
+        }
+        (17, Call::Add { .. }) => state.neighbours.iter().all(Neighbour::is_used),
+        (18, Call::Remove { address }) => state
+            .find(*address)
+            .is_some_and(|slot| state.neighbours[slot].state != NeighbourState::Idle),
+        _ => false,
+    }
+}
+
+/// Checks 6 to 8 by themselves.
+fn frame_fails(octets: &[u8], check: u8) -> bool {
+    match check {
+        6 => !(SHORTEST..=LONGEST).contains(&octets.len()),
+        7 => octets.first().is_some_and(|version| *version != VERSION),
+        _ => octets.len() >= 6 && octets[4..6] != checksum::checksum(octets).to_be_bytes(),
+    }
+}
+
+/// Checks 9 to 15 by themselves, on a message of a good size.
+fn content_fails(state: &State, neighbour: &Neighbour, octets: &[u8], check: u8) -> bool {
+    let kind = kind_of(octets);
+    let is_update_in_up = kind == Some(Kind::Update) && neighbour.state == NeighbourState::Up;
+    match check {
+        9 => message::as_number(octets) != neighbour.as_number,
+        10 => kind.is_none(),
+        // An unknown kind has a bad status if no kind allows it.
+        11 => match kind {
+            Some(kind) => !kind.allows_status(octets[3]),
+            None => Kind::ALL.iter().all(|kind| !kind.allows_status(octets[3])),
+        },
+        12 => kind.is_some_and(|kind| !kind.allows_length(octets.len())),
+        13 => {
+            neighbour.state != NeighbourState::Idle
+                && kind.is_some_and(Kind::must_carry_s)
+                && message::sequence(octets) != neighbour.send_sequence
+        }
+        14 => {
+            is_update_in_up && message::read_rows(octets, state.net) == Err(Answer::BadUpdate)
+        }
+        _ => is_update_in_up && rows_before_a_defect(octets, state.net) > MOST_ROWS,
+    }
+}
+
+/// The kind of a message of a good size.
+fn kind_of(octets: &[u8]) -> Option<Kind> {
+    Kind::from_type_and_code((octets[1], octets[2]))
+}
+
+/// How many rows the body of an Update has, up to its first defect if it has one.
+fn rows_before_a_defect(octets: &[u8], common_net: u32) -> usize {
+    let mut rows = Vec::new();
+    if octets.len() >= 16 {
+        let _ = update::walk(&octets[16..], octets[10], octets[11], common_net, &mut rows);
+    }
+    rows.len()
+}
+
+// States that the host hands in.
+
+/// The variables of a neighbour, each set to 1.
+const ONES: [(&str, fn(&mut Neighbour)); 12] = [
+    ("S", |n| n.send_sequence = 1),
+    ("R", |n| n.receive_sequence = 1),
+    ("T1", |n| n.hello_interval = 1),
+    ("T2", |n| n.poll_interval = 1),
+    ("mode", |n| n.mode = Mode::Active),
+    ("t1", |n| n.t1 = 1),
+    ("t2", |n| n.t2 = 1),
+    ("t3", |n| n.t3 = 1),
+    ("register", |n| n.register = 1),
+    ("heard", |n| n.heard = 1),
+    ("cause", |n| n.cause = 1),
+    ("row count", |n| n.row_count = 1),
+];
+
+/// A variable with limits: its name, where it stands, and the limits, if the least is one.
+struct Limited {
+    name: &'static str,
+    get: fn(&Neighbour) -> u16,
+    set: fn(&mut Neighbour, u16),
+    least: Option<u16>,
+    most: u16,
+}
+
+const LIMITED: [Limited; 8] = [
+    Limited {
+        name: "T1",
+        get: |n| n.hello_interval,
+        set: |n, value| n.hello_interval = value,
+        least: Some(32),
+        most: 122,
+    },
+    Limited {
+        name: "T2",
+        get: |n| n.poll_interval,
+        set: |n, value| n.poll_interval = value,
+        least: Some(122),
+        most: 482,
+    },
+    Limited {
+        name: "t1",
+        get: |n| n.t1,
+        set: |n, value| n.t1 = value,
+        least: None,
+        most: 122,
+    },
+    Limited {
+        name: "t2",
+        get: |n| n.t2,
+        set: |n, value| n.t2 = value,
+        least: None,
+        most: 482,
+    },
+    Limited {
+        name: "t3",
+        get: |n| n.t3,
+        set: |n, value| n.t3 = value,
+        least: None,
+        most: 3600,
+    },
+    Limited {
+        name: "register",
+        get: |n| n.register.into(),
+        set: |n, value| n.register = value as u8,
+        least: None,
+        most: 15,
+    },
+    Limited {
+        name: "heard",
+        get: |n| n.heard.into(),
+        set: |n, value| n.heard = value as u8,
+        least: None,
+        most: 1,
+    },
+    Limited {
+        name: "cause",
+        get: |n| n.cause.into(),
+        set: |n, value| n.cause = value as u8,
+        least: Some(5),
+        most: 6,
+    },
+];
+
+fn states() -> Vec<Place> {
+    let mut places = Vec::new();
+    for (name, set) in ONES {
+        places.push(place(format!("state: Idle, {name} 1"), move |seen| {
+            seen.gives(1)
+                && any_mended(seen.before.state, |neighbour| {
+                    let bare = Neighbour::idle(neighbour.address, neighbour.as_number);
+                    let mut wrong = bare;
+                    set(&mut wrong);
+                    (*neighbour == wrong).then_some(bare)
+                })
+        }));
+    }
+    for limited in LIMITED {
+        let Limited { get, set, most, .. } = limited;
+        let mut at = |value: u16, nearest: u16| {
+            let name = format!("state: {} {value}", limited.name);
+            places.push(place(name, move |seen| {
+                if seen.step.origin != Origin::HandedIn || !makes_check_1(&seen.step.call) {
+                    return false;
+                }
+                if value == nearest {
+                    let neighbours = &seen.before.state.neighbours;
+                    return !seen.gives(1) && neighbours.iter().any(|n| get(n) == value);
+                }
+                seen.gives(1)
+                    && any_mended(seen.before.state, |neighbour| {
+                        let mut mended = *neighbour;
+                        set(&mut mended, nearest);
+                        (get(neighbour) == value).then_some(mended)
+                    })
+            }));
+        };
+        if let Some(least) = limited.least {
+            at(least - 1, least);
+            at(least, least);
+        }
+        at(most, most);
+        at(most + 1, most);
+    }
+    places
+}
+
+/// Whether a state is well formed but for one neighbour, which `mend` makes good.
+fn any_mended(state: &State, mend: impl Fn(&Neighbour) -> Option<Neighbour>) -> bool {
+    (0..state.neighbours.len()).any(|slot| {
+        mend(&state.neighbours[slot]).is_some_and(|mended| {
+            let mut state = *state;
+            state.neighbours[slot] = mended;
+            state.is_well_formed()
+        })
+    })
+}
+
+fn makes_check_1(call: &Call) -> bool {
+    call.kind().is_some_and(|kind| kind.answers().contains(&1))
+}
+
+// The reply named at 9.
+
+fn strangers() -> Vec<Place> {
+    use NeighbourState::{Acquisition, Cease, Down, Idle, Up};
+    let request = Kind::Request.type_and_code();
+    /// A message answered 9 in this state: its type and code, its status, its length.
+    fn stranger(seen: &Seen, state: NeighbourState) -> Option<((u8, u8), u8, usize)> {
+        let (neighbour, octets) = seen.message()?;
+        let shape = ((octets.get(1)?, octets.get(2)?), octets.get(3)?);
+        (seen.gives(9) && neighbour.state == state).then_some((
+            (*shape.0 .0, *shape.0 .1),
+            *shape.1,
+            octets.len(),
+        ))
+    }
+    let mut places = vec![
+        place("other AS: Request in Idle, Refuse 4", move |seen| {
+            !seen.is_silent() && stranger(seen, Idle).is_some()
+        }),
+        place("other AS: Confirm in Idle", |seen| {
+            let confirm = Kind::Confirm.type_and_code();
+            seen.is_silent()
+                && stranger(seen, Idle)
+                    .is_some_and(|shape| (shape.0, shape.2) == (confirm, 14) && shape.1 <= 2)
+        }),
+        place(
+            "other AS: kind but Request and Confirm in Idle",
+            move |seen| {
+                seen.is_silent()
+                    && stranger(seen, Idle).is_some_and(|(pair, status, length)| {
+                        pair != request
+                            && pair != Kind::Confirm.type_and_code()
+                            && status <= 2
+                            && length == 14
+                    })
+            },
+        ),
+        place("other AS: Request of status 3 in Idle", move |seen| {
+            seen.is_silent() && stranger(seen, Idle) == Some((request, 3, 14))
+        }),
+        place("other AS: Request of other length in Idle", move |seen| {
+            seen.is_silent()
+                && stranger(seen, Idle).is_some_and(|(pair, status, length)| {
+                    pair == request && status <= 2 && length != 14
+                })
+        }),
+    ];
+    for state in [Acquisition, Down, Up, Cease] {
+        let name = format!("other AS: Request in {state:?}");
+        places.push(place(name, move |seen| {
+            seen.is_silent()
+                && stranger(seen, state).is_some_and(|(pair, status, length)| {
+                    pair == request && status <= 2 && length == 14
+                })
+        }));
+    }
+    places
+}
+
+// Bodies of Updates.
+
+fn updates() -> Vec<Place> {
+    use NeighbourState::{Acquisition, Cease, Down, Idle, Up};
+    let mut places = Vec::new();
+    for state in [Idle, Acquisition, Down, Cease] {
+        let name = format!("Update with a bad body in {state:?}");
+        places.push(place(name, move |seen| {
+            seen.gives(0)
+                && seen.update().is_some_and(|(neighbour, octets)| {
+                    neighbour.state == state
+                        && message::read_rows(octets, seen.before.state.net)
+                            == Err(Answer::BadUpdate)
+                })
+        }));
+    }
+    places.push(place("Update of 129 rows, then a defect", |seen| {
+        seen.gives(14)
+            && seen.update().is_some_and(|(neighbour, octets)| {
+                neighbour.state == Up
+                    && rows_before_a_defect(octets, seen.before.state.net) == MOST_ROWS + 1
+            })
+    }));
+    places
+}
+
+// Home lists.
+
+/// In how many ways a home list is bad, by name.
+fn home_defects(state: &State, home: &[u32]) -> Vec<&'static str> {
+    let numbers = home.chunks_exact(3);
+    let mut found = Vec::new();
+    if !numbers.remainder().is_empty() {
+        found.push("not whole rows");
+    }
+    if home.len() / 3 > MOST_ROWS {
+        found.push(match home.len() / 3 {
+            129 => "129 rows",
+            _ => "more than 129 rows",
+        });
+    }
+    for (index, row) in numbers.map(Row::from_numbers).enumerate() {
+        if Class::of(row.net).is_none() {
+            found.push("net of no class");
+        } else if !net::is_net(row.net) {
+            found.push("net not left justified");
+        }
+        if !net::is_on(row.gateway, state.net) {
+            found.push("gateway off the net");
+        }
+        if row.distance > 255 {
+            found.push(match row.distance {
+                256 => "number 256",
+                _ => "number above 256",
+            });
+        }
+        if index == 0 && row.gateway != state.address {
+            found.push("first gateway not ours");
+        }
+    }
+    found
+}
+
+fn home_lists() -> Vec<Place> {
+    let mut places = Vec::new();
+    for defect in [
+        "not whole rows",
+        "129 rows",
+        "net of no class",
+        "net not left justified",
+        "gateway off the net",
+        "number 256",
+        "first gateway not ours",
+    ] {
+        places.push(place(format!("home list: {defect}"), move |seen| {
+            let Call::Message { home, .. } = &seen.step.call else {
+                return false;
+            };
+            seen.gives(4) && home_defects(seen.before.state, home) == [defect]
+        }));
+    }
+    for rows in [0, 1, MOST_ROWS] {
+        places.push(place(format!("home list: good, rows {rows}"), move |seen| {
+            let Call::Message { home, .. } = &seen.step.call else {
+                return false;
+            };
+            home.len() == 3 * rows && !(1..=4).contains(&seen.record.answer.number())
+        }));
+    }
+    places
+}
+
+// Reading and writing alone.
+
+fn readings() -> Vec<Place> {
+    /// A message read with a bad common net: its octets and that net.
+    fn bad_net<'a>(seen: &Seen<'a>, has_class: bool) -> Option<(&'a [u8], u32)> {
+        let Call::Read { octets, net } = &seen.step.call else {
+            return None;
+        };
+        let wanted = !net::is_net(*net) && Class::of(*net).is_some() == has_class;
+        wanted.then_some((octets, *net))
+    }
+    let other_kind = |has_class: bool| {
+        move |seen: &Seen| {
+            bad_net(seen, has_class).is_some() && seen.gives(0)
+        }
+    };
+    vec![
+        place("Read: Update on a net not left justified", |seen| {
+            // With the net left justified on both sides it would be good.
+            seen.gives(14)
+                && bad_net(seen, true).is_some_and(|(octets, net)| {
+                    let mask = Class::of(net).map_or(0, Class::net_mask);
+                    let mut mended = octets.to_vec();
+                    mended[12..16].copy_from_slice(&(net & mask).to_be_bytes());
+                    octets[12..16] == net.to_be_bytes()
+                        && message::read_rows(&mended, net & mask).is_ok()
+                })
+        }),
+        place("Read: Update on a net of no class", |seen| {
+            // Without blocks there is nothing else to find fault with.
+            seen.gives(14)
+                && bad_net(seen, false).is_some_and(|(octets, net)| {
+                    octets[12..] == net.to_be_bytes() && octets[10..12] == [0, 0]
+                })
+        }),
+        place("Read: other kind, net not left justified", other_kind(true)),
+        place("Read: other kind, net of no class", other_kind(false)),
+    ]
+}
+
+fn writings() -> Vec<Place> {
+    /// What is written: the meaning, and how many loose numbers stand beside it.
+    fn written<'a>(seen: &Seen<'a>) -> Option<(&'a message::Message, usize)> {
+        match &seen.step.call {
+            Call::Write { message, loose, .. } if seen.gives(16) => Some((message, loose.len())),
+            _ => None,
+        }
+    }
+    let beside = |is_update: bool, is_rows: bool| {
+        move |seen: &Seen| {
+            written(seen).is_some_and(|(message, loose)| {
+                loose > 0
+                    && (loose % 3 == 0) == is_rows
+                    && matches!(message.body, Body::Update { .. }) == is_update
+                    && message::can_write(message)
+            })
+        }
+    };
+    let status_255 = |kinds: &'static [Kind], are_these: bool| {
+        move |seen: &Seen| {
+            written(seen).is_some_and(|(message, loose)| {
+                let good = message::Message {
+                    status: 0,
+                    ..message.clone()
+                };
+                message.status == 255
+                    && kinds.contains(&message.kind()) == are_these
+                    && loose == 0
+                    && message::can_write(&good)
+            })
+        }
+    };
+    const UNSOLICITED: &[Kind] = &[Kind::Update, Kind::Error];
+    vec![
+        place("Write: rows beside a kind without rows", beside(false, true)),
+        place("Write: numbers beside a kind without rows", beside(false, false)),
+        place("Write: numbers after the rows of an Update", beside(true, false)),
+        place("Write: status 255, Update or Error", status_255(UNSOLICITED, true)),
+        place("Write: status 255, other kind", status_255(UNSOLICITED, false)),
+    ]
+}

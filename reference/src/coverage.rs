@@ -645,7 +645,7 @@ fn expected() -> Vec<(Section, String)> {
     let aims = faults::STATE_FAULTS
         .into_iter()
         .chain(faults::HOME_FAULTS)
-        .chain(faults::MEANING_FAULTS)
+        .chain(faults::MEANING_FAULTS.map(|(_, fault)| fault))
         .chain(faults::MESSAGE_FAULTS.map(|(_, fault)| fault));
     for aim in aims {
         want(Section::Aims, aim.into());

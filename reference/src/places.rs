@@ -44,11 +44,10 @@ impl Seen<'_> {
         Some((&self.before.state.neighbours[slot], octets))
     }
 
-    /// An Update that passes checks 1 to 12, and its neighbour.
+    /// The neighbour that an Update comes from, and its octets.
     fn update(&self) -> Option<(&Neighbour, &[u8])> {
-        let looked_at = self.gives(0) || (13..=15).contains(&self.record.answer.number());
         self.message()
-            .filter(|(_, octets)| looked_at && kind_of(octets) == Some(Kind::Update))
+            .filter(|(_, octets)| kind_of(octets) == Some(Kind::Update))
     }
 }
 
@@ -85,7 +84,7 @@ pub fn all() -> Vec<Place> {
 
 // Two checks that fail in one call.
 
-/// Checks of a call that stand next to each other, or would if 5 and 18 could both fail.
+/// Checks of a call that stand next to each other. In remove 5 and 18 can't both fail.
 const PAIRS: [(CallKind, &[(u8, u8)]); 8] = [
     (
         CallKind::Message,
@@ -149,12 +148,7 @@ fn fails(seen: &Seen, check: u8) -> bool {
         (4, Call::Message { home, .. }) => gateway::home_rows(state, home).is_none(),
         (5, Call::Remove { address }) => is_unknown(*address),
         (5, call) => call.event_address().is_some_and(is_unknown),
-        (
-            6..=8,
-            Call::Message {
-                octets: message, ..
-            },
-        ) => frame_fails(message, check),
+        (6..=8, Call::Message { octets, .. }) => frame_fails(octets, check),
         (9..=15, Call::Message { .. }) => seen
             .message()
             .is_some_and(|(neighbour, octets)| content_fails(state, neighbour, octets, check)),
@@ -199,16 +193,16 @@ fn content_fails(state: &State, neighbour: &Neighbour, octets: &[u8], check: u8)
                 && kind.is_some_and(Kind::must_carry_s)
                 && message::sequence(octets) != neighbour.send_sequence
         }
-        14 => {
-            is_update_in_up && message::read_rows(octets, state.net) == Err(Answer::BadUpdate)
-        }
+        14 => is_update_in_up && message::read_rows(octets, state.net) == Err(Answer::BadUpdate),
         _ => is_update_in_up && rows_before_a_defect(octets, state.net) > MOST_ROWS,
     }
 }
 
-/// The kind of a message of a good size.
 fn kind_of(octets: &[u8]) -> Option<Kind> {
-    Kind::from_type_and_code((octets[1], octets[2]))
+    let [_, message_type, code, ..] = *octets else {
+        return None;
+    };
+    Kind::from_type_and_code((message_type, code))
 }
 
 /// How many rows the body of an Update has, up to its first defect if it has one.
@@ -222,8 +216,10 @@ fn rows_before_a_defect(octets: &[u8], common_net: u32) -> usize {
 
 // States that the host hands in.
 
+type Change = fn(&mut Neighbour);
+
 /// The variables of a neighbour, each set to 1.
-const ONES: [(&str, fn(&mut Neighbour)); 12] = [
+const ONES: [(&str, Change); 12] = [
     ("S", |n| n.send_sequence = 1),
     ("R", |n| n.receive_sequence = 1),
     ("T1", |n| n.hello_interval = 1),
@@ -238,8 +234,8 @@ const ONES: [(&str, fn(&mut Neighbour)); 12] = [
     ("row count", |n| n.row_count = 1),
 ];
 
-/// A variable with limits: its name, where it stands, and the limits, if the least is one.
-struct Limited {
+/// A variable that check 1 bounds, below too if it has a least value.
+struct Bounded {
     name: &'static str,
     get: fn(&Neighbour) -> u16,
     set: fn(&mut Neighbour, u16),
@@ -247,62 +243,69 @@ struct Limited {
     most: u16,
 }
 
-const LIMITED: [Limited; 8] = [
-    Limited {
+const BOUNDED: [Bounded; 9] = [
+    Bounded {
         name: "T1",
         get: |n| n.hello_interval,
         set: |n, value| n.hello_interval = value,
         least: Some(32),
         most: 122,
     },
-    Limited {
+    Bounded {
         name: "T2",
         get: |n| n.poll_interval,
         set: |n, value| n.poll_interval = value,
         least: Some(122),
         most: 482,
     },
-    Limited {
+    Bounded {
         name: "t1",
         get: |n| n.t1,
         set: |n, value| n.t1 = value,
-        least: None,
+        least: Some(1),
         most: 122,
     },
-    Limited {
+    Bounded {
         name: "t2",
         get: |n| n.t2,
         set: |n, value| n.t2 = value,
-        least: None,
+        least: Some(1),
         most: 482,
     },
-    Limited {
+    Bounded {
         name: "t3",
         get: |n| n.t3,
         set: |n, value| n.t3 = value,
-        least: None,
+        least: Some(1),
         most: 3600,
     },
-    Limited {
+    Bounded {
         name: "register",
         get: |n| n.register.into(),
         set: |n, value| n.register = value as u8,
         least: None,
         most: 15,
     },
-    Limited {
+    Bounded {
         name: "heard",
         get: |n| n.heard.into(),
         set: |n, value| n.heard = value as u8,
         least: None,
         most: 1,
     },
-    Limited {
+    Bounded {
         name: "cause",
         get: |n| n.cause.into(),
         set: |n, value| n.cause = value as u8,
         least: Some(5),
         most: 6,
+    },
+    Bounded {
+        name: "row count",
+        get: |n| n.row_count,
+        set: |n, value| n.row_count = value,
+        least: None,
+        most: 128,
     },
 ];
 
@@ -319,10 +322,11 @@ fn states() -> Vec<Place> {
                 })
         }));
     }
-    for limited in LIMITED {
-        let Limited { get, set, most, .. } = limited;
+    for bounded in BOUNDED {
+        let Bounded { get, set, most, .. } = bounded;
+        // A good value is its own nearest good one.
         let mut at = |value: u16, nearest: u16| {
-            let name = format!("state: {} {value}", limited.name);
+            let name = format!("state: {} {value}", bounded.name);
             places.push(place(name, move |seen| {
                 if seen.step.origin != Origin::HandedIn || !makes_check_1(&seen.step.call) {
                     return false;
@@ -339,7 +343,7 @@ fn states() -> Vec<Place> {
                     })
             }));
         };
-        if let Some(least) = limited.least {
+        if let Some(least) = bounded.least {
             at(least - 1, least);
             at(least, least);
         }
@@ -366,59 +370,60 @@ fn makes_check_1(call: &Call) -> bool {
 
 // The reply named at 9.
 
+/// What the reply to a message from another AS goes by.
+struct Shape {
+    pair: (u8, u8),
+    status: u8,
+    length: usize,
+}
+
+impl Shape {
+    /// Whether it is as a Request has to be, but for type and code.
+    fn is(&self, pair: (u8, u8)) -> bool {
+        self.pair == pair && self.status <= 2 && self.length == 14
+    }
+}
+
+/// A message that this state answers 9.
+fn stranger(seen: &Seen, state: NeighbourState) -> Option<Shape> {
+    let (neighbour, octets) = seen.message()?;
+    let [_, message_type, code, status, ..] = *octets else {
+        return None;
+    };
+    (seen.gives(9) && neighbour.state == state).then_some(Shape {
+        pair: (message_type, code),
+        status,
+        length: octets.len(),
+    })
+}
+
+const REQUEST: (u8, u8) = (3, 0);
+const CONFIRM: (u8, u8) = (3, 1);
+
 fn strangers() -> Vec<Place> {
     use NeighbourState::{Acquisition, Cease, Down, Idle, Up};
-    let request = Kind::Request.type_and_code();
-    /// A message answered 9 in this state: its type and code, its status, its length.
-    fn stranger(seen: &Seen, state: NeighbourState) -> Option<((u8, u8), u8, usize)> {
-        let (neighbour, octets) = seen.message()?;
-        let shape = ((octets.get(1)?, octets.get(2)?), octets.get(3)?);
-        (seen.gives(9) && neighbour.state == state).then_some((
-            (*shape.0 .0, *shape.0 .1),
-            *shape.1,
-            octets.len(),
-        ))
-    }
+    let silent = |name: &str, state: NeighbourState, is_wanted: fn(&Shape) -> bool| {
+        place(format!("other AS: {name} in {state:?}"), move |seen| {
+            seen.is_silent() && stranger(seen, state).is_some_and(|shape| is_wanted(&shape))
+        })
+    };
     let mut places = vec![
-        place("other AS: Request in Idle, Refuse 4", move |seen| {
-            !seen.is_silent() && stranger(seen, Idle).is_some()
+        place("other AS: Request in Idle, Refuse 4", |seen| {
+            !seen.is_silent() && stranger(seen, Idle).is_some_and(|shape| shape.is(REQUEST))
         }),
-        place("other AS: Confirm in Idle", |seen| {
-            let confirm = Kind::Confirm.type_and_code();
-            seen.is_silent()
-                && stranger(seen, Idle)
-                    .is_some_and(|shape| (shape.0, shape.2) == (confirm, 14) && shape.1 <= 2)
+        silent("Confirm", Idle, |shape| shape.is(CONFIRM)),
+        silent("other kind", Idle, |shape| {
+            shape.is(shape.pair) && ![REQUEST, CONFIRM].contains(&shape.pair)
         }),
-        place(
-            "other AS: kind but Request and Confirm in Idle",
-            move |seen| {
-                seen.is_silent()
-                    && stranger(seen, Idle).is_some_and(|(pair, status, length)| {
-                        pair != request
-                            && pair != Kind::Confirm.type_and_code()
-                            && status <= 2
-                            && length == 14
-                    })
-            },
-        ),
-        place("other AS: Request of status 3 in Idle", move |seen| {
-            seen.is_silent() && stranger(seen, Idle) == Some((request, 3, 14))
+        silent("Request of status 3", Idle, |shape| {
+            (shape.pair, shape.status, shape.length) == (REQUEST, 3, 14)
         }),
-        place("other AS: Request of other length in Idle", move |seen| {
-            seen.is_silent()
-                && stranger(seen, Idle).is_some_and(|(pair, status, length)| {
-                    pair == request && status <= 2 && length != 14
-                })
+        silent("Request of other length", Idle, |shape| {
+            shape.pair == REQUEST && shape.status <= 2 && shape.length != 14
         }),
     ];
     for state in [Acquisition, Down, Up, Cease] {
-        let name = format!("other AS: Request in {state:?}");
-        places.push(place(name, move |seen| {
-            seen.is_silent()
-                && stranger(seen, state).is_some_and(|(pair, status, length)| {
-                    pair == request && status <= 2 && length == 14
-                })
-        }));
+        places.push(silent("Request", state, |shape| shape.is(REQUEST)));
     }
     places
 }
@@ -451,7 +456,7 @@ fn updates() -> Vec<Place> {
 
 // Home lists.
 
-/// In how many ways a home list is bad, by name.
+/// The ways in which a home list is bad.
 fn home_defects(state: &State, home: &[u32]) -> Vec<&'static str> {
     let numbers = home.chunks_exact(3);
     let mut found = Vec::new();
@@ -505,12 +510,15 @@ fn home_lists() -> Vec<Place> {
         }));
     }
     for rows in [0, 1, MOST_ROWS] {
-        places.push(place(format!("home list: good, rows {rows}"), move |seen| {
-            let Call::Message { home, .. } = &seen.step.call else {
-                return false;
-            };
-            home.len() == 3 * rows && !(1..=4).contains(&seen.record.answer.number())
-        }));
+        places.push(place(
+            format!("home list: good, rows {rows}"),
+            move |seen| {
+                let Call::Message { home, .. } = &seen.step.call else {
+                    return false;
+                };
+                home.len() == 3 * rows && !(1..=4).contains(&seen.record.answer.number())
+            },
+        ));
     }
     places
 }
@@ -526,11 +534,8 @@ fn readings() -> Vec<Place> {
         let wanted = !net::is_net(*net) && Class::of(*net).is_some() == has_class;
         wanted.then_some((octets, *net))
     }
-    let other_kind = |has_class: bool| {
-        move |seen: &Seen| {
-            bad_net(seen, has_class).is_some() && seen.gives(0)
-        }
-    };
+    let other_kind =
+        |has_class: bool| move |seen: &Seen| bad_net(seen, has_class).is_some() && seen.gives(0);
     vec![
         place("Read: Update on a net not left justified", |seen| {
             // With the net left justified on both sides it would be good.
@@ -589,10 +594,25 @@ fn writings() -> Vec<Place> {
     };
     const UNSOLICITED: &[Kind] = &[Kind::Update, Kind::Error];
     vec![
-        place("Write: rows beside a kind without rows", beside(false, true)),
-        place("Write: numbers beside a kind without rows", beside(false, false)),
-        place("Write: numbers after the rows of an Update", beside(true, false)),
-        place("Write: status 255, Update or Error", status_255(UNSOLICITED, true)),
-        place("Write: status 255, other kind", status_255(UNSOLICITED, false)),
+        place(
+            "Write: rows beside a kind without rows",
+            beside(false, true),
+        ),
+        place(
+            "Write: numbers beside a kind without rows",
+            beside(false, false),
+        ),
+        place(
+            "Write: numbers after the rows of an Update",
+            beside(true, false),
+        ),
+        place(
+            "Write: status 255, Update or Error",
+            status_255(UNSOLICITED, true),
+        ),
+        place(
+            "Write: status 255, other kind",
+            status_255(UNSOLICITED, false),
+        ),
     ]
 }

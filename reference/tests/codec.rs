@@ -425,9 +425,15 @@ fn the_longest_update_that_can_be_written() {
 fn short_buffer_3_before_bad_meaning_16() {
     let mut short = vec![FILL; 2047];
     let hello = meaning(1, Body::Hello);
-    assert_eq!(message::write(&hello, &[], &mut short), Err(Answer::ShortBuffer));
+    assert_eq!(
+        message::write(&hello, &[], &mut short),
+        Err(Answer::ShortBuffer)
+    );
     let bad = meaning(3, Body::Hello);
-    assert_eq!(message::write(&bad, &[], &mut short), Err(Answer::ShortBuffer));
+    assert_eq!(
+        message::write(&bad, &[], &mut short),
+        Err(Answer::ShortBuffer)
+    );
     assert!(short.iter().all(|octet| *octet == FILL));
     assert_eq!(written(&bad), Err(16));
 }
@@ -462,6 +468,27 @@ fn writer_refuses_bad_updates_16() {
     assert_eq!(update(NET, vec![row(a, N, 512)]), Err(16));
     assert_eq!(update(NET, vec![row(a, N, 0); 129]), Err(16));
     assert_eq!(update(NET, vec![row(a, N, 256), row(a, N, 255)]), Err(16));
+}
+
+#[test]
+fn writer_refuses_numbers_that_are_no_rows_16() {
+    let write = |message: &Message, loose: &[u32]| {
+        let mut buffer = vec![FILL; 2048];
+        let answer = message::write(message, loose, &mut buffer).map_err(Answer::number);
+        assert!(answer.is_ok() || buffer.iter().all(|octet| *octet == FILL));
+        answer
+    };
+    for (kind, rest) in bodies() {
+        let octets = peer(kind.type_and_code(), 0, 1, &rest);
+        let good = message::read(&octets, NET).expect("good");
+        assert_eq!(write(&good, &[]), Ok(octets.len()));
+        for loose in [&[0][..], &[NET, N]] {
+            assert_eq!(write(&good, loose), Err(16), "{kind:?}");
+        }
+        if kind != Kind::Update {
+            assert_eq!(write(&good, &[NET, N, 0]), Err(16), "{kind:?}");
+        }
+    }
 }
 
 #[test]

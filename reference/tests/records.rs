@@ -6,8 +6,10 @@ use common::*;
 use reference::call::{Bench, Buffer, Call};
 use reference::compare;
 use reference::generate::Generator;
-use reference::record::{self, Given, ANSWER_HEAD, READING, RECORD_HEAD, STATE_BLOCK};
+use reference::message::{Body, Message};
+use reference::record::{self, Given, ANSWER_HEAD, MEANING, READING, RECORD_HEAD, STATE_BLOCK};
 use reference::sample;
+use reference::update::Row;
 
 #[test]
 fn the_stored_list_is_the_sample() {
@@ -57,6 +59,34 @@ fn a_record_has_its_fields_where_the_format_says() {
     assert_eq!(
         octets[RECORD_HEAD..],
         hex("01 02 03 80 09 00 00 80 09 00 01")
+    );
+}
+
+#[test]
+fn loose_numbers_follow_the_rows() {
+    let row = Row {
+        net: NET,
+        gateway: N,
+        distance: 1,
+    };
+    let call = Call::Write {
+        message: Message {
+            status: 1,
+            as_number: 7,
+            sequence: 1,
+            body: Body::Update {
+                net: NET,
+                rows: vec![row],
+            },
+        },
+        loose: vec![5],
+        buffer: reply_buffer(),
+    };
+    let octets = record::encode(&call, 1);
+    assert_eq!(octets[24..28], [0, 0, 0, 4]);
+    assert_eq!(
+        octets[RECORD_HEAD + MEANING..],
+        hex("80 09 00 00 80 09 00 05 00 00 00 01 00 00 00 05")
     );
 }
 

@@ -7,10 +7,10 @@ use crate::message::{Body, Kind, Message, LONGEST};
 use crate::neighbour::{Mode, Neighbour, NeighbourState};
 use crate::net::{self, Class};
 use crate::random::Random;
-use crate::update::{EXTERNAL, MOST_ROWS};
+use crate::update::{Row, EXTERNAL, MOST_ROWS};
 
 /// The rules of well-formedness, one to break each.
-pub const STATE_FAULTS: [&str; 36] = [
+pub const STATE_FAULTS: [&str; 47] = [
     "own AS 0",
     "capability above 2",
     "common net not left justified",
@@ -23,8 +23,18 @@ pub const STATE_FAULTS: [&str; 36] = [
     "free slot not zero",
     "row count above 128",
     "row count outside Up",
-    "Idle with S or R",
-    "Idle with a timer",
+    "Idle with S",
+    "Idle with R",
+    "Idle with T1",
+    "Idle with T2",
+    "Idle with a mode",
+    "Idle with t1",
+    "Idle with t2",
+    "Idle with t3",
+    "Idle with a register",
+    "Idle with heard",
+    "Idle with a cause",
+    "Idle with a row count",
     "t1 above 122",
     "t2 above 482",
     "t3 above 3,600",
@@ -44,7 +54,8 @@ pub const STATE_FAULTS: [&str; 36] = [
     "T1 outside Down and Up",
     "T2 outside Down and Up",
     "mode outside Down and Up",
-    "cause not 5 or 6 in Cease",
+    "cause below 5 in Cease",
+    "cause above 6 in Cease",
     "no cause in Cease",
     "cause outside Cease",
 ];
@@ -65,7 +76,7 @@ pub fn break_state(random: &mut Random, state: &mut State) -> &'static str {
     let phase = match fault {
         "row count above 128" | "t2 0 in Up" | "t2 above 482" => Up,
         "row count outside Up" | "t2 outside Up" => random.pick(&outside_up),
-        "Idle with S or R" | "Idle with a timer" => Idle,
+        _ if fault.starts_with("Idle with") => Idle,
         "t1 above 122" | "t3 above 3,600" | "t1 0 outside Idle" | "t3 0 outside Idle" => {
             random.pick(&running)
         }
@@ -81,7 +92,7 @@ pub fn break_state(random: &mut Random, state: &mut State) -> &'static str {
         | "T1 outside Down and Up"
         | "T2 outside Down and Up"
         | "mode outside Down and Up" => random.pick(&unacquired),
-        "cause not 5 or 6 in Cease" | "no cause in Cease" => Cease,
+        "cause below 5 in Cease" | "cause above 6 in Cease" | "no cause in Cease" => Cease,
         "cause outside Cease" => random.pick(&[Acquisition, Down, Up]),
         _ => random.pick(&NeighbourState::ALL),
     };
@@ -123,41 +134,54 @@ pub fn break_state(random: &mut Random, state: &mut State) -> &'static str {
                 n.as_number = 1;
             }
         }
-        "row count above 128" => n.row_count = random.pick(&[129, 130, u16::MAX]),
+        "row count above 128" => n.row_count = nearest(random, 129, &[130, u16::MAX]),
         "row count outside Up" => n.row_count = random.pick(&[1, 128]),
-        "Idle with S or R" => match random.below(2) {
-            0 => n.send_sequence = random.number16().max(1),
-            _ => n.receive_sequence = random.number16().max(1),
-        },
-        "Idle with a timer" => match random.below(3) {
-            0 => n.t1 = random.between(1, 122) as u16,
-            1 => n.t2 = 1,
-            _ => n.t3 = random.between(1, 3600) as u16,
-        },
-        "t1 above 122" => n.t1 = random.pick(&[123, 200, u16::MAX]),
-        "t2 above 482" => n.t2 = random.pick(&[483, 500, u16::MAX]),
-        "t3 above 3,600" => n.t3 = random.pick(&[3601, 4000, u16::MAX]),
+        "Idle with S" => n.send_sequence = nearest(random, 1, &[2, u16::MAX]),
+        "Idle with R" => n.receive_sequence = nearest(random, 1, &[2, u16::MAX]),
+        "Idle with T1" => n.hello_interval = nearest(random, 1, &[32, 122]),
+        "Idle with T2" => n.poll_interval = nearest(random, 1, &[122, 482]),
+        "Idle with a mode" => n.mode = nearest(random, Mode::Active, &[Mode::Passive]),
+        "Idle with t1" => n.t1 = nearest(random, 1, &[30, 122]),
+        "Idle with t2" => n.t2 = nearest(random, 1, &[122, 482]),
+        "Idle with t3" => n.t3 = nearest(random, 1, &[120, 3600]),
+        "Idle with a register" => n.register = nearest(random, 1, &[8, 15]),
+        "Idle with heard" => n.heard = 1,
+        "Idle with a cause" => n.cause = nearest(random, 1, &[5, 6]),
+        "Idle with a row count" => n.row_count = nearest(random, 1, &[2, 128]),
+        "t1 above 122" => n.t1 = nearest(random, 123, &[200, u16::MAX]),
+        "t2 above 482" => n.t2 = nearest(random, 483, &[500, u16::MAX]),
+        "t3 above 3,600" => n.t3 = nearest(random, 3601, &[4000, u16::MAX]),
         "t1 0 outside Idle" => n.t1 = 0,
         "t3 0 outside Idle" => n.t3 = 0,
         "t2 0 in Up" => n.t2 = 0,
         "t2 outside Up" => n.t2 = random.between(1, 482) as u16,
-        "register above 15" => n.register = random.pick(&[16, 31, 255]),
-        "heard above 1" => n.heard = random.pick(&[2, 3, 255]),
+        "register above 15" => n.register = nearest(random, 16, &[31, 255]),
+        "heard above 1" => n.heard = nearest(random, 2, &[3, 255]),
         "register outside Down and Up" => n.register = random.between(1, 15) as u8,
         "heard outside Down and Up" => n.heard = 1,
-        "T1 below 32" => n.hello_interval = random.pick(&[0, 1, 31]),
-        "T1 above 122" => n.hello_interval = random.pick(&[123, u16::MAX]),
-        "T2 below 122" => n.poll_interval = random.pick(&[0, 1, 121]),
-        "T2 above 482" => n.poll_interval = random.pick(&[483, u16::MAX]),
+        "T1 below 32" => n.hello_interval = nearest(random, 31, &[0, 1]),
+        "T1 above 122" => n.hello_interval = nearest(random, 123, &[u16::MAX]),
+        "T2 below 122" => n.poll_interval = nearest(random, 121, &[0, 1]),
+        "T2 above 482" => n.poll_interval = nearest(random, 483, &[u16::MAX]),
         "no mode in Down or Up" => n.mode = Mode::None,
         "T1 outside Down and Up" => n.hello_interval = random.pick(&[1, 32]),
         "T2 outside Down and Up" => n.poll_interval = random.pick(&[1, 122]),
         "mode outside Down and Up" => n.mode = random.pick(&[Mode::Active, Mode::Passive]),
-        "cause not 5 or 6 in Cease" => n.cause = random.pick(&[1, 4, 7, 255]),
+        "cause below 5 in Cease" => n.cause = nearest(random, 4, &[1, 3]),
+        "cause above 6 in Cease" => n.cause = nearest(random, 7, &[8, 255]),
         "no cause in Cease" => n.cause = 0,
         _ => n.cause = random.pick(&[5, 6]),
     }
     fault
+}
+
+/// A number just out of bounds, or now and then one of those further out.
+fn nearest<T: Copy>(random: &mut Random, near: T, far: &[T]) -> T {
+    if random.thousandths(750) {
+        near
+    } else {
+        random.pick(far)
+    }
 }
 
 pub const HOME_FAULTS: [&str; 7] = [
@@ -196,7 +220,7 @@ pub fn home_list(random: &mut Random, address: u32, net: u32) -> (Vec<u32>, &'st
             let last = home.len() - 3;
             home[last + 1] ^= 0x4000_0000;
         }
-        "home number above 255" => home[row + 2] = random.pick(&[256, 257, 511, u32::MAX]),
+        "home number above 255" => home[row + 2] = nearest(random, 256, &[257, 511, u32::MAX]),
         _ => home[1] ^= 1,
     }
     (home, fault)
@@ -212,26 +236,33 @@ pub struct Sender {
 }
 
 /// Faults of a message, with how often each is made.
-pub const MESSAGE_FAULTS: [(u32, &str); 22] = [
+pub const MESSAGE_FAULTS: [(u32, &str); 28] = [
     (2, "message too short"),
     (1, "message too long"),
-    (3, "version"),
+    (4, "version"),
     (2, "checksum"),
     (2, "checksum FFFF for 0000"),
     (3, "wrong AS"),
     (3, "wrong AS on a Request"),
+    (2, "wrong AS near a Request"),
     (4, "unknown kind"),
     (2, "unknown kind of type 8"),
     (7, "status"),
-    (7, "length"),
-    (8, "out of sequence"),
+    (8, "length"),
+    (12, "out of sequence"),
+    // Two checks that stand next to each other.
+    (3, "size and version"),
+    (3, "checksum and AS"),
+    (2, "kind and status"),
+    (4, "length and sequence"),
+    (3, "sequence and body"),
     (2, "Update for another net"),
     (2, "Update cut short"),
     (2, "Update with octets left over"),
     (2, "Update with a net of no class"),
     (2, "Update with a wrong gateway count"),
     (2, "Update with a wrong net count"),
-    (1, "Update of 129 rows and a defect"),
+    (2, "Update of 129 rows and a defect"),
     (5, "Update above 128 rows"),
     (12, "any kind, status and length"),
     (6, "octets changed at random"),
@@ -287,19 +318,21 @@ pub fn message(random: &mut Random, sender: Sender, fault: &str) -> Vec<u8> {
             let as_number = other_as(random, sender.as_number);
             let sequence = material::sequence(random);
             let intervals = [random.octet() & 1, random.octet(), 0, random.octet()];
-            let (status, rest) = match random.below(6) {
-                0 => (3, &intervals[..]),
-                1 => (0, &intervals[..2]),
-                2 => (1, &[][..]),
-                _ => (random.below(3) as u8, &intervals[..]),
+            let status = random.below(3) as u8;
+            material::frame((3, 0), status, as_number, sequence, &intervals)
+        }
+        "wrong AS near a Request" => {
+            let as_number = other_as(random, sender.as_number);
+            let sequence = material::sequence(random);
+            let allowed = random.below(3) as u8;
+            let (pair, status, rest) = match random.below(4) {
+                0 => ((3, 1), allowed, 4),
+                1 => (random.pick(&NO_REQUEST), allowed, 4),
+                2 => ((3, 0), 3, 4),
+                _ => ((3, 0), allowed, random.pick(&[0, 2, 3, 5, 6, 14])),
             };
-            material::frame(
-                Kind::Request.type_and_code(),
-                status,
-                as_number,
-                sequence,
-                rest,
-            )
+            let rest: Vec<u8> = (0..rest).map(|_| random.octet()).collect();
+            material::frame(pair, status, as_number, sequence, &rest)
         }
         "unknown kind" => {
             let pair = loop {
@@ -351,21 +384,62 @@ pub fn message(random: &mut Random, sender: Sender, fault: &str) -> Vec<u8> {
                 Kind::IHeardYou,
                 Kind::Update,
             ]);
-            let off = match random.below(4) {
-                0 => 1,
-                1 => u16::MAX,
-                _ => random.number16().max(1),
-            };
             let late = Sender {
-                sequence: sender.sequence.wrapping_add(off),
+                sequence: off_sequence(random, sender.sequence),
                 ..sender
             };
-            if kind == Kind::Update && random.thousandths(300) {
-                // A bad body too: 13 stands before 14.
-                bad_update(random, late, "Update cut short")
+            good_of(random, late, kind)
+        }
+        "size and version" => {
+            let mut octets = good(random, sender);
+            if random.thousandths(500) {
+                octets.truncate(random.between(1, 9) as usize);
             } else {
-                good_of(random, late, kind)
+                octets.resize(LONGEST + 1 + random.below(40), 0);
             }
+            octets[0] = random.pick(&[0, 1, 3, 255]);
+            octets
+        }
+        "checksum and AS" => {
+            let mut octets = message(random, sender, "wrong AS");
+            octets[4 + random.below(2)] ^= 1 << random.below(8);
+            octets
+        }
+        "kind and status" => {
+            let status = random.pick(&[8, 64, 127, 131, 132, 255]);
+            let sequence = material::sequence(random);
+            let rest = vec![0; random.pick(&[0, 4, 6, 14])];
+            let pair = random.pick(&NO_KIND);
+            material::frame(pair, status, sender.as_number, sequence, &rest)
+        }
+        "length and sequence" => {
+            let (kind, length) = random.pick(&[
+                (Kind::Confirm, 10),
+                (Kind::Confirm, 13),
+                (Kind::Confirm, 15),
+                (Kind::Refuse, 11),
+                (Kind::Refuse, 14),
+                (Kind::CeaseAck, 11),
+                (Kind::CeaseAck, 24),
+                (Kind::IHeardYou, 11),
+                (Kind::IHeardYou, 14),
+                (Kind::Update, 10),
+                (Kind::Update, 15),
+            ]);
+            let mut octets = good_of(random, sender, kind);
+            let sequence = off_sequence(random, sender.sequence);
+            octets[8..10].copy_from_slice(&sequence.to_be_bytes());
+            octets.resize(length, 0);
+            checksum::seal(&mut octets);
+            octets
+        }
+        "sequence and body" => {
+            let late = Sender {
+                sequence: off_sequence(random, sender.sequence),
+                ..sender
+            };
+            let body_fault = random.pick(&BODY_FAULTS);
+            bad_update(random, late, body_fault)
         }
         // No rule is asked here, so that a rule misread cannot keep its own cases out of a list.
         "any kind, status and length" => {
@@ -457,6 +531,44 @@ pub fn zero_checksum(random: &mut Random, sender: Sender) -> Vec<u8> {
     octets
 }
 
+/// Pairs of type and code that are no kind's, and pairs that are not a Request's.
+const NO_KIND: [(u8, u8); 12] = [
+    (0, 0),
+    (1, 1),
+    (2, 1),
+    (3, 5),
+    (3, 255),
+    (4, 0),
+    (5, 2),
+    (6, 0),
+    (7, 0),
+    (8, 1),
+    (9, 0),
+    (255, 0),
+];
+const NO_REQUEST: [(u8, u8); 10] = [
+    (3, 2),
+    (3, 3),
+    (3, 4),
+    (3, 5),
+    (5, 0),
+    (5, 1),
+    (2, 0),
+    (1, 0),
+    (8, 0),
+    (4, 0),
+];
+
+/// A number that is not S.
+fn off_sequence(random: &mut Random, sequence: u16) -> u16 {
+    let off = match random.below(4) {
+        0 => 1,
+        1 => u16::MAX,
+        _ => random.number16().max(1),
+    };
+    sequence.wrapping_add(off)
+}
+
 fn other_as(random: &mut Random, as_number: u16) -> u16 {
     match random.below(3) {
         0 => as_number.wrapping_add(1),
@@ -487,6 +599,17 @@ fn wrong_length(random: &mut Random, sender: Sender) -> Vec<u8> {
     checksum::seal(&mut octets);
     octets
 }
+
+/// Faults of an Update's body that Up answers 14.
+pub const BODY_FAULTS: [&str; 7] = [
+    "Update for another net",
+    "Update cut short",
+    "Update with octets left over",
+    "Update with a net of no class",
+    "Update with a wrong gateway count",
+    "Update with a wrong net count",
+    "Update of 129 rows and a defect",
+];
 
 /// An Update that answers 14 or 15 in Up, made by the named fault.
 fn bad_update(random: &mut Random, sender: Sender, fault: &str) -> Vec<u8> {
@@ -541,9 +664,20 @@ fn bad_update(random: &mut Random, sender: Sender, fault: &str) -> Vec<u8> {
         }
         "Update of 129 rows and a defect" => {
             blocks = many(random, 2);
-            match random.below(3) {
+            match random.below(6) {
                 0 => blocks.octets.push(0),
-                1 => blocks.octets.truncate(blocks.octets.len() - 1),
+                1 => blocks.external += 1,
+                2 => {
+                    add_internal_block(random, &mut blocks, net);
+                    blocks.octets.pop();
+                }
+                3 => {
+                    add_internal_block(random, &mut blocks, net);
+                    blocks.octets.pop();
+                    blocks.octets.push(224);
+                }
+                // In the last of them.
+                4 => blocks.octets.truncate(blocks.octets.len() - 1),
                 _ => {
                     let last = blocks.octets.len() - 1;
                     blocks.octets[last] = 224;
@@ -611,35 +745,95 @@ fn many_rows(random: &mut Random, net: u32, groups: usize) -> material::Blocks {
     }
 }
 
-pub const MEANING_FAULTS: [&str; 9] = [
-    "meaning: status",
-    "meaning: Update net of no class",
-    "meaning: Update net not left justified",
-    "meaning: row net of no class",
-    "meaning: row net not left justified",
-    "meaning: row gateway off the net",
-    "meaning: row number above 511",
-    "meaning: above 128 rows",
-    "meaning: internal row after external",
+/// Faults of a meaning, with how often each is made.
+pub const MEANING_FAULTS: [(u32, &str); 13] = [
+    (2, "meaning: status"),
+    (3, "meaning: status 255"),
+    (2, "meaning: any status"),
+    (4, "meaning: numbers beside a kind without rows"),
+    (2, "meaning: numbers after the last row"),
+    (2, "meaning: Update net of no class"),
+    (2, "meaning: Update net not left justified"),
+    (2, "meaning: row net of no class"),
+    (2, "meaning: row net not left justified"),
+    (2, "meaning: row gateway off the net"),
+    (2, "meaning: row number above 511"),
+    (2, "meaning: above 128 rows"),
+    (2, "meaning: internal row after external"),
 ];
 
-/// A meaning the writer refuses.
-pub fn meaning(random: &mut Random) -> (Message, &'static str) {
-    let fault = random.pick(&MEANING_FAULTS);
-    if fault == "meaning: status" {
-        let kind = random.pick(&Kind::ALL);
-        let mut message = material::message(random, kind);
-        message.status = loop {
-            let status = random.octet();
-            if !kind.allows_status(status) {
-                break status;
-            }
-        };
-        return (message, fault);
+/// A meaning the writer refuses, with the loose numbers beside it (any status may be a good one).
+pub fn meaning(random: &mut Random) -> (Message, Vec<u32>, &'static str) {
+    let fault = random.weighted(&MEANING_FAULTS);
+    match fault {
+        "meaning: status" => {
+            let kind = random.pick(&Kind::ALL);
+            let mut message = material::message(random, kind);
+            message.status = loop {
+                let status = random.octet();
+                if !kind.allows_status(status) {
+                    break status;
+                }
+            };
+            (message, Vec::new(), fault)
+        }
+        "meaning: status 255" => {
+            let unsolicited = random.pick(&[Kind::Update, Kind::Error]);
+            let any = random.pick(&Kind::ALL);
+            let kind = random.pick(&[unsolicited, any]);
+            let mut message = material::message(random, kind);
+            message.status = 255;
+            (message, Vec::new(), fault)
+        }
+        "meaning: any status" => {
+            let kind = random.pick(&Kind::ALL);
+            let mut message = material::message(random, kind);
+            message.status = random.octet();
+            (message, Vec::new(), fault)
+        }
+        "meaning: numbers beside a kind without rows" => {
+            let kind = random.pick(&WITHOUT_ROWS);
+            let message = material::message(random, kind);
+            let count = random.pick(&[1, 2, 3, 3, 6, 384, 385]);
+            (message, loose_numbers(random, count), fault)
+        }
+        "meaning: numbers after the last row" => {
+            let message = material::message(random, Kind::Update);
+            let count = random.pick(&[1, 2]);
+            (message, loose_numbers(random, count), fault)
+        }
+        update_fault => (bad_update_meaning(random, update_fault), Vec::new(), fault),
     }
+}
+
+const WITHOUT_ROWS: [Kind; 9] = [
+    Kind::Request,
+    Kind::Confirm,
+    Kind::Refuse,
+    Kind::Cease,
+    Kind::CeaseAck,
+    Kind::Hello,
+    Kind::IHeardYou,
+    Kind::Poll,
+    Kind::Error,
+];
+
+/// Numbers that would be good rows of some Update, or zeros, which are as much too many.
+fn loose_numbers(random: &mut Random, count: usize) -> Vec<u32> {
+    if random.thousandths(300) {
+        return vec![0; count];
+    }
+    let net = material::net(random);
+    let rows = material::rows(random, net, count / 3 + 1, false);
+    let numbers = rows.iter().flat_map(Row::numbers);
+    numbers.take(count).collect()
+}
+
+/// The meaning of an Update that the writer refuses.
+fn bad_update_meaning(random: &mut Random, fault: &str) -> Message {
     let mut message = material::message(random, Kind::Update);
     let Body::Update { net, rows } = &mut message.body else {
-        return (message, fault);
+        return message;
     };
     let count = random.between(2, 8) as usize;
     *rows = material::rows(random, *net, count, false);
@@ -659,5 +853,5 @@ pub fn meaning(random: &mut Random) -> (Message, &'static str) {
         }
         _ => rows[random.below(count - 1)].distance = EXTERNAL + 1,
     }
-    (message, fault)
+    message
 }

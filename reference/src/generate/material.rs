@@ -399,10 +399,10 @@ pub fn neighbour(
     neighbour.send_sequence = sequence(random);
     neighbour.receive_sequence = sequence(random);
     neighbour.t1 = timer(random, 122);
-    neighbour.t3 = if random.thousandths(150) {
-        1
-    } else {
-        random.between(2, 3600) as u16
+    neighbour.t3 = match random.below(20) {
+        0..=2 => 1,
+        3 => 3600,
+        _ => random.between(2, 3600) as u16,
     };
     if state.is_acquired() {
         neighbour.hello_interval = random.pick(&[32, 32, 33, 77, 122]);

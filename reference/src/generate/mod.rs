@@ -17,12 +17,17 @@ use crate::call::{Bench, Buffer, Call};
 use crate::checksum;
 use crate::gateway::{self, State, SLOTS, TABLE_NUMBERS};
 use crate::listing::LISTING_BUFFER;
-use crate::message::{self, Body, Intervals, Kind, Message, REPLY_BUFFER};
+use crate::message::{self, Body, Intervals, Kind, Message, LONGEST, REPLY_BUFFER};
 use crate::neighbour::{Mode, Neighbour, NeighbourState, STATUS_UP};
 use crate::net;
 use crate::random::Random;
 use crate::update::MOST_ROWS;
 use faults::Sender;
+
+/// How often in a thousand a buffer is too short: in a list's life, and where a check that stands
+/// before its own fails too.
+const SELDOM: u64 = 150;
+const OFTEN: u64 = 400;
 
 /// How the state a call works on came about.
 #[derive(Clone, Copy, Debug, PartialEq, Eq)]
@@ -92,8 +97,20 @@ enum Temper {
     Restless,
 }
 
+/// What comes from outside.
+#[derive(Clone, Copy, Debug, PartialEq, Eq)]
+enum Handed {
+    /// Most likely a well-formed state, with a table of the right length.
+    State,
+    /// A state that breaks one rule.
+    BrokenState,
+    /// A table of a wrong length.
+    Table,
+}
+
 /// What is put aside while a state or table from outside is worked on.
 struct Aside {
+    handed: Handed,
     state: State,
     table: Vec<u32>,
 }
@@ -106,6 +123,8 @@ pub struct Generator {
     aside: Option<Aside>,
     /// Calls still to be made on what was handed in.
     handed_left: usize,
+    /// Broken states still to be handed in before the list goes on.
+    broken_left: usize,
     /// Calls still to be made before the next fresh.
     list_left: usize,
     /// Whether this list is still bringing every neighbour Up with 128 rows.
@@ -123,6 +142,7 @@ impl Generator {
             queue: VecDeque::new(),
             aside: None,
             handed_left: 0,
+            broken_left: 0,
             list_left: 0,
             filling: false,
             focus: 0,
@@ -135,10 +155,14 @@ impl Generator {
         if let Some(step) = self.queue.pop_front() {
             return step;
         }
-        if self.aside.is_some() {
+        if let Some(aside) = &self.aside {
             if self.handed_left > 0 {
                 self.handed_left -= 1;
-                return self.call_on_handed();
+                return self.call_on_handed(aside.handed);
+            }
+            if self.broken_left > 0 {
+                self.broken_left -= 1;
+                return self.break_state(aside.state);
             }
             self.take_back();
             return self.choose();
@@ -153,19 +177,19 @@ impl Generator {
         }
         match self.random.below(1000) {
             0..=59 => self.read_alone(),
-            60..=89 => self.write_alone(),
-            90..=164 => self.hand_well_formed(),
-            165..=199 => self.hand_broken(),
-            200..=216 => self.hand_table(),
-            217..=223 => self.refused_fresh(),
-            224..=258 => self.wrong_argument(),
-            259..=348 => {
+            60..=99 => self.write_alone(),
+            100..=174 => self.hand_well_formed(),
+            175..=209 => self.hand_broken(),
+            210..=226 => self.hand_table(),
+            227..=233 => self.refused_fresh(),
+            234..=278 => self.wrong_argument(),
+            279..=378 => {
                 let slot = self.used_slot();
                 self.faulty_message(slot)
             }
-            349..=363 => self.membership(),
-            364..=368 => self.list(),
-            369..=370 => self.near_the_turn(),
+            379..=393 => self.membership(),
+            394..=398 => self.list(SELDOM),
+            399..=400 => self.near_the_turn(),
             _ => self.live(),
         }
     }
@@ -212,10 +236,10 @@ impl Generator {
         let Some(slot) = unfilled else {
             self.filling = false;
             for _ in 0..7 {
-                let step = self.list();
+                let step = self.list(SELDOM);
                 self.queue.push_back((step.0, "full list"));
             }
-            return self.list();
+            return self.list(SELDOM);
         };
         let neighbour = self.bench.state.neighbours[slot];
         match neighbour.state {
@@ -534,11 +558,17 @@ impl Generator {
         let sender = self.sender(slot);
         let random = &mut self.random;
         let fault = match self.bench.state.neighbours[slot].state {
-            NeighbourState::Idle if random.thousandths(300) => "wrong AS on a Request",
-            NeighbourState::Acquisition | NeighbourState::Cease if random.thousandths(400) => {
-                "out of sequence"
+            NeighbourState::Idle if random.thousandths(500) => {
+                random.weighted(&[(2, "wrong AS on a Request"), (3, "wrong AS near a Request")])
             }
-            NeighbourState::Up if random.thousandths(100) => "Update above 128 rows",
+            NeighbourState::Acquisition | NeighbourState::Cease if random.thousandths(500) => {
+                random.weighted(&[(4, "out of sequence"), (1, "wrong AS on a Request")])
+            }
+            NeighbourState::Up if random.thousandths(200) => random.weighted(&[
+                (2, "Update above 128 rows"),
+                (1, "Update of 129 rows and a defect"),
+                (1, "sequence and body"),
+            ]),
             _ => random.weighted(&faults::MESSAGE_FAULTS),
         };
         let octets = faults::message(random, sender, fault);
@@ -548,7 +578,7 @@ impl Generator {
     /// A short buffer, a bad home list, an unknown address, or several at once.
     fn wrong_argument(&mut self) -> (Call, &'static str) {
         let slot = self.used_slot();
-        let (mut call, _) = match self.random.below(5) {
+        let (mut call, _) = match self.random.below(6) {
             0 => (self.event(slot, Act::Start), ""),
             1 => (self.event(slot, Act::Stop), ""),
             2 => (self.event(slot, Act::Tick), ""),
@@ -560,14 +590,17 @@ impl Generator {
         };
         let state = self.bench.state;
         let unknown = self.unknown_address();
-        let short = Buffer {
-            length: self.random.pick(&[0, 1, 10, 24, 2047]),
-            fill: self.random.octet(),
-        };
         let mut aim = "";
         let wanted = self.random.between(1, 7);
         if wanted & 1 != 0 {
             aim = "unknown address";
+            if let Call::Message { octets, .. } = &mut call {
+                match self.random.below(8) {
+                    0 => octets.truncate(self.random.below(10)),
+                    1 => octets.resize(LONGEST + 1, 0),
+                    _ => {}
+                }
+            }
             match &mut call {
                 Call::Start { address, .. }
                 | Call::Stop { address, .. }
@@ -583,15 +616,24 @@ impl Generator {
         }
         if wanted & 4 != 0 && self.random.thousandths(600) || aim.is_empty() {
             aim = "short buffer";
-            match &mut call {
-                Call::Start { reply, .. }
-                | Call::Stop { reply, .. }
-                | Call::Tick { reply, .. }
-                | Call::Message { reply, .. } => *reply = short,
-                _ => {}
-            }
+            self.shorten(&mut call);
         }
         (call, aim)
+    }
+
+    /// Lends a call a reply buffer that is too short.
+    fn shorten(&mut self, call: &mut Call) {
+        let short = Buffer {
+            length: self.random.pick(&[0, 1, 10, 24, 2047]),
+            fill: self.random.octet(),
+        };
+        match call {
+            Call::Start { reply, .. }
+            | Call::Stop { reply, .. }
+            | Call::Tick { reply, .. }
+            | Call::Message { reply, .. } => *reply = short,
+            _ => {}
+        }
     }
 
     fn unknown_address(&mut self) -> u32 {
@@ -636,8 +678,9 @@ impl Generator {
         }
     }
 
-    fn list(&mut self) -> (Call, &'static str) {
-        let length = if self.random.thousandths(150) {
+    /// A listing, so often in a thousand with too short a buffer.
+    fn list(&mut self, short: u64) -> (Call, &'static str) {
+        let length = if self.random.thousandths(short) {
             self.random.pick(&[0, 100, 2048, LISTING_BUFFER - 1])
         } else {
             LISTING_BUFFER + self.random.below(2)
@@ -651,7 +694,7 @@ impl Generator {
 
     /// Fresh refused: the all-zero state it leaves is not well formed, which a few calls see.
     fn refused_fresh(&mut self) -> (Call, &'static str) {
-        self.put_aside();
+        self.put_aside(Handed::State);
         self.handed_left = self.random.below(3);
         let mut own = material::settings(&mut self.random);
         let aim = match self.random.below(6) {
@@ -689,8 +732,9 @@ impl Generator {
 
     // States and tables from outside.
 
-    fn put_aside(&mut self) {
+    fn put_aside(&mut self, handed: Handed) {
         self.aside = Some(Aside {
+            handed,
             state: self.bench.state,
             table: self.bench.table.clone(),
         });
@@ -712,38 +756,47 @@ impl Generator {
 
     /// A well-formed state that most likely no list of calls reaches, with any table.
     fn hand_well_formed(&mut self) -> (Call, &'static str) {
-        self.put_aside();
+        self.put_aside(Handed::State);
         self.handed_left = self.random.between(1, 5) as usize;
         let state = material::state(&mut self.random);
         let listable = self.random.thousandths(850);
         let table = material::table(&mut self.random, &state, listable);
         self.queue
             .push_back((Call::HandTable(table), "table handed in"));
+        if !listable {
+            let step = self.list(OFTEN);
+            self.queue.push_back(step);
+        }
         (Call::HandState(Box::new(state)), "state handed in")
     }
 
-    /// A state that breaks one rule, and one call on it.
+    /// States that break one rule, one after the other, and one call on each; the table may be
+    /// of a wrong length besides.
     fn hand_broken(&mut self) -> (Call, &'static str) {
-        self.put_aside();
+        self.put_aside(Handed::BrokenState);
+        self.broken_left = self.random.below(4);
+        if self.random.thousandths(250) {
+            let table = self.table_of_wrong_length();
+            self.queue
+                .push_back((Call::HandTable(table), "table handed in"));
+        }
+        self.break_state(self.bench.state)
+    }
+
+    /// A state that breaks one rule: this one, or another.
+    fn break_state(&mut self, mut state: State) -> (Call, &'static str) {
         self.handed_left = 1;
-        let mut state = self.bench.state;
         let none_used = !state.neighbours.iter().any(|neighbour| neighbour.is_used());
         if none_used || self.random.thousandths(500) {
             state = material::state(&mut self.random);
         }
         let fault = faults::break_state(&mut self.random, &mut state);
-        if self.random.thousandths(100) {
-            // Check 1 stands before check 2.
-            let table = self.table_of_wrong_length();
-            self.queue
-                .push_back((Call::HandTable(table), "table handed in"));
-        }
         (Call::HandState(Box::new(state)), fault)
     }
 
     /// A table of a wrong length under the state that was reached.
     fn hand_table(&mut self) -> (Call, &'static str) {
-        self.put_aside();
+        self.put_aside(Handed::Table);
         self.handed_left = self.random.between(1, 3) as usize;
         (
             Call::HandTable(self.table_of_wrong_length()),
@@ -765,13 +818,44 @@ impl Generator {
     }
 
     /// Any call at all on what was handed in; the list's own neighbour stays at hand.
-    fn call_on_handed(&mut self) -> (Call, &'static str) {
+    fn call_on_handed(&mut self, handed: Handed) -> (Call, &'static str) {
         let kept = self.focus;
         self.focus = self.random.below(SLOTS);
         self.focus = self.used_slot();
-        let (call, aim) = self.any_call(self.focus);
+        let (call, aim) = match handed {
+            Handed::State => self.any_call(self.focus),
+            Handed::BrokenState => self.call_on_broken(self.focus),
+            Handed::Table => self.call_on_table(self.focus),
+        };
         self.focus = kept;
         (call, if aim == "life" { "handed in" } else { aim })
+    }
+
+    /// Each call that makes check 1 about as often.
+    fn call_on_broken(&mut self, slot: usize) -> (Call, &'static str) {
+        match self.random.below(8) {
+            0 => (self.event(slot, Act::Start), "handed in"),
+            1 => (self.event(slot, Act::Stop), "handed in"),
+            2 => (self.event(slot, Act::Tick), "handed in"),
+            3 => self.list(OFTEN),
+            4..=5 => self.membership(),
+            _ => self.any_call(slot),
+        }
+    }
+
+    /// Each call that makes check 2 about as often, many with too short a buffer.
+    fn call_on_table(&mut self, slot: usize) -> (Call, &'static str) {
+        let (mut call, aim) = match self.random.below(6) {
+            0 => (self.event(slot, Act::Start), "handed in"),
+            1 => (self.event(slot, Act::Stop), "handed in"),
+            2 => (self.event(slot, Act::Tick), "handed in"),
+            3 => self.list(OFTEN),
+            _ => self.any_call(slot),
+        };
+        if self.random.thousandths(OFTEN) {
+            self.shorten(&mut call);
+        }
+        (call, aim)
     }
 
     fn any_call(&mut self, slot: usize) -> (Call, &'static str) {
@@ -779,7 +863,7 @@ impl Generator {
         if !net::is_net(self.bench.state.net) {
             return match self.random.below(5) {
                 0 => self.membership_anywhere(),
-                1 => self.list(),
+                1 => self.list(SELDOM),
                 2 => (self.event(slot, Act::Start), "handed in"),
                 3 => (self.event(slot, Act::Tick), "handed in"),
                 _ => {
@@ -799,7 +883,7 @@ impl Generator {
                 self.act(slot, act)
             }
             59..=84 => self.faulty_message(slot),
-            85..=91 => self.list(),
+            85..=91 => self.list(SELDOM),
             92..=94 => self.wrong_argument(),
             _ => self.membership_anywhere(),
         }
@@ -829,6 +913,9 @@ impl Generator {
             sequence: material::sequence(&mut self.random),
             net,
         };
+        if self.random.thousandths(120) {
+            return self.read_on_bad_net(sender);
+        }
         let (octets, aim) = match self.random.below(10) {
             0..=2 => {
                 let fault = self.random.weighted(&faults::MESSAGE_FAULTS);
@@ -854,32 +941,50 @@ impl Generator {
                 "read a good message",
             ),
         };
-        if self.random.thousandths(60) {
-            // A bad common net, which only Updates mind.
-            let bad = self.random.pick(&[net | 1, 0xE000_0000, u32::MAX]);
-            let mut octets = octets;
-            if octets.len() >= 16 && octets[1] == 1 && self.random.thousandths(500) {
-                octets[12..16].copy_from_slice(&bad.to_be_bytes());
-                checksum::seal(&mut octets);
-            }
-            return (Call::Read { octets, net: bad }, "read with a bad net");
-        }
         (Call::Read { octets, net }, aim)
     }
 
+    /// A bad common net, which only Updates mind; these name it themselves more often than not.
+    fn read_on_bad_net(&mut self, sender: Sender) -> (Call, &'static str) {
+        let random = &mut self.random;
+        let has_class = random.thousandths(500);
+        let net = if has_class {
+            sender.net | random.pick(&[1, 2, 255])
+        } else {
+            random.pick(&[0xE000_0000, 0xE000_0001, 0xF000_0000, u32::MAX])
+        };
+        let any = random.pick(&Kind::ALL);
+        let kind = random.pick(&[Kind::Update, any]);
+        let mut octets = faults::good_of(random, sender, kind);
+        if kind == Kind::Update && random.thousandths(800) {
+            octets[12..16].copy_from_slice(&net.to_be_bytes());
+            if !has_class && random.thousandths(700) {
+                // Without blocks, so that no host part is looked for.
+                octets[10..12].fill(0);
+                octets.truncate(16);
+            }
+            checksum::seal(&mut octets);
+        }
+        (Call::Read { octets, net }, "read with a bad net")
+    }
+
     fn write_alone(&mut self) -> (Call, &'static str) {
-        let (message, aim) = if self.random.thousandths(500) {
+        let (message, loose, aim) = if self.random.thousandths(500) {
             faults::meaning(&mut self.random)
         } else {
             let kind = self.random.pick(&Kind::ALL);
-            (material::message(&mut self.random, kind), "write")
+            let message = material::message(&mut self.random, kind);
+            (message, Vec::new(), "write")
         };
         let mut buffer = self.reply_buffer();
         if self.random.thousandths(100) {
             buffer.length = self.random.pick(&[0, 10, 100, 2047]);
         }
-        let loose = Vec::new();
-        let call = Call::Write { message, loose, buffer };
+        let call = Call::Write {
+            message,
+            loose,
+            buffer,
+        };
         (call, aim)
     }
 }

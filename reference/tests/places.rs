@@ -1,0 +1,437 @@
+//! Places: each is reached by a call made for it, and by none that lacks one thing.
+
+mod common;
+
+use common::*;
+use reference::call::{Buffer, Call};
+use reference::coverage::{self, Moment};
+use reference::gateway::TABLE_NUMBERS;
+use reference::generate::{Origin, Step};
+use reference::listing::LISTING_BUFFER;
+use reference::message::{Body, Intervals, Message};
+use reference::neighbour::{Mode, Neighbour};
+use reference::net::address;
+use reference::places::{self, Seen};
+use reference::update::Row;
+
+/// The answer to a call on a state that the host handed in, and the places it reaches.
+fn reached(gateway: &Gateway, call: Call) -> (u8, Vec<String>) {
+    let mut bench = gateway.bench.clone();
+    let record = bench.run(&call);
+    let step = Step {
+        call,
+        aim: "a test",
+        origin: Origin::HandedIn,
+    };
+    let seen = Seen {
+        step: &step,
+        before: &Moment {
+            state: &gateway.bench.state,
+            table: &gateway.bench.table,
+        },
+        record: &record,
+    };
+    let places = places::all();
+    let held = places.iter().filter(|place| place.holds(&seen));
+    let names = held.map(|place| place.name.clone()).collect();
+    (record.answer.number(), names)
+}
+
+fn reaches(gateway: &Gateway, call: Call, name: &str) -> bool {
+    assert!(places::all().iter().any(|place| place.name == name));
+    reached(gateway, call).1.iter().any(|place| place == name)
+}
+
+fn message(octets: Vec<u8>) -> Call {
+    message_with(octets, Vec::new())
+}
+
+fn message_with(octets: Vec<u8>, home: Vec<u32>) -> Call {
+    Call::Message {
+        address: N,
+        octets,
+        home,
+        reply: reply_buffer(),
+    }
+}
+
+fn tick() -> Call {
+    Call::Tick {
+        address: N,
+        reply: reply_buffer(),
+    }
+}
+
+/// An Update of one group for N in Up that fails these checks, 6 to 15.
+fn update_failing(checks: &[u8]) -> Vec<u8> {
+    let fails = |check: u8| checks.contains(&check);
+    let mut nets = vec![10; if fails(15) { 129 } else { 1 }];
+    if fails(14) {
+        nets.push(0);
+    }
+    let mut octets = vec![if fails(7) { 3 } else { 2 }];
+    octets.extend(if fails(10) { [4, 0] } else { [1, 0] });
+    octets.extend([if fails(11) { 64 } else { 1 }, 0, 0, 0]);
+    octets.push(if fails(9) { 8 } else { 7 });
+    octets.extend([0, if fails(13) { 5 } else { 4 }]);
+    octets.extend([1, 0, 128, 9, 0, 0, 0, 5, 1, 0]);
+    octets.push(if fails(15) { 129 } else { 1 });
+    octets.extend(nets);
+    if fails(12) {
+        octets.truncate(15);
+    }
+    let mut octets = sealed(octets);
+    if fails(8) {
+        octets[5] ^= 1;
+    }
+    if fails(6) {
+        octets.truncate(9);
+    }
+    octets
+}
+
+/// A gateway and a call with these checks failing: N is in Up, P in Idle, six slots are free.
+fn failing(call: &str, checks: &[u8]) -> (Gateway, Call) {
+    let fails = |check: u8| checks.contains(&check);
+    let mut gateway = Gateway::with(in_state(Up, Mode::Active));
+    let state = &mut gateway.bench.state;
+    if fails(1) {
+        state.neighbours[1].as_number = 0;
+    }
+    if fails(17) {
+        for (slot, neighbour) in state.neighbours.iter_mut().enumerate().skip(2) {
+            *neighbour = Neighbour::idle(P + slot as u32, PEER_AS);
+        }
+    }
+    if fails(2) {
+        gateway.bench.table.pop();
+    }
+    let unknown = P + 99;
+    let address = if fails(5) { unknown } else { N };
+    let reply = Buffer {
+        length: if fails(3) { 2047 } else { 2048 },
+        fill: FILL,
+    };
+    let call = match call {
+        "Message" => Call::Message {
+            address,
+            octets: update_failing(checks),
+            home: vec![NET; if fails(4) { 1 } else { 0 }],
+            reply,
+        },
+        "Start" => Call::Start { address, reply },
+        "Stop" => Call::Stop { address, reply },
+        "Tick" => Call::Tick { address, reply },
+        "Listing" => Call::Listing {
+            buffer: Buffer {
+                length: LISTING_BUFFER - usize::from(fails(3)),
+                fill: FILL,
+            },
+        },
+        "Add" => Call::Add {
+            address: unknown,
+            as_number: if fails(16) { 0 } else { PEER_AS },
+        },
+        "Remove" => Call::Remove {
+            address: match checks {
+                [.., 5] => unknown,
+                [.., 18] => N,
+                _ => P,
+            },
+        },
+        _ => Call::Write {
+            message: hello(if fails(16) { 3 } else { 1 }),
+            loose: Vec::new(),
+            buffer: reply,
+        },
+    };
+    (gateway, call)
+}
+
+fn hello(status: u8) -> Message {
+    Message {
+        status,
+        as_number: PEER_AS,
+        sequence: 1,
+        body: Body::Hello,
+    }
+}
+
+#[test]
+fn two_checks_fail_at_once() {
+    let mut pairs: Vec<(&str, u8, u8)> = (1..15).map(|no| ("Message", no, no + 1)).collect();
+    for call in ["Start", "Stop", "Tick"] {
+        pairs.extend([(call, 1, 2), (call, 2, 3), (call, 3, 5)]);
+    }
+    pairs.extend([("Listing", 1, 2), ("Listing", 2, 3)]);
+    pairs.extend([("Add", 1, 16), ("Add", 16, 17)]);
+    pairs.extend([("Remove", 1, 5), ("Remove", 1, 18), ("Write", 3, 16)]);
+    for (call, first, second) in pairs {
+        let name = format!("{call}: {first} before {second}");
+        let (gateway, both) = failing(call, &[first, second]);
+        assert!(reaches(&gateway, both.clone(), &name), "{name}");
+        assert_eq!(reached(&gateway, both).0, first, "{name}");
+        for check in [first, second] {
+            let (gateway, one) = failing(call, &[check]);
+            assert_eq!(reached(&gateway, one.clone()).0, check, "{name}");
+            assert!(!reaches(&gateway, one, &name), "{name}");
+        }
+    }
+}
+
+#[test]
+fn a_row_and_a_short_buffer() {
+    let (mut gateway, short) = failing("Listing", &[3]);
+    let name = "Listing: 2 for a row before 3";
+    assert!(!reaches(&gateway, short.clone(), name));
+    gateway.bench.table[2] = 512;
+    assert!(reaches(&gateway, short.clone(), name));
+    assert!(!reaches(&gateway, failing("Listing", &[]).1, name));
+    gateway.bench.table.pop();
+    assert_eq!(gateway.bench.table.len(), TABLE_NUMBERS - 1);
+    assert!(!reaches(&gateway, short, name));
+}
+
+#[test]
+fn an_idle_record_with_one_1() {
+    let changes: [(&str, fn(&mut Neighbour)); 12] = [
+        ("S", |n| n.send_sequence += 1),
+        ("R", |n| n.receive_sequence += 1),
+        ("T1", |n| n.hello_interval += 1),
+        ("T2", |n| n.poll_interval += 1),
+        ("mode", |n| n.mode = Mode::Active),
+        ("t1", |n| n.t1 += 1),
+        ("t2", |n| n.t2 += 1),
+        ("t3", |n| n.t3 += 1),
+        ("register", |n| n.register += 1),
+        ("heard", |n| n.heard += 1),
+        ("cause", |n| n.cause += 1),
+        ("row count", |n| n.row_count += 1),
+    ];
+    for (name, change) in changes {
+        let mut gateway = Gateway::new(1);
+        change(&mut gateway.bench.state.neighbours[1]);
+        let (answer, places) = reached(&gateway, tick());
+        assert_eq!(
+            (answer, places),
+            (1, vec![format!("state: Idle, {name} 1")])
+        );
+        // Not alone any more.
+        gateway.bench.state.capability = 3;
+        assert_eq!(reached(&gateway, tick()), (1, vec![]), "{name}");
+    }
+}
+
+#[test]
+fn numbers_at_their_limits() {
+    let changes: [(&str, fn(&mut Neighbour, u16), &[u16], &[u16]); 9] = [
+        (
+            "T1",
+            |n, value| n.hello_interval = value,
+            &[32, 122],
+            &[31, 123],
+        ),
+        (
+            "T2",
+            |n, value| n.poll_interval = value,
+            &[122, 482],
+            &[121, 483],
+        ),
+        ("t1", |n, value| n.t1 = value, &[1, 122], &[0, 123]),
+        ("t2", |n, value| n.t2 = value, &[1, 482], &[0, 483]),
+        ("t3", |n, value| n.t3 = value, &[1, 3600], &[0, 3601]),
+        (
+            "register",
+            |n, value| n.register = value as u8,
+            &[15],
+            &[16],
+        ),
+        ("heard", |n, value| n.heard = value as u8, &[1], &[2]),
+        ("cause", |n, value| n.cause = value as u8, &[5, 6], &[4, 7]),
+        ("row count", |n, value| n.row_count = value, &[128], &[129]),
+    ];
+    for (name, change, good, bad) in changes {
+        let state = if name == "cause" { Cease } else { Up };
+        for &value in good.iter().chain(bad) {
+            let mut gateway = Gateway::with(in_state(state, Mode::Active));
+            change(&mut gateway.bench.state.neighbours[0], value);
+            let place = format!("state: {name} {value}");
+            assert!(reaches(&gateway, tick(), &place), "{place}");
+            assert_eq!(reached(&gateway, tick()).0 == 1, bad.contains(&value));
+            // A second thing wrong hides the first.
+            gateway.bench.state.capability = 3;
+            assert!(!reaches(&gateway, tick(), &place), "{place}");
+        }
+    }
+}
+
+#[test]
+fn a_message_from_another_as() {
+    let stranger = |pair, status, octets: usize| raw(pair, status, 8, 1, &vec![0; octets]);
+    let idle = Gateway::new(1);
+    for (octets, name) in [
+        (stranger(REQUEST, 2, 4), "Request in Idle, Refuse 4"),
+        (stranger(CONFIRM, 0, 4), "Confirm in Idle"),
+        (stranger(HELLO, 1, 4), "other kind in Idle"),
+        (stranger(REQUEST, 3, 4), "Request of status 3 in Idle"),
+        (stranger(REQUEST, 0, 3), "Request of other length in Idle"),
+    ] {
+        let (answer, places) = reached(&idle, message(octets));
+        let good_list = String::from("home list: good, rows 0");
+        assert_eq!(answer, 9);
+        assert_eq!(places, [format!("other AS: {name}"), good_list]);
+    }
+    for state in [Acquisition, Down, Up, Cease] {
+        let gateway = Gateway::with(in_state(state, Mode::Active));
+        let name = format!("other AS: Request in {state:?}");
+        let request = message(stranger(REQUEST, 0, 4));
+        assert!(reaches(&gateway, request, &name));
+        let confirm = message(stranger(CONFIRM, 0, 4));
+        assert!(!reaches(&gateway, confirm, &name));
+    }
+}
+
+#[test]
+fn bodies_that_are_not_looked_at() {
+    for state in [Idle, Acquisition, Down, Cease] {
+        let gateway = Gateway::with(in_state(state, Mode::Active));
+        let name = format!("Update with a bad body in {state:?}");
+        assert!(reaches(&gateway, message(update_failing(&[14])), &name));
+        assert!(!reaches(&gateway, message(update_failing(&[])), &name));
+    }
+    let up = Gateway::with(in_state(Up, Mode::Active));
+    let name = "Update of 129 rows, then a defect";
+    assert!(reaches(&up, message(update_failing(&[14, 15])), name));
+    assert!(!reaches(&up, message(update_failing(&[15])), name));
+    assert!(!reaches(&up, message(update_failing(&[14])), name));
+}
+
+#[test]
+fn home_lists_bad_in_one_way() {
+    let gateway = Gateway::new(1);
+    let net = address(10, 0, 0, 0);
+    let row = [net, N, 255];
+    let list = |first: [u32; 3], rest: &[u32]| [&first[..], rest].concat();
+    let ours = [net, OWN, 0];
+    let long = [ours, row].concat().repeat(64);
+    let check = |home: Vec<u32>, name: &str, number: u8| {
+        let (answer, places) = reached(&gateway, message_with(our_hello(1, 1), home));
+        // Our own Hello comes from another AS.
+        assert_eq!(answer, number, "{name}");
+        assert!(places.contains(&format!("home list: {name}")), "{name}");
+        assert_eq!(places.len(), 1, "{places:?}");
+    };
+    check(vec![], "good, rows 0", 9);
+    check(ours.to_vec(), "good, rows 1", 9);
+    check(long.clone(), "good, rows 128", 9);
+    check(vec![net], "not whole rows", 4);
+    check([&long[..], &ours[..2]].concat(), "not whole rows", 4);
+    check([&long[..], &ours[..]].concat(), "129 rows", 4);
+    check(list(ours, &[224 << 24, N, 0]), "net of no class", 4);
+    check(list(ours, &[net + 1, N, 0]), "net not left justified", 4);
+    check(
+        list(ours, &[net, N + (1 << 16), 0]),
+        "gateway off the net",
+        4,
+    );
+    check(list(ours, &[net, N, 256]), "number 256", 4);
+    check(list(row, &ours), "first gateway not ours", 4);
+    // Bad in two ways.
+    let twice = message_with(our_hello(1, 1), list(row, &[net, N, 256]));
+    assert_eq!(reached(&gateway, twice), (4, vec![]));
+}
+
+#[test]
+fn reading_with_a_bad_net() {
+    let gateway = Gateway::new(1);
+    let on = |net: u32, blocks: &[u8]| {
+        let mut rest = vec![u8::from(!blocks.is_empty()), 0];
+        rest.extend(net.to_be_bytes());
+        rest.extend(blocks);
+        peer(UPDATE, 1, 1, &rest)
+    };
+    let read = |octets: Vec<u8>, net: u32| reached(&gateway, Call::Read { octets, net });
+    let unjustified = NET + 1;
+    let classless = 224 << 24;
+    let blocks = [0, 5, 1, 0, 1, 10];
+    for (octets, net, number, name) in [
+        (
+            on(unjustified, &blocks),
+            unjustified,
+            14,
+            "Update on a net not left justified",
+        ),
+        (
+            on(classless, &[]),
+            classless,
+            14,
+            "Update on a net of no class",
+        ),
+        (
+            our_hello(1, 1),
+            unjustified,
+            0,
+            "other kind, net not left justified",
+        ),
+        (our_hello(1, 1), classless, 0, "other kind, net of no class"),
+    ] {
+        assert_eq!(read(octets, net), (number, vec![format!("Read: {name}")]));
+    }
+    // Wrong anyhow.
+    assert_eq!(read(on(NET, &blocks), unjustified), (14, vec![]));
+    assert_eq!(read(on(classless, &blocks), classless), (14, vec![]));
+    assert_eq!(read(on(NET, &blocks), NET), (0, vec![]));
+}
+
+#[test]
+fn writing_what_the_reader_never_gives() {
+    let gateway = Gateway::new(1);
+    let intervals = Intervals { hello: 0, poll: 0 };
+    let row = Row {
+        net: NET,
+        gateway: N,
+        distance: 0,
+    };
+    let update = Body::Update {
+        net: NET,
+        rows: vec![row],
+    };
+    let error = Body::Error {
+        reason: 0,
+        header: [0; 12],
+    };
+    let write = |status: u8, body: &Body, loose: &[u32]| {
+        let call = Call::Write {
+            message: Message {
+                body: body.clone(),
+                ..hello(status)
+            },
+            loose: loose.to_vec(),
+            buffer: reply_buffer(),
+        };
+        reached(&gateway, call)
+    };
+    let at = |name: &str| (16, vec![format!("Write: {name}")]);
+    for body in [Body::Hello, Body::Request(intervals), error.clone()] {
+        let rows = at("rows beside a kind without rows");
+        let numbers = at("numbers beside a kind without rows");
+        assert_eq!(write(0, &body, &row.numbers()), rows);
+        assert_eq!(write(0, &body, &[0, 0, 0]), rows);
+        assert_eq!(write(0, &body, &[0]), numbers);
+        assert_eq!(write(0, &body, &[]), (0, vec![]));
+    }
+    let after = at("numbers after the rows of an Update");
+    assert_eq!(write(0, &update, &[NET, N]), after);
+    for body in [update, error] {
+        assert_eq!(write(255, &body, &[]), at("status 255, Update or Error"));
+    }
+    assert_eq!(write(255, &Body::Hello, &[]), at("status 255, other kind"));
+    assert_eq!(write(254, &Body::Hello, &[]), (16, vec![]));
+}
+
+/// What the gate compares, but for its fifth seed, which is the date.
+#[test]
+fn lists_reach_every_place() {
+    let survey = coverage::survey_places(&[1, 2, 3, 4], 100_000);
+    assert_eq!(survey.missed_places(), [] as [&str; 0]);
+}

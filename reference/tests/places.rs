@@ -194,7 +194,8 @@ fn a_row_and_a_short_buffer() {
 
 #[test]
 fn an_idle_record_with_one_1() {
-    let changes: [(&str, fn(&mut Neighbour)); 12] = [
+    type Change = fn(&mut Neighbour);
+    let changes: [(&str, Change); 12] = [
         ("S", |n| n.send_sequence += 1),
         ("R", |n| n.receive_sequence += 1),
         ("T1", |n| n.hello_interval += 1),
@@ -224,7 +225,8 @@ fn an_idle_record_with_one_1() {
 
 #[test]
 fn numbers_at_their_limits() {
-    let changes: [(&str, fn(&mut Neighbour, u16), &[u16], &[u16]); 9] = [
+    type Change = fn(&mut Neighbour, u16);
+    let changes: [(&str, Change, &[u16], &[u16]); 9] = [
         (
             "T1",
             |n, value| n.hello_interval = value,

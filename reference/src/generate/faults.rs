@@ -239,7 +239,7 @@ pub struct Sender {
 pub const MESSAGE_FAULTS: [(u32, &str); 28] = [
     (2, "message too short"),
     (1, "message too long"),
-    (4, "version"),
+    (5, "version"),
     (2, "checksum"),
     (2, "checksum FFFF for 0000"),
     (3, "wrong AS"),
@@ -263,7 +263,7 @@ pub const MESSAGE_FAULTS: [(u32, &str); 28] = [
     (2, "Update with a wrong gateway count"),
     (2, "Update with a wrong net count"),
     (2, "Update of 129 rows and a defect"),
-    (5, "Update above 128 rows"),
+    (6, "Update above 128 rows"),
     (12, "any kind, status and length"),
     (6, "octets changed at random"),
 ];
@@ -579,7 +579,7 @@ fn other_as(random: &mut Random, as_number: u16) -> u16 {
 
 /// Any kind, an Error more often: what is wrong with one must never be answered.
 fn kind_or_error(random: &mut Random) -> Kind {
-    if random.thousandths(150) {
+    if random.thousandths(200) {
         Kind::Error
     } else {
         random.pick(&Kind::ALL)
@@ -748,10 +748,10 @@ fn many_rows(random: &mut Random, net: u32, groups: usize) -> material::Blocks {
 /// Faults of a meaning, with how often each is made.
 pub const MEANING_FAULTS: [(u32, &str); 13] = [
     (2, "meaning: status"),
-    (3, "meaning: status 255"),
+    (4, "meaning: status 255"),
     (2, "meaning: any status"),
-    (4, "meaning: numbers beside a kind without rows"),
-    (2, "meaning: numbers after the last row"),
+    (5, "meaning: numbers beside a kind without rows"),
+    (3, "meaning: numbers after the last row"),
     (2, "meaning: Update net of no class"),
     (2, "meaning: Update net not left justified"),
     (2, "meaning: row net of no class"),
@@ -778,9 +778,11 @@ pub fn meaning(random: &mut Random) -> (Message, Vec<u32>, &'static str) {
             (message, Vec::new(), fault)
         }
         "meaning: status 255" => {
-            let unsolicited = random.pick(&[Kind::Update, Kind::Error]);
-            let any = random.pick(&Kind::ALL);
-            let kind = random.pick(&[unsolicited, any]);
+            // More often of the kinds that have statuses above 127.
+            let kind = match random.below(10) {
+                0..=3 => random.pick(&[Kind::Update, Kind::Error]),
+                _ => random.pick(&Kind::ALL),
+            };
             let mut message = material::message(random, kind);
             message.status = 255;
             (message, Vec::new(), fault)

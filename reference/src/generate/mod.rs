@@ -200,7 +200,7 @@ impl Generator {
     fn begin_list(&mut self) {
         let mut own = material::settings(&mut self.random);
         self.filling = self.random.thousandths(300);
-        self.list_left = if self.filling { 700 } else { 2500 };
+        self.list_left = if self.filling { 700 } else { 2200 };
         let wanted = if self.filling {
             // A passive neighbour comes up soonest.
             own.capability = 2;
@@ -562,7 +562,12 @@ impl Generator {
                 random.weighted(&[(2, "wrong AS on a Request"), (3, "wrong AS near a Request")])
             }
             NeighbourState::Acquisition | NeighbourState::Cease if random.thousandths(500) => {
-                random.weighted(&[(4, "out of sequence"), (1, "wrong AS on a Request")])
+                let unread_body = random.pick(&faults::BODY_FAULTS);
+                random.weighted(&[
+                    (6, "out of sequence"),
+                    (2, "wrong AS on a Request"),
+                    (1, unread_body),
+                ])
             }
             NeighbourState::Up if random.thousandths(200) => random.weighted(&[
                 (2, "Update above 128 rows"),

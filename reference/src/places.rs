@@ -9,10 +9,11 @@ use crate::call::{Call, CallKind, Record};
 use crate::checksum;
 use crate::coverage::Moment;
 use crate::gateway::{self, State, TABLE_NUMBERS};
+use crate::generate::faults::ONES;
 use crate::generate::{Origin, Step};
 use crate::listing::{self, LISTING_BUFFER};
 use crate::message::{self, Body, Kind, LONGEST, REPLY_BUFFER, SHORTEST, VERSION};
-use crate::neighbour::{Mode, Neighbour, NeighbourState};
+use crate::neighbour::{Neighbour, NeighbourState};
 use crate::net::{self, Class};
 use crate::update::{self, Row, MOST_ROWS};
 
@@ -74,6 +75,7 @@ fn place(name: impl Into<String>, holds: impl Fn(&Seen) -> bool + 'static) -> Pl
 pub fn all() -> Vec<Place> {
     let mut places = checks_together();
     places.extend(states());
+    places.extend(sizes());
     places.extend(strangers());
     places.extend(updates());
     places.extend(home_lists());
@@ -124,12 +126,16 @@ fn checks_together() -> Vec<Place> {
             }));
         }
     }
-    places.push(place("Listing: 2 for a row before 3", |seen| {
-        matches!(seen.step.call, Call::Listing { .. })
-            && seen.gives(2)
-            && seen.before.table.len() == TABLE_NUMBERS
-            && fails(seen, 3)
-    }));
+    // In a listing 2 fails for a row too.
+    for (first, second) in [(1, 2), (2, 3)] {
+        let name = format!("Listing: {first} before {second}, for a row");
+        places.push(place(name, move |seen| {
+            matches!(seen.step.call, Call::Listing { .. })
+                && seen.gives(first)
+                && seen.before.table.len() == TABLE_NUMBERS
+                && fails(seen, second)
+        }));
+    }
     places
 }
 
@@ -215,24 +221,6 @@ fn rows_before_a_defect(octets: &[u8], common_net: u32) -> usize {
 }
 
 // States that the host hands in.
-
-type Change = fn(&mut Neighbour);
-
-/// The variables of a neighbour, each set to 1.
-const ONES: [(&str, Change); 12] = [
-    ("S", |n| n.send_sequence = 1),
-    ("R", |n| n.receive_sequence = 1),
-    ("T1", |n| n.hello_interval = 1),
-    ("T2", |n| n.poll_interval = 1),
-    ("mode", |n| n.mode = Mode::Active),
-    ("t1", |n| n.t1 = 1),
-    ("t2", |n| n.t2 = 1),
-    ("t3", |n| n.t3 = 1),
-    ("register", |n| n.register = 1),
-    ("heard", |n| n.heard = 1),
-    ("cause", |n| n.cause = 1),
-    ("row count", |n| n.row_count = 1),
-];
 
 /// A variable that check 1 bounds, below too if it has a least value.
 struct Bounded {
@@ -322,6 +310,12 @@ fn states() -> Vec<Place> {
                 })
         }));
     }
+    places.push(place("state: free slot, one field not 0", |seen| {
+        seen.gives(1)
+            && any_mended(seen.before.state, |slot| {
+                has_one_field(slot).then_some(Neighbour::default())
+            })
+    }));
     for bounded in BOUNDED {
         let Bounded { get, set, most, .. } = bounded;
         // A good value is its own nearest good one.
@@ -353,6 +347,27 @@ fn states() -> Vec<Place> {
     places
 }
 
+/// Whether just one field of a free slot is not zero: AS, a state, or one that is 1.
+fn has_one_field(slot: &Neighbour) -> bool {
+    let free = Neighbour::default();
+    let mut alone = vec![
+        Neighbour {
+            as_number: slot.as_number,
+            ..free
+        },
+        Neighbour {
+            state: slot.state,
+            ..free
+        },
+    ];
+    for (_, set) in ONES {
+        let mut one = free;
+        set(&mut one);
+        alone.push(one);
+    }
+    *slot != free && alone.contains(slot)
+}
+
 /// Whether a state is well formed but for one neighbour, which `mend` makes good.
 fn any_mended(state: &State, mend: impl Fn(&Neighbour) -> Option<Neighbour>) -> bool {
     (0..state.neighbours.len()).any(|slot| {
@@ -368,7 +383,25 @@ fn makes_check_1(call: &Call) -> bool {
     call.kind().is_some_and(|kind| kind.answers().contains(&1))
 }
 
-// The reply named at 9.
+// Messages.
+
+fn sizes() -> Vec<Place> {
+    let size = |length: usize, is_good: bool| {
+        place(format!("message: {length} octets"), move |seen| {
+            let number = seen.record.answer.number();
+            let is_looked_at = number == 0 || number > 6;
+            let wanted = if is_good { is_looked_at } else { number == 6 };
+            wanted
+                && matches!(&seen.step.call, Call::Message { octets, .. } if octets.len() == length)
+        })
+    };
+    vec![
+        size(SHORTEST - 1, false),
+        size(SHORTEST, true),
+        size(LONGEST, true),
+        size(LONGEST + 1, false),
+    ]
+}
 
 /// What the reply to a message from another AS goes by.
 struct Shape {

@@ -180,9 +180,20 @@ fn two_checks_fail_at_once() {
 }
 
 #[test]
+fn a_row_and_a_bad_state() {
+    let name = "Listing: 1 before 2, for a row";
+    let (mut gateway, list) = failing("Listing", &[1]);
+    assert!(!reaches(&gateway, list.clone(), name));
+    gateway.bench.table[2] = 512;
+    assert!(reaches(&gateway, list.clone(), name));
+    gateway.bench.table.pop();
+    assert!(!reaches(&gateway, list, name));
+}
+
+#[test]
 fn a_row_and_a_short_buffer() {
     let (mut gateway, short) = failing("Listing", &[3]);
-    let name = "Listing: 2 for a row before 3";
+    let name = "Listing: 2 before 3, for a row";
     assert!(!reaches(&gateway, short.clone(), name));
     gateway.bench.table[2] = 512;
     assert!(reaches(&gateway, short.clone(), name));
@@ -220,6 +231,32 @@ fn an_idle_record_with_one_1() {
         // Not alone any more.
         gateway.bench.state.capability = 3;
         assert_eq!(reached(&gateway, tick()), (1, vec![]), "{name}");
+    }
+}
+
+#[test]
+fn a_free_slot_with_one_field() {
+    let name = "state: free slot, one field not 0";
+    let free = Neighbour::default();
+    let mut one = Gateway::new(1);
+    one.bench.state.neighbours[7].heard = 1;
+    assert!(reaches(&one, tick(), name));
+    one.bench.state.neighbours[7].register = 1;
+    assert!(!reaches(&one, tick(), name));
+    one.bench.state.neighbours[7] = Neighbour { state: Up, ..free };
+    assert!(reaches(&one, tick(), name));
+    one.bench.state.neighbours[7] = free;
+    assert!(!reaches(&one, tick(), name));
+}
+
+#[test]
+fn sizes_of_messages() {
+    let gateway = Gateway::new(1);
+    for (length, number) in [(9, 6), (10, 8), (2048, 8), (2049, 6)] {
+        let name = format!("message: {length} octets");
+        let (answer, places) = reached(&gateway, message(vec![2; length]));
+        assert_eq!(answer, number);
+        assert!(places.contains(&name), "{name}");
     }
 }
 

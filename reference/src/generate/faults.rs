@@ -10,7 +10,7 @@ use crate::random::Random;
 use crate::update::{Row, EXTERNAL, MOST_ROWS};
 
 /// The rules of well-formedness, one to break each.
-pub const STATE_FAULTS: [&str; 47] = [
+pub const STATE_FAULTS: [&str; 48] = [
     "own AS 0",
     "capability above 2",
     "common net not left justified",
@@ -21,6 +21,7 @@ pub const STATE_FAULTS: [&str; 47] = [
     "neighbour address ours",
     "neighbour address twice",
     "free slot not zero",
+    "free slot with one field",
     "row count above 128",
     "row count outside Up",
     "Idle with S",
@@ -58,6 +59,24 @@ pub const STATE_FAULTS: [&str; 47] = [
     "cause above 6 in Cease",
     "no cause in Cease",
     "cause outside Cease",
+];
+
+pub type Change = fn(&mut Neighbour);
+
+/// The variables of a neighbour, each set to 1.
+pub const ONES: [(&str, Change); 12] = [
+    ("S", |n| n.send_sequence = 1),
+    ("R", |n| n.receive_sequence = 1),
+    ("T1", |n| n.hello_interval = 1),
+    ("T2", |n| n.poll_interval = 1),
+    ("mode", |n| n.mode = Mode::Active),
+    ("t1", |n| n.t1 = 1),
+    ("t2", |n| n.t2 = 1),
+    ("t3", |n| n.t3 = 1),
+    ("register", |n| n.register = 1),
+    ("heard", |n| n.heard = 1),
+    ("cause", |n| n.cause = 1),
+    ("row count", |n| n.row_count = 1),
 ];
 
 /// Breaks exactly one rule of a well-formed state that has a neighbour.
@@ -134,6 +153,14 @@ pub fn break_state(random: &mut Random, state: &mut State) -> &'static str {
                 n.as_number = 1;
             }
         }
+        "free slot with one field" => {
+            *n = Neighbour::default();
+            match random.below(ONES.len() + 2) {
+                0 => n.as_number = 1,
+                1 => n.state = random.pick(&running),
+                place => ONES[place - 2].1(n),
+            }
+        }
         "row count above 128" => n.row_count = nearest(random, 129, &[130, u16::MAX]),
         "row count outside Up" => n.row_count = random.pick(&[1, 128]),
         "Idle with S" => n.send_sequence = nearest(random, 1, &[2, u16::MAX]),
@@ -170,7 +197,7 @@ pub fn break_state(random: &mut Random, state: &mut State) -> &'static str {
         "cause below 5 in Cease" => n.cause = nearest(random, 4, &[1, 3]),
         "cause above 6 in Cease" => n.cause = nearest(random, 7, &[8, 255]),
         "no cause in Cease" => n.cause = 0,
-        _ => n.cause = random.pick(&[5, 6]),
+        _ => n.cause = random.pick(&[1, 5, 6]),
     }
     fault
 }
@@ -238,14 +265,14 @@ pub struct Sender {
 /// Faults of a message, with how often each is made.
 pub const MESSAGE_FAULTS: [(u32, &str); 28] = [
     (2, "message too short"),
-    (1, "message too long"),
+    (2, "message too long"),
     (5, "version"),
     (2, "checksum"),
     (2, "checksum FFFF for 0000"),
     (3, "wrong AS"),
     (3, "wrong AS on a Request"),
     (2, "wrong AS near a Request"),
-    (4, "unknown kind"),
+    (5, "unknown kind"),
     (2, "unknown kind of type 8"),
     (7, "status"),
     (8, "length"),
@@ -273,12 +300,12 @@ pub fn message(random: &mut Random, sender: Sender, fault: &str) -> Vec<u8> {
     match fault {
         "message too short" => {
             let mut octets = good(random, sender);
-            octets.truncate(random.below(10));
+            octets.truncate(nearest(random, 9, &[0, 1, 2, 5, 6, 8]));
             octets
         }
         "message too long" => {
             let mut octets = good(random, sender);
-            octets.resize(LONGEST + 1 + random.below(40), 0);
+            octets.resize(nearest(random, LONGEST + 1, &[2050, 2087]), 0);
             checksum::seal(&mut octets);
             octets
         }
@@ -590,7 +617,9 @@ fn wrong_length(random: &mut Random, sender: Sender) -> Vec<u8> {
     let kind = kind_or_error(random);
     let mut octets = good_of(random, sender, kind);
     let length = loop {
-        let length = random.pick(&[10, 11, 12, 13, 14, 15, 16, 17, 20, 23, 24, 25, 100, 2048]);
+        let length = random.pick(&[
+            10, 11, 12, 13, 14, 15, 16, 17, 20, 23, 24, 25, 100, 2048, 2048,
+        ]);
         if !kind.allows_length(length) {
             break length;
         }

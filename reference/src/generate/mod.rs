@@ -561,7 +561,7 @@ impl Generator {
             NeighbourState::Idle if random.thousandths(500) => {
                 random.weighted(&[(2, "wrong AS on a Request"), (3, "wrong AS near a Request")])
             }
-            NeighbourState::Acquisition | NeighbourState::Cease if random.thousandths(500) => {
+            NeighbourState::Acquisition | NeighbourState::Cease if random.thousandths(450) => {
                 let unread_body = random.pick(&faults::BODY_FAULTS);
                 random.weighted(&[
                     (6, "out of sequence"),
@@ -569,8 +569,9 @@ impl Generator {
                     (1, unread_body),
                 ])
             }
-            NeighbourState::Up if random.thousandths(200) => random.weighted(&[
+            NeighbourState::Up if random.thousandths(250) => random.weighted(&[
                 (2, "Update above 128 rows"),
+                (1, "out of sequence"),
                 (1, "Update of 129 rows and a defect"),
                 (1, "sequence and body"),
             ]),
@@ -776,12 +777,16 @@ impl Generator {
     }
 
     /// States that break one rule, one after the other, and one call on each; the table may be
-    /// of a wrong length besides.
+    /// of a wrong length besides, or hold rows that no listing takes.
     fn hand_broken(&mut self) -> (Call, &'static str) {
         self.put_aside(Handed::BrokenState);
         self.broken_left = self.random.below(4);
-        if self.random.thousandths(250) {
-            let table = self.table_of_wrong_length();
+        let table = match self.random.below(20) {
+            0..=4 => Some(self.table_of_wrong_length()),
+            5..=8 => Some(vec![self.random.pick(&[512, u32::MAX]); TABLE_NUMBERS]),
+            _ => None,
+        };
+        if let Some(table) = table {
             self.queue
                 .push_back((Call::HandTable(table), "table handed in"));
         }

@@ -70,6 +70,13 @@ pub struct Moment<'a> {
 }
 
 impl Moment<'_> {
+    pub fn of(bench: &Bench) -> Moment<'_> {
+        Moment {
+            state: &bench.state,
+            table: &bench.table,
+        }
+    }
+
     fn area(&self, slot: usize) -> &[u32] {
         let from = (slot * SLOT_NUMBERS).min(self.table.len());
         let to = (from + SLOT_NUMBERS).min(self.table.len());
@@ -87,15 +94,7 @@ pub fn survey(seed: u64, count: usize) -> Survey {
         }
         let before = bench.clone();
         let record = bench.run(&step.call);
-        let before = Moment {
-            state: &before.state,
-            table: &before.table,
-        };
-        let after = Moment {
-            state: &bench.state,
-            table: &bench.table,
-        };
-        survey.observe(&step, &before, &after, &record);
+        survey.observe(&step, &Moment::of(&before), &Moment::of(&bench), &record);
     }
     survey
 }
@@ -110,10 +109,7 @@ pub fn survey_places(seeds: &[u64], count: usize) -> Survey {
             let record = bench.run(&step.call);
             survey.observe_places(&Seen {
                 step: &step,
-                before: &Moment {
-                    state: &before.state,
-                    table: &before.table,
-                },
+                before: &Moment::of(&before),
                 record: &record,
             });
         }

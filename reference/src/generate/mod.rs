@@ -3,7 +3,7 @@
 //! The generator runs the reference's own gateway beside the list it makes, and looks at the
 //! state to choose the next call, so that deep states are really reached: neighbours acquired in
 //! both modes, polled, holding rows, stopped half way. Between such calls it puts calls with one
-//! thing wrong, states and tables handed in from outside, and reading and writing alone.
+//! thing wrong or two, states and tables handed in from outside, and reading and writing alone.
 
 pub mod day;
 pub mod faults;

@@ -1,9 +1,10 @@
 -- A line of the sheet: a call, all that it is given, and what 01 demands of it.
 use Prim.Native.Nat.{ℕ}
 use Prim.Native.String.{String}
+use mathlib.Core.Bool.{cond}
 use mathlib.Core.List.{List, [], _++_}
+use lib.Dec.{eqb}
 use lib.ListN.{take, drop, replicate}
-use Rattle.checks.specs.Checks.{ifOk}
 use Rattle.message.specs.declared.Message.{Message}
 use Rattle.codec.specs.Reading.{numberOf, readOf}
 use Rattle.codec.specs.Writing.{writeOf}
@@ -51,21 +52,25 @@ pub data Result : Type 0 where
   -- an answer, and a number beside it
   pair : ℕ → ℕ → Result
 
--- 01: "Every refusal returns the state as given"; what a carried-out call leaves is not looked at here
+-- 01: "Every refusal returns the state as given, keeps the table"; what a carried-out call leaves is not looked at here
+unfoldable pub afterRefusal : {A : Type 0} → ℕ → A → A → A
+afterRefusal answer given after = cond (eqb answer 0) given after
+
 unfoldable pub refusedState : State → Outcome → Outcome
-refusedState st o = record { answer = o .answer; first = o .first; second = o .second; state = ifOk (o .answer) st (o .state) }
+refusedState st o =
+    record { answer = o .answer; first = o .first; second = o .second; state = afterRefusal (o .answer) st (o .state) }
 
 -- 01: a refusal keeps "all octets beyond the named reply", of which the longest takes 24
 unfoldable pub front : List ℕ → List ℕ
 front buffer = take 32 buffer
 
--- 01: a refusal "keeps the table": two rows of the neighbour's slot
+-- two rows of the neighbour's slot
 unfoldable pub rowsOfTwo : List ℕ → List ℕ
 rowsOfTwo table = take 6 (drop 768 table)
 
 unfoldable pub seen : State → List ℕ → Outcome → List ℕ → List ℕ → Result
 seen st table o newTable newBuffer =
-    sends (refusedState st o) (front newBuffer) (rowsOfTwo (ifOk (o .answer) table newTable))
+    sends (refusedState st o) (front newBuffer) (rowsOfTwo (afterRefusal (o .answer) table newTable))
 
 -- what the definitions give
 unfoldable pub computed : Line → Result

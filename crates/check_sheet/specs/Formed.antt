@@ -99,6 +99,10 @@ forms =
     unformed (beside (slot 0 0 (made Idle 0 0 0 0 Unset 0 0 0 0 1 0) 0)) ∷
     unformed (beside (slot 0 0 (made Idle 0 0 0 0 Unset 0 0 0 0 0 1) 0)) ∷
     unformed (beside (slot 0 0 resting 1)) ∷
+    unformed (beside (slot 0 0 (made Acquisition 0 0 0 0 Unset 0 0 0 0 0 0) 0)) ∷
+    unformed (beside (slot 0 0 (made Down 0 0 0 0 Unset 0 0 0 0 0 0) 0)) ∷
+    unformed (beside (slot 0 0 (made Up 0 0 0 0 Unset 0 0 0 0 0 0) 0)) ∷
+    unformed (beside (slot 0 0 (made Cease 0 0 0 0 Unset 0 0 0 0 0 0) 0)) ∷
     unformed (beside (slot 0 0 asking 0)) ∷
     unformed (beside (slot 0 0 reporting 0)) ∷
     unformed (beside (slot 0 7 resting 0)) ∷

@@ -3,13 +3,20 @@
 use Prim.Native.Nat.{ℕ}
 use mathlib.Core.List.{List, [], _∷_, _++_}
 use lib.ListN.{replicate}
-use Rattle.check_sheet.specs.Given.{ip, theirs, inIdle, inUp, unsound}
+use Rattle.check_sheet.specs.Given.{ip, theirs, reporting, at, inIdle, inUp, unsound}
 use Rattle.check_sheet.specs.Line.{Line, listing}
 
 -- slot 2 has two rows, with these third numbers; every number of a row that is not used is the one given
 unfoldable pub table : ℕ → ℕ → ℕ → List ℕ
 table a b unused =
     replicate 768 unused ++ (ip 10 0 0 0 ∷ theirs ∷ a ∷ ip 192 5 6 0 ∷ theirs ∷ b ∷ []) ++ replicate 2298 unused
+
+-- three rows, so that three numbers more than they take would be another row
+unfoldable pub tableOfThree : List ℕ
+tableOfThree =
+    replicate 768 9999
+    ++ (ip 10 0 0 0 ∷ theirs ∷ 0 ∷ ip 192 5 6 0 ∷ theirs ∷ 0 ∷ ip 10 0 0 0 ∷ theirs ∷ 0 ∷ [])
+    ++ replicate 2295 9999
 
 unfoldable pub listings : List Line
 listings =
@@ -28,6 +35,7 @@ listings =
     listing inUp (table 0 4294967295 0) 65536 2 0 ∷
     -- listing 2: an unused row's third number is any: behind the used rows, of a neighbour without rows, of a free slot
     listing inUp (table 0 0 9999) 65536 0 209 ∷
+    listing (at reporting 3) tableOfThree 65536 0 251 ∷
     -- listing 3: "listing buffer too short"
     listing inIdle (replicate 3072 0) 65535 3 0 ∷
     listing inIdle (replicate 3072 0) 2048 3 0 ∷

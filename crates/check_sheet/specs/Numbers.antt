@@ -84,6 +84,9 @@ numbers =
     -- tick 0
     event Tick inIdle 3072 2048 theirs 0 0 0 [] ∷
     event Tick inIdle 3072 2049 theirs 0 0 0 [] ∷
+    -- tick 0: the neighbour in the first slot, and in the last
+    event Tick full 3072 2048 (ip 128 9 0 10) 0 0 0 [] ∷
+    event Tick full 3072 2048 (ip 128 9 0 17) 0 0 0 [] ∷
     -- tick 1: "state not well formed"
     event Tick unsound 3072 2048 theirs 1 0 0 [] ∷
     -- tick 2: "table not 3,072 numbers"

@@ -2,7 +2,7 @@
 use mathlib.Core.List.{List, [], _∷_, _++_}
 use lib.ListN.{replicate}
 use Rattle.check_sheet.specs.Given.{hex, ip, common, theirs, inUp}
-use Rattle.check_sheet.specs.Line.{Line, message, reading, heard}
+use Rattle.check_sheet.specs.Line.{Line, message, reading, rows, heard}
 
 unfoldable pub bodies : List Line
 bodies =
@@ -72,7 +72,7 @@ bodies =
     reading (ip 192 5 6 0) (hex "02 01 00 01 33 EE 00 07 00 03 01 00 C0 05 06 00 03") 14 0 ∷
     -- body: net 0.0.0.0 is of class A
     reading 0 (hex "02 01 00 01 FC F1 00 07 00 03 01 00 00 00 00 00 00 00 00 01 00 01 00") 0 1 ∷
-    -- rows: 128, 129 and 255 of one net ("repeats stay"); 64 internal and 64 or 65 external; groups of 100 and 28 or 29
+    -- body: 128, 129 and 255 of one net ("repeats stay"); 64 internal and 64 or 65 external; groups of 100 and 28 or 29
     reading common (hex "02 01 00 01 79 62 00 07 00 03 01 00 80 09 00 00 00 05 01 00 80" ++ replicate 128 10) 0 128 ∷
     reading common (hex "02 01 00 01 78 58 00 07 00 03 01 00 80 09 00 00 00 05 01 00 81" ++ replicate 129 10) 15 0 ∷
     reading common (hex "02 01 00 01 81 DF 00 07 00 03 01 00 80 09 00 00 00 05 01 00 FF" ++ replicate 255 10) 15 0 ∷
@@ -80,7 +80,17 @@ bodies =
     reading common (hex "02 01 00 01 AA 1F 00 07 00 03 01 01 80 09 00 00 00 05 01 00 40" ++ replicate 64 10 ++ hex "00 05 01 00 41" ++ replicate 65 10) 15 0 ∷
     reading common (hex "02 01 00 01 78 61 00 07 00 03 01 00 80 09 00 00 00 05 02 00 64" ++ replicate 100 10 ++ hex "01 1C" ++ replicate 28 10) 0 128 ∷
     reading common (hex "02 01 00 01 77 57 00 07 00 03 01 00 80 09 00 00 00 05 02 00 64" ++ replicate 100 10 ++ hex "01 1D" ++ replicate 29 10) 15 0 ∷
-    -- the same in Up
+    -- rows: "net, gateway, and distance plus 256 if external"
+    rows common (hex "02 01 00 01 B3 D5 00 07 00 03 01 00 80 09 00 00 00 05 01 00 02 0A C0 05 06") (ip 10 0 0 0 ∷ theirs ∷ 0 ∷ ip 192 5 6 0 ∷ theirs ∷ 0 ∷ []) ∷
+    rows common (hex "02 01 00 01 7A 21 00 07 00 03 01 00 80 09 00 00 01 02 01 07 01 BF FF") (ip 191 255 0 0 ∷ ip 128 9 1 2 ∷ 7 ∷ []) ∷
+    rows common (hex "02 01 00 01 7B D5 00 07 00 03 00 01 80 09 00 00 00 05 01 05 01 0A") (ip 10 0 0 0 ∷ theirs ∷ 261 ∷ []) ∷
+    rows common (hex "02 01 00 01 76 CD 00 07 00 03 01 01 80 09 00 00 00 05 01 FF 01 0A 00 05 01 FF 01 0A") (ip 10 0 0 0 ∷ theirs ∷ 255 ∷ ip 10 0 0 0 ∷ theirs ∷ 511 ∷ []) ∷
+    -- rows: "Rows go in message order; repeats stay"
+    rows common (hex "02 01 00 01 6A BA 00 07 00 03 02 00 80 09 00 00 00 05 02 03 02 0B 0A 01 01 0B 00 04 01 02 01 0B") (ip 11 0 0 0 ∷ theirs ∷ 3 ∷ ip 10 0 0 0 ∷ theirs ∷ 3 ∷ ip 11 0 0 0 ∷ theirs ∷ 1 ∷ ip 11 0 0 0 ∷ ip 128 9 0 4 ∷ 2 ∷ []) ∷
+    -- rows: a gateway is the common net and "the host part", on 10.0.0.0 and on 192.5.6.0
+    rows (ip 10 0 0 0) (hex "02 01 00 01 E3 EF 00 07 00 03 01 00 0A 00 00 00 01 02 03 01 00 01 0B") (ip 11 0 0 0 ∷ ip 10 1 2 3 ∷ 0 ∷ []) ∷
+    rows (ip 192 5 6 0) (hex "02 01 00 01 28 EC 00 07 00 03 01 00 C0 05 06 00 03 01 00 01 0B") (ip 11 0 0 0 ∷ ip 192 5 6 3 ∷ 0 ∷ []) ∷
+    -- body: in Up
     heard inUp "02 01 00 01 75 25 00 07 00 03 01 00 80 09 00 00 00 05 01 00 01 C0 05" 14 24 0 "02 08 00 01 85 B5 00 09 00 05 00 02 02 01 00 01 75 25 00 07 00 03 01 00" ∷
     heard inUp "02 01 00 01 75 1F 00 07 00 03 01 00 80 09 00 00 00 05 01 00 01 C0 05 06 00" 14 24 0 "02 08 00 01 85 BB 00 09 00 05 00 02 02 01 00 01 75 1F 00 07 00 03 01 00" ∷
     heard inUp "02 01 00 01 7A 05 00 07 00 03 01 00 80 09 00 00 00 05 01 00 01 E0" 14 24 0 "02 08 00 01 80 D5 00 09 00 05 00 02 02 01 00 01 7A 05 00 07 00 03 01 00" ∷

@@ -83,7 +83,7 @@ forms =
     unformed (state nine (slot theirs 7 (made Idle 1 0 0 0 Unset 0 0 0 0 0 0) 0) vacant vacant vacant vacant vacant vacant vacant) ∷
     unformed (state nine vacant vacant vacant vacant vacant vacant vacant (slot theirs 7 (made Idle 1 0 0 0 Unset 0 0 0 0 0 0) 0)) ∷
     unformed (state nine vacant vacant vacant vacant vacant vacant vacant (slot 0 0 (made Idle 1 0 0 0 Unset 0 0 0 0 0 0) 0)) ∷
-    -- "free slots are all zero": each field in turn
+    -- "free slots are all zero": each field in turn, the state too
     formed (beside vacant) ∷
     unformed (beside (slot 0 1 resting 0)) ∷
     unformed (beside (slot 0 0 (made Idle 1 0 0 0 Unset 0 0 0 0 0 0) 0)) ∷

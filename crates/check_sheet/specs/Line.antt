@@ -18,7 +18,7 @@ use Rattle.lines.specs.Listing.{listingOutcome}
 use Rattle.check_sheet.specs.Given.{hex, common, theirs, inIdle}
 
 -- A table is given by how many numbers it has, a buffer by how many octets. All of a table are 8 and all of a buffer 7,
--- so that what is kept shows; a listing's table is given whole.
+-- so that what is kept shows; none has less than 774 or 32. A listing's table is given whole.
 pub data Line : Type 0 where
   -- fresh: settings; the answer, and the state after it
   fresh : Settings → ℕ → State → Line
@@ -34,6 +34,8 @@ pub data Line : Type 0 where
   listing : State → List ℕ → ℕ → ℕ → ℕ → Line
   -- reading alone: common net, octets; the answer and the number of rows
   reading : ℕ → List ℕ → ℕ → ℕ → Line
+  -- reading alone an Update that is good: common net, octets; the numbers of its rows
+  rows : ℕ → List ℕ → List ℕ → Line
   -- writing: meaning, numbers of its rows, buffer; the answer and the length
   writing : Message → List ℕ → ℕ → ℕ → ℕ → Line
   -- octets read alone on the common net, and sent by the neighbour in Idle: one answer for both
@@ -51,6 +53,8 @@ pub data Result : Type 0 where
   sends : Outcome → List ℕ → List ℕ → Result
   -- an answer, and a number beside it
   pair : ℕ → ℕ → Result
+  -- the numbers of rows
+  holds : List ℕ → Result
 
 -- 01: "Every refusal returns the state as given, keeps the table"; what a carried-out call leaves is not looked at here
 unfoldable pub afterRefusal : {A : Type 0} → ℕ → A → A → A
@@ -60,9 +64,9 @@ unfoldable pub refusedState : State → Outcome → Outcome
 refusedState st o =
     record { answer = o .answer; first = o .first; second = o .second; state = afterRefusal (o .answer) st (o .state) }
 
--- 01: a refusal keeps "all octets beyond the named reply", of which the longest takes 24
+-- the first 32 numbers: of a buffer, since a refusal keeps "all octets beyond the named reply", and of an Update's rows
 unfoldable pub front : List ℕ → List ℕ
-front buffer = take 32 buffer
+front numbers = take 32 numbers
 
 -- two rows of the neighbour's slot
 unfoldable pub rowsOfTwo : List ℕ → List ℕ
@@ -87,7 +91,8 @@ computed (message st table buffer home address octets answer first second reply)
     seen st t (messageOutcome st t b home address octets)
     (messageTable st t b home address octets) (messageBuffer st t b home address octets)
 computed (listing st table buffer answer length) = leaves (listingOutcome st table (replicate buffer 7))
-computed (reading net octets answer rows) = pair (numberOf ((readOf net octets) .meaning)) ((readOf net octets) .count)
+computed (reading net octets answer count) = pair (numberOf ((readOf net octets) .meaning)) ((readOf net octets) .count)
+computed (rows net octets numbers) = holds (front ((readOf net octets) .rows))
 computed (writing m numbers buffer answer length) =
     let b : List ℕ = replicate buffer 7 in
     pair ((writeOf m numbers b) .answer) ((writeOf m numbers b) .length)
@@ -102,11 +107,12 @@ written (add st address asn answer after) = leaves (record { answer = answer; fi
 written (remove st address answer after) = leaves (record { answer = answer; first = 0; second = 0; state = after })
 written (event e st table buffer address answer first second reply) =
     sends (record { answer = answer; first = first; second = second; state = st })
-    (front (reply ++ replicate buffer 7)) (rowsOfTwo (replicate table 8))
+    (front (reply ++ replicate 32 7)) (replicate 6 8)
 written (message st table buffer home address octets answer first second reply) =
     sends (record { answer = answer; first = first; second = second; state = st })
-    (front (reply ++ replicate buffer 7)) (rowsOfTwo (replicate table 8))
+    (front (reply ++ replicate 32 7)) (replicate 6 8)
 written (listing st table buffer answer length) = leaves (record { answer = answer; first = length; second = 0; state = st })
-written (reading net octets answer rows) = pair answer rows
+written (reading net octets answer count) = pair answer count
+written (rows net octets numbers) = holds (front (numbers ++ replicate 384 0))
 written (writing m numbers buffer answer length) = pair answer length
 written (judged octets answer) = pair answer answer

@@ -32,6 +32,10 @@ numbers =
     -- remove 0: "a removed slot is free again"
     remove inIdle theirs 0 (state nine (slot others 12 resting 0) vacant vacant vacant vacant vacant vacant vacant) ∷
     remove inDown others 0 (state nine vacant vacant (slot theirs 7 falling 0) vacant vacant vacant vacant vacant) ∷
+    remove full (ip 128 9 0 17) 0
+    (state nine
+    (slot (ip 128 9 0 10) 10 resting 0) (slot (ip 128 9 0 11) 11 resting 0) (slot (ip 128 9 0 12) 12 resting 0) (slot (ip 128 9 0 13) 13 resting 0)
+    (slot (ip 128 9 0 14) 14 resting 0) (slot (ip 128 9 0 15) 15 resting 0) (slot (ip 128 9 0 16) 16 resting 0) vacant) ∷
     -- remove 1: "state not well formed"
     remove unsound theirs 1 unsound ∷
     -- remove 5: "no used slot has this address", 0 included
@@ -54,63 +58,64 @@ numbers =
     -- Start 0
     event Start inIdle 3072 2048 theirs 0 14 0 (hex "02 03 00 00 FD 5D 00 09 00 00 00 1E 00 78") ∷
     event Start inIdle 3072 2049 theirs 0 14 0 (hex "02 03 00 00 FD 5D 00 09 00 00 00 1E 00 78") ∷
+    event Start full 3072 2048 (ip 128 9 0 17) 0 14 0 (hex "02 03 00 00 FD 5D 00 09 00 00 00 1E 00 78") ∷
     -- Start 1: "state not well formed"
     event Start unsound 3072 2048 theirs 1 0 0 [] ∷
     -- Start 2: "table not 3,072 numbers"
     event Start inIdle 3071 2048 theirs 2 0 0 [] ∷
     event Start inIdle 3073 2048 theirs 2 0 0 [] ∷
-    event Start inIdle 0 2048 theirs 2 0 0 [] ∷
+    event Start inIdle 1024 2048 theirs 2 0 0 [] ∷
     -- Start 3: "reply .. buffer too short"
     event Start inIdle 3072 2047 theirs 3 0 0 [] ∷
-    event Start inIdle 3072 0 theirs 3 0 0 [] ∷
+    event Start inIdle 3072 32 theirs 3 0 0 [] ∷
     -- Start 5: "no used slot has this address", 0 included
     event Start inIdle 3072 2048 nobody 5 0 0 [] ∷
     event Start inIdle 3072 2048 0 5 0 0 [] ∷
     -- Stop 0
     event Stop inIdle 3072 2048 theirs 0 0 0 [] ∷
     event Stop inIdle 3072 2049 theirs 0 0 0 [] ∷
+    event Stop full 3072 2048 (ip 128 9 0 17) 0 0 0 [] ∷
     -- Stop 1: "state not well formed"
     event Stop unsound 3072 2048 theirs 1 0 0 [] ∷
     -- Stop 2: "table not 3,072 numbers"
     event Stop inIdle 3071 2048 theirs 2 0 0 [] ∷
     event Stop inIdle 3073 2048 theirs 2 0 0 [] ∷
-    event Stop inIdle 0 2048 theirs 2 0 0 [] ∷
+    event Stop inIdle 1024 2048 theirs 2 0 0 [] ∷
     -- Stop 3: "reply .. buffer too short"
     event Stop inIdle 3072 2047 theirs 3 0 0 [] ∷
-    event Stop inIdle 3072 0 theirs 3 0 0 [] ∷
+    event Stop inIdle 3072 32 theirs 3 0 0 [] ∷
     -- Stop 5: "no used slot has this address", 0 included
     event Stop inIdle 3072 2048 nobody 5 0 0 [] ∷
     event Stop inIdle 3072 2048 0 5 0 0 [] ∷
     -- tick 0
     event Tick inIdle 3072 2048 theirs 0 0 0 [] ∷
     event Tick inIdle 3072 2049 theirs 0 0 0 [] ∷
-    -- tick 0: the neighbour in the first slot, and in the last
-    event Tick full 3072 2048 (ip 128 9 0 10) 0 0 0 [] ∷
     event Tick full 3072 2048 (ip 128 9 0 17) 0 0 0 [] ∷
     -- tick 1: "state not well formed"
     event Tick unsound 3072 2048 theirs 1 0 0 [] ∷
     -- tick 2: "table not 3,072 numbers"
     event Tick inIdle 3071 2048 theirs 2 0 0 [] ∷
     event Tick inIdle 3073 2048 theirs 2 0 0 [] ∷
-    event Tick inIdle 0 2048 theirs 2 0 0 [] ∷
+    event Tick inIdle 1024 2048 theirs 2 0 0 [] ∷
     -- tick 3: "reply .. buffer too short"
     event Tick inIdle 3072 2047 theirs 3 0 0 [] ∷
-    event Tick inIdle 3072 0 theirs 3 0 0 [] ∷
+    event Tick inIdle 3072 32 theirs 3 0 0 [] ∷
     -- tick 5: "no used slot has this address", 0 included
     event Tick inIdle 3072 2048 nobody 5 0 0 [] ∷
     event Tick inIdle 3072 2048 0 5 0 0 [] ∷
     -- message 0: "the call was carried out, even if it changes nothing"
     heard inIdle "02 05 00 00 FD EA 00 07 00 09" 0 0 0 "" ∷
     message inIdle 3072 2049 [] theirs (hex "02 05 00 00 FD EA 00 07 00 09") 0 0 0 [] ∷
+    message full 3072 2048 [] (ip 128 9 0 17) (hex "02 05 00 00 FD E0 00 11 00 09") 0 0 0 [] ∷
     -- message 1: "state not well formed"
     heard unsound "02 05 00 00 FD EA 00 07 00 09" 1 0 0 "" ∷
     -- message 2: "table not 3,072 numbers"
     message inIdle 3071 2048 [] theirs (hex "02 05 00 00 FD EA 00 07 00 09") 2 0 0 [] ∷
     message inIdle 3073 2048 [] theirs (hex "02 05 00 00 FD EA 00 07 00 09") 2 0 0 [] ∷
-    message inIdle 0 2048 [] theirs (hex "02 05 00 00 FD EA 00 07 00 09") 2 0 0 [] ∷
+    message inIdle 1024 2048 [] theirs (hex "02 05 00 00 FD EA 00 07 00 09") 2 0 0 [] ∷
     -- message 3: "reply .. buffer too short", though nothing would be sent
     message inIdle 3072 2047 [] theirs (hex "02 05 00 00 FD EA 00 07 00 09") 3 0 0 [] ∷
-    message inIdle 3072 0 [] theirs (hex "02 05 00 00 FD EA 00 07 00 09") 3 0 0 [] ∷
+    message inIdle 3072 32 [] theirs (hex "02 05 00 00 FD EA 00 07 00 09") 3 0 0 [] ∷
     -- message 4: "bad home list"; a good one of one row
     message inIdle 3072 2048 (ip 10 0 0 0 ∷ ours ∷ 256 ∷ []) theirs (hex "02 05 00 00 FD EA 00 07 00 09") 4 0 0 [] ∷
     message inIdle 3072 2048 (ip 10 0 0 0 ∷ ours ∷ 255 ∷ []) theirs (hex "02 05 00 00 FD EA 00 07 00 09") 0 0 0 [] ∷

@@ -67,6 +67,7 @@ orders =
     -- add 16/17: AS 0 and a present address, where no slot is free
     add full nobody 0 16 full ∷
     add full (ip 128 9 0 10) 8 16 full ∷
+    add full (ip 128 9 0 17) 8 16 full ∷
     -- remove 1/5
     remove unsound nobody 1 unsound ∷
     -- remove 1/18; 5 and 18 exclude each other, since 18 is said of the neighbour that has the address

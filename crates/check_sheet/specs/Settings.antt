@@ -4,8 +4,8 @@ use Rattle.check_sheet.specs.Given.{ip, common, ours, theirs, others, no
 use Rattle.check_sheet.specs.Line.{Line, fresh, add}
 
 -- 01: "Fresh refuses 16 for own AS 0, capability above 2, a common net that isn't a left-justified class A, B or C net,
--- or an own address off that net; it then returns the all-zero state"; "Add refuses 16 for AS 0 or own AS, or an address
--- that is 0, our own or present."
+-- or an own address off that net; it then returns the all-zero state"; "Add refuses 16 for AS 0 or own AS, or an
+-- address that is 0, our own or present."
 unfoldable pub settings : List Line
 settings =
     -- fresh: "own AS 0"

@@ -61,7 +61,7 @@ pub fn store(buffer: &mut [u8], octets: &[u8]) -> usize
 }
 
 // The one's complement sum of two words.
-pub fn ones_add(a: u16, b: u16) -> u16
+fn ones_add(a: u16, b: u16) -> u16
     ensures { λ r. ⌜ r ≡ onesAdd a b ⌝ }
 {
     let sum = a as u32 + b as u32;
@@ -72,7 +72,7 @@ pub fn ones_add(a: u16, b: u16) -> u16
 }
 
 // The one's complement sum of start and the words of octets.
-pub fn ones_sum(octets: &[u8], start: u16) -> u16
+fn ones_sum(octets: &[u8], start: u16) -> u16
     ensures { λ r. ⌜ r ≡ onesSum start (now (octets .entry)) ⌝ }
 {
     let mut sum = start;

@@ -7,7 +7,9 @@ use std::process::ExitCode;
 
 use reference::coverage::{Survey, PLACES_WANTED};
 use reference::generate::{day, recordings};
-use reference::{compare, compare_recordings, coverage, playback, sample, site, speed};
+use reference::{
+    checksum_speed, compare, compare_recordings, coverage, playback, sample, site, speed,
+};
 
 fn main() -> ExitCode {
     let arguments: Vec<String> = std::env::args().skip(1).collect();
@@ -25,7 +27,8 @@ fn main() -> ExitCode {
         }),
         ["sample", "records"] => print_octets(&sample::records()),
         ["sample", "answers"] => print_octets(&sample::answers()),
-        ["speed", driver] => print_speed(driver),
+        ["speed", driver] => print_times(speed::report(driver)),
+        ["checksum-speed", program] => print_times(checksum_speed::report(program)),
         _ => recording_command(&words),
     }
 }
@@ -146,8 +149,8 @@ fn print_playback(recording: io::Result<Vec<u8>>) -> ExitCode {
     }
 }
 
-fn print_speed(driver: &str) -> ExitCode {
-    match speed::report(driver) {
+fn print_times(report: io::Result<String>) -> ExitCode {
+    match report {
         Ok(report) => {
             print!("{report}");
             ExitCode::SUCCESS
@@ -167,6 +170,7 @@ fn usage() -> ExitCode {
        reference case SEED INDEX
        reference sample records|answers
        reference speed DRIVER
+       reference checksum-speed PROGRAM
        reference play [FILE]
        reference recording SEED LINES
        reference compare-recordings PROGRAM SEED COUNT

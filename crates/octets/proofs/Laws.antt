@@ -29,50 +29,7 @@ pub over-nothing : (buffer : List ℕ) → over [] buffer ≡ buffer
 unfolding over
 over-nothing buffer = refl
 
--- ---- the one's complement sum, along a loop over tails
-
-pub sum-turn : (s : ℕ) (l : List ℕ) → 1 < length l
-    → onesSum s l ≡ onesSum (onesAdd s (pairOf (getD l 0 0) (getD l 1 0))) (take (length l - 2) (drop 2 l))
-unfolding onesSum
-sum-turn s [] h = absurd (omega arith)
-sum-turn s (a ∷ []) h = absurd (omega arith)
-sum-turn s (a ∷ b ∷ rest) h = rw (part-from 2 (a ∷ b ∷ rest))
-
-pub sum-odd : (s : ℕ) (l : List ℕ) → length l ≡ 1 → onesSum s l ≡ onesAdd s (pairOf (getD l 0 0) 0)
-unfolding onesSum
-sum-odd s [] e = absurd (omega arith)
-sum-odd s (a ∷ []) e = refl
-sum-odd s (a ∷ b ∷ rest) e = absurd (omega arith)
-
-pub sum-done : (s : ℕ) (l : List ℕ) → length l ≤ 1 → (length l ≡ 1 → ⊥) → onesSum s l ≡ s
-unfolding onesSum
-sum-done s [] h n = refl
-sum-done s (a ∷ []) h n = absurd (n refl)
-sum-done s (a ∷ b ∷ rest) h n = absurd (omega arith)
-
 -- ---- the checksum's field taken as 0
-
--- a word of 0 adds nothing to a 16-bit sum
-pub add-zero-word : (x : ℕ) → x < 65536 → onesAdd x 0 ≡ x
-unfolding onesAdd
-add-zero-word x h = rw add-zero (simp (lt-ltb x 65536 h))
-
-pub blanked-short : (m : List ℕ) → length m < 5 → onesSum 0 m ≡ onesSum 0 (blanked m)
-blanked-short m h =
-    let p : length m ≤ 4 = omega arith in
-    let q : length m ≤ 5 = omega arith in
-    rw (set-out m 4 0 p, set-out m 5 0 q)
-
-pub blanked-front : (m : List ℕ) → 5 ≤ length m → length m < 7 → onesSum 0 (take 4 m) < 65536 → onesSum 0 (take 4 m) ≡ onesSum 0 (blanked m)
-unfolding onesSum
-blanked-front [] p q h = absurd (omega arith)
-blanked-front (a ∷ []) p q h = absurd (omega arith)
-blanked-front (a ∷ b ∷ []) p q h = absurd (omega arith)
-blanked-front (a ∷ b ∷ c ∷ []) p q h = absurd (omega arith)
-blanked-front (a ∷ b ∷ c ∷ d ∷ []) p q h = absurd (omega arith)
-blanked-front (a ∷ b ∷ c ∷ d ∷ e ∷ []) p q h = sym (add-zero-word (onesAdd (onesAdd 0 (pairOf a b)) (pairOf c d)) h)
-blanked-front (a ∷ b ∷ c ∷ d ∷ e ∷ f ∷ []) p q h = sym (add-zero-word (onesAdd (onesAdd 0 (pairOf a b)) (pairOf c d)) h)
-blanked-front (a ∷ b ∷ c ∷ d ∷ e ∷ f ∷ g ∷ m) p q h = absurd (omega arith)
 
 -- a list of six or more, written out
 pub six-or-more : (P : List ℕ → Type 0) → ((a b c d e f : ℕ) (rest : List ℕ) → P (a ∷ b ∷ c ∷ d ∷ e ∷ f ∷ rest)) → (m : List ℕ) → 6 ≤ length m → P m
@@ -83,12 +40,6 @@ six-or-more P p (a ∷ b ∷ c ∷ []) h = absurd (omega arith)
 six-or-more P p (a ∷ b ∷ c ∷ d ∷ []) h = absurd (omega arith)
 six-or-more P p (a ∷ b ∷ c ∷ d ∷ e ∷ []) h = absurd (omega arith)
 six-or-more P p (a ∷ b ∷ c ∷ d ∷ e ∷ f ∷ rest) h = p a b c d e f rest
-
-pub blanked-rest : (m : List ℕ) → 6 ≤ length m → onesSum 0 (take 4 m) < 65536 → onesSum (onesSum 0 (take 4 m)) (drop 6 m) ≡ onesSum 0 (blanked m)
-unfolding onesSum
-blanked-rest m p =
-    six-or-more (λ m. onesSum 0 (take 4 m) < 65536 → onesSum (onesSum 0 (take 4 m)) (drop 6 m) ≡ onesSum 0 (blanked m))
-    (λ a b c d e f rest h. ap (λ (x : ℕ). onesSum x rest) (sym (add-zero-word (onesAdd (onesAdd 0 (pairOf a b)) (pairOf c d)) h))) m p
 
 -- ---- a message with its checksum put in
 
@@ -158,12 +109,12 @@ sealed-blanked o h = six-or-more (λ o. sealed (blanked o) ≡ sealed o) (λ a b
 
 -- ---- folding once, at the end
 
-fold-positive : (n : ℕ) → 0 < n → folded n ≡ (n - 1) % 65535 + 1
+pub fold-positive : (n : ℕ) → 0 < n → folded n ≡ (n - 1) % 65535 + 1
 unfolding folded
 fold-positive zero h = absurd (omega arith)
 fold-positive (suc n) h = omega arith
 
-fold-sum : (s : ℕ) → s < 65536 → s ≡ folded s
+pub fold-sum : (s : ℕ) → s < 65536 → s ≡ folded s
 unfolding folded
 fold-sum zero h = refl
 fold-sum (suc n) h = omega arith

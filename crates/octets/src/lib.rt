@@ -1,10 +1,11 @@
 // Octets: big-endian numbers, the one's complement checksum, and storing octets at the front of a lent buffer.
 ghost use mathlib.Core.Path.{_≡_};
-ghost use Prim.Native.Nat.{_+_, _/_, _%_, _≤_};
-ghost use lib.ListN.{length, getD};
+ghost use Prim.Native.Nat.{_+_, _/_, _%_, _<_, _≤_};
+ghost use lib.ListN.{length, getD, drop};
 ghost use Rattle.octets.specs.Numbers.{pairOf, quadOf, word16, word32};
 ghost use Rattle.octets.specs.Buffer.{over};
-ghost use Rattle.octets.specs.Checksum.{onesAdd, onesSum, checksumOf, sealed};
+ghost use Rattle.octets.specs.Checksum.{checksumOf, sealed, folded};
+ghost use Rattle.octets.specs.Wide.{wideTotal};
 
 // The 16-bit number whose octets are a and b.
 pub fn pair(a: u8, b: u8) -> u16
@@ -60,45 +61,120 @@ pub fn store(buffer: &mut [u8], octets: &[u8]) -> usize
     bytes::copy(octets, buffer)
 }
 
-// The one's complement sum of two words.
-fn ones_add(a: u16, b: u16) -> u16
-    ensures { λ r. ⌜ r ≡ onesAdd a b ⌝ }
+// The sum of the two 32-bit words at the front of octets.
+fn two_words(octets: &[u8]) -> u64
+    requires { ⌜ 8 ≤ length (now octets) ⌝ }
+    ensures { λ r. ⌜ r + wideTotal (drop 8 (now (octets .entry))) ≡ wideTotal (now (octets .entry)) ⌝ }
 {
-    let sum = a as u32 + b as u32;
-    if sum < 65536 {
-        return sum as u16;
-    }
-    (sum - 65535) as u16
+    word32_at(octets, 0) as u64 + word32_at(octets, 4) as u64
 }
 
-// The one's complement sum of start and the words of octets.
-fn ones_sum(octets: &[u8], start: u16) -> u16
-    ensures { λ r. ⌜ r ≡ onesSum start (now (octets .entry)) ⌝ }
+// The sum of the four 32-bit words at the front of octets.
+fn four_words(octets: &[u8]) -> u64
+    requires { ⌜ 16 ≤ length (now octets) ⌝ }
+    ensures { λ r. ⌜ r + wideTotal (drop 16 (now (octets .entry))) ≡ wideTotal (now (octets .entry)) ⌝ }
+{
+    word32_at(octets, 0) as u64
+        + word32_at(octets, 4) as u64
+        + word32_at(octets, 8) as u64
+        + word32_at(octets, 12) as u64
+}
+
+// The sum of the eight 32-bit words at the front of octets.
+fn eight_words(octets: &[u8]) -> u64
+    requires { ⌜ 32 ≤ length (now octets) ⌝ }
+    ensures { λ r. ⌜ r + wideTotal (drop 32 (now (octets .entry))) ≡ wideTotal (now (octets .entry)) ⌝ }
+{
+    word32_at(octets, 0) as u64
+        + word32_at(octets, 4) as u64
+        + word32_at(octets, 8) as u64
+        + word32_at(octets, 12) as u64
+        + word32_at(octets, 16) as u64
+        + word32_at(octets, 20) as u64
+        + word32_at(octets, 24) as u64
+        + word32_at(octets, 28) as u64
+}
+
+// start and the plain sum of the 32-bit words of octets, where 64 bits hold it.
+fn wide_sum(octets: &[u8], start: u64) -> u64
+    requires { ⌜ start + wideTotal (now octets) < 18446744073709551616 ⌝ }
+    ensures { λ r. ⌜ r ≡ start + wideTotal (now (octets .entry)) ⌝ }
 {
     let mut sum = start;
     let mut rest = octets;
-    while 1 < rest.len() {
-        sum = ones_add(sum, pair(rest[0], rest[1]));
-        rest = &rest[2..];
+    while 31 < rest.len() {
+        sum = sum + eight_words(rest);
+        rest = &rest[32..];
     }
-    if rest.len() == 1 {
-        return ones_add(sum, pair(rest[0], 0));
+    if 15 < rest.len() {
+        sum = sum + four_words(rest);
+        rest = &rest[16..];
     }
-    sum
+    if 7 < rest.len() {
+        sum = sum + two_words(rest);
+        rest = &rest[8..];
+    }
+    if 3 < rest.len() {
+        sum = sum + word32_at(rest, 0) as u64;
+        rest = &rest[4..];
+    }
+    sum + word32_at(rest, 0) as u64
 }
 
-// The checksum of a message, whatever stands in its field: the words before octet 4 and those from octet 6 on.
+// What lies above the lower 16 bits of a sum, added to them: the carries brought round.
+fn carries_round(sum: u64) -> u64
+    ensures { λ r. ⌜ r ≡ sum / 65536 + sum % 65536 ⌝ }
+{
+    sum / 65536 + sum % 65536
+}
+
+// A plain sum folded to 16 bits: 33 bits are left after the first line, then 18, then 17, then 16.
+fn fold(sum: u64) -> u16
+    ensures { λ r. ⌜ r ≡ folded sum ⌝ }
+{
+    let halves = sum / 4294967296 + sum % 4294967296;
+    let once = carries_round(halves);
+    let twice = carries_round(once);
+    carries_round(twice) as u16
+}
+
+// How many octets are summed up before a fold: more than any message has, and few enough for 64 bits.
+fn stretch() -> usize
+    ensures { λ r. ⌜ r ≡ 1048576 ⌝ }
+{
+    1048576
+}
+
+// start and the words of octets, folded: once, at the end, and in a slice that no message fills after each stretch too.
+fn fold_words(octets: &[u8], start: u64) -> u16
+    requires { ⌜ start < 8589934592 ⌝ }
+    ensures { λ r. ⌜ r ≡ folded (start + wideTotal (now (octets .entry))) ⌝ }
+{
+    let mut sum = start;
+    let mut rest = octets;
+    let size = stretch();
+    while size < rest.len() {
+        sum = fold(wide_sum(&rest[..size], sum)) as u64;
+        rest = &rest[size..];
+    }
+    fold(wide_sum(rest, sum))
+}
+
+// The sum of a message's first two words, the field in the second taken as 0.
+fn first_words(message: &[u8]) -> u64
+    ensures { λ r. ⌜ r ≡ word32 (now (message .entry)) 0 + word16 (now (message .entry)) 6 ⌝ }
+{
+    word32_at(message, 0) as u64 + word16_at(message, 6) as u64
+}
+
+// The checksum of a message, whatever stands in its field.
 pub fn checksum(message: &[u8]) -> u16
     ensures { λ r. ⌜ r ≡ checksumOf (now (message .entry)) ⌝ }
 {
-    if message.len() < 5 {
-        return 65535 - ones_sum(message, 0);
+    if message.len() < 8 {
+        return 65535 - fold(first_words(message));
     }
-    let front = ones_sum(&message[..4], 0);
-    if message.len() < 7 {
-        return 65535 - front;
-    }
-    65535 - ones_sum(&message[6..], front)
+    65535 - fold_words(&message[8..], first_words(message))
 }
 
 // Puts a message's checksum into its field.

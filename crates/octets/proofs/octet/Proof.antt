@@ -3,18 +3,13 @@ use lib.ListN.{List·getD-eq-default}
 use borrow.Author.Needs.{needs}
 use Rattle.octets.proofs.octet.Statement.{statement}
 use Rattle.octets.proofs.octet.Tie as tie
-use Rattle.octets.proofs.octet.Reads as reads
-use Rattle.octets.proofs.octet.Lts as lts
 
--- src/lib.rt:28:16
 shared-slice-read-result : tie.Need-shared-slice-read-result
 shared-slice-read-result c = search needs
 
--- src/lib.rt:28:9
 returns : tie.Need-returns
 returns c = search needs
 
--- src/lib.rt:24:1
 returns-2 : tie.Need-returns-2
 returns-2 c = sym (List·getD-eq-default (c .before .args .octets .now) 0 (c .if1 .left))
 

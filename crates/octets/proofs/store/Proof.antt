@@ -3,19 +3,13 @@ use Rattle.octets.proofs.Laws.{over-copied}
 use borrow.Author.Needs.{needs}
 use Rattle.octets.proofs.store.Statement.{statement}
 use Rattle.octets.proofs.store.Tie as tie
-use Rattle.octets.proofs.store.Reads as reads
-use Rattle.octets.proofs.store.Lts as lts
-use Rattle.bytes.proofs.copy.Reads as copy-reads
 
--- src/lib.rt:29:5
 copy-requires : tie.Need-copy-requires
 copy-requires c κs = search needs
 
--- src/lib.rt:24:1
 same-length : tie.Need-same-length
 same-length c = search needs
 
--- src/lib.rt:24:1
 returns : tie.Need-returns
 returns c = (c .before .before .copy .ensures .0, c .before .before .copy .ensures .1 ∙ over-copied _ _)
 

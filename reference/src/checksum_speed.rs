@@ -1,0 +1,201 @@
+//! How long the checksum alone takes: the proved one beside two plain loops, on the same messages.
+//!
+//! A record asks the program `checksums` to sum up the checksums of messages that lie one behind the
+//! other, so many times; the loops do the same here. All run in turn, and the best round counts.
+
+use std::fmt::Write as _;
+use std::hint::black_box;
+use std::io::{self, Read, Write};
+use std::process::{Child, ChildStdin, ChildStdout, Command, Stdio};
+use std::time::{Duration, Instant};
+
+use crate::random::Random;
+
+/// The lengths of message that are timed.
+const LENGTHS: [usize; 5] = [10, 64, 576, 1168, 2048];
+/// How many octets of messages lie one behind the other: they stay in the nearest cache.
+const ROOM: usize = 16_384;
+const ROUNDS: usize = 15;
+/// How long a round should last.
+const ROUND: Duration = Duration::from_millis(20);
+
+/// Words of 16 bits, folded at the end.
+fn by_16(message: &[u8]) -> u16 {
+    let mut sum = 0;
+    let mut words = message.chunks_exact(2);
+    for word in words.by_ref() {
+        sum += u32::from(u16::from_be_bytes([word[0], word[1]]));
+    }
+    for octet in words.remainder() {
+        sum += u32::from(*octet) << 8;
+    }
+    for (octet, shift) in message.iter().skip(4).zip([8, 0]) {
+        sum -= u32::from(*octet) << shift;
+    }
+    fold(u64::from(sum))
+}
+
+/// Words of 32 bits, summed up in 64 and folded at the end.
+fn by_32(message: &[u8]) -> u16 {
+    let mut sum = 0;
+    let mut words = message.chunks_exact(4);
+    for word in words.by_ref() {
+        sum += u64::from(u32::from_be_bytes([word[0], word[1], word[2], word[3]]));
+    }
+    for (octet, shift) in words.remainder().iter().zip([24, 16, 8]) {
+        sum += u64::from(*octet) << shift;
+    }
+    for (octet, shift) in message.iter().skip(4).zip([24, 16]) {
+        sum -= u64::from(*octet) << shift;
+    }
+    fold(sum)
+}
+
+fn fold(mut sum: u64) -> u16 {
+    while sum > 0xFFFF {
+        sum = (sum & 0xFFFF) + (sum >> 16);
+    }
+    !(sum as u16)
+}
+
+/// The sum of the checksums of the messages, so many times, and how long it took.
+fn timed(
+    checksum: impl Fn(&[u8]) -> u16,
+    messages: &[u8],
+    length: usize,
+    times: u32,
+) -> (u32, Duration) {
+    let start = Instant::now();
+    let mut sum = 0u32;
+    for _ in 0..times {
+        for message in black_box(messages).chunks_exact(length) {
+            sum = sum.wrapping_add(u32::from(checksum(message)));
+        }
+    }
+    (black_box(sum), start.elapsed())
+}
+
+/// The program under time, and both ends of its pipes.
+struct Program {
+    child: Child,
+    records: ChildStdin,
+    answers: ChildStdout,
+}
+
+impl Program {
+    fn start(path: &str) -> io::Result<Program> {
+        let mut child = Command::new(path)
+            .stdin(Stdio::piped())
+            .stdout(Stdio::piped())
+            .spawn()?;
+        let (records, answers) = (child.stdin.take(), child.stdout.take());
+        match (records, answers) {
+            (Some(records), Some(answers)) => Ok(Program {
+                child,
+                records,
+                answers,
+            }),
+            _ => Err(io::Error::other("no pipe to the program")),
+        }
+    }
+
+    fn ask(&mut self, messages: &[u8], length: usize, times: u32) -> io::Result<(u32, Duration)> {
+        let mut record = times.to_be_bytes().to_vec();
+        record.extend((length as u16).to_be_bytes());
+        record.extend((messages.len() as u16).to_be_bytes());
+        record.extend(messages);
+        let mut answer = [0; 4];
+        let start = Instant::now();
+        self.records.write_all(&record)?;
+        self.records.flush()?;
+        self.answers.read_exact(&mut answer)?;
+        Ok((u32::from_be_bytes(answer), start.elapsed()))
+    }
+
+    /// Without the way there and back.
+    fn timed(&mut self, messages: &[u8], length: usize, times: u32) -> io::Result<(u32, Duration)> {
+        let (once, way) = self.ask(messages, length, 1)?;
+        let (all, time) = self.ask(messages, length, times + 1)?;
+        Ok((all.wrapping_sub(once), time.saturating_sub(way)))
+    }
+
+    fn end(mut self) -> io::Result<()> {
+        drop(self.records);
+        self.child.wait().map(|_| ())
+    }
+}
+
+/// Nanoseconds a message: the proved checksum, the loop by 16 bits, the loop by 32.
+fn measure(program: &mut Program, length: usize) -> io::Result<[f64; 3]> {
+    let mut random = Random::new(length as u64);
+    let octets = ROOM / length * length;
+    let messages: Vec<u8> = (0..octets).map(|_| random.octet()).collect();
+    let mut times = 1;
+    while timed(by_32, &messages, length, times).1 < ROUND {
+        times *= 2;
+    }
+    let mut best = [Duration::MAX; 3];
+    for _ in 0..ROUNDS {
+        let results = [
+            program.timed(&messages, length, times)?,
+            timed(by_16, &messages, length, times),
+            timed(by_32, &messages, length, times),
+        ];
+        for (place, (sum, time)) in best.iter_mut().zip(results) {
+            if sum != results[0].0 {
+                return Err(io::Error::other(format!(
+                    "the checksums of messages of {length} octets differ"
+                )));
+            }
+            *place = (*place).min(time);
+        }
+    }
+    let each = f64::from(times) * (ROOM / length) as f64;
+    Ok(best.map(|time| time.as_secs_f64() * 1e9 / each))
+}
+
+/// The table of all lengths.
+pub fn report(path: &str) -> io::Result<String> {
+    let mut program = Program::start(path)?;
+    let mut report = format!(
+        "{:<40} {:>12} {:>12} {:>8} {:>12} {:>8}\n",
+        format!("checksum, nanoseconds, best of {ROUNDS}"),
+        "proved",
+        "by 16 bits",
+        "ratio",
+        "by 32 bits",
+        "ratio"
+    );
+    for length in LENGTHS {
+        let [proved, by_16, by_32] = measure(&mut program, length)?;
+        let _ = writeln!(
+            report,
+            "{:<40} {proved:>12.1} {by_16:>12.1} {:>8.2} {by_32:>12.1} {:>8.2}",
+            format!("{length} octets"),
+            proved / by_16,
+            proved / by_32
+        );
+    }
+    program.end()?;
+    Ok(report)
+}
+
+#[cfg(test)]
+mod tests {
+    use super::*;
+    use crate::checksum::checksum;
+
+    #[test]
+    fn loops_give_the_checksum() {
+        let mut random = Random::new(1);
+        for length in 0..200 {
+            let message: Vec<u8> = (0..length).map(|_| random.octet()).collect();
+            assert_eq!(by_16(&message), checksum(&message), "{length} octets");
+            assert_eq!(by_32(&message), checksum(&message), "{length} octets");
+        }
+        for octet in [0, 255] {
+            assert_eq!(by_16(&[octet; 2048]), checksum(&[octet; 2048]));
+            assert_eq!(by_32(&[octet; 2048]), checksum(&[octet; 2048]));
+        }
+    }
+}

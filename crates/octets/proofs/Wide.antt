@@ -3,12 +3,15 @@ use Prim.Native.Nat.{ℕ, zero, suc, _+_, _-_, _*_, _/_, _%_, _≤_, _<_}
 use native.Mathlib.Nat.{zero-add}
 use native.Mathlib.Omega.{arith}
 use mathlib.Core.Path.{_≡_, refl, sym, ap, _∙_}
+use mathlib.Core.Bool.{Bool, true, false, cond}
+use borrow.Author.Tests.{ltb-true}
+use lib.Dec.{ltb}
 use mathlib.Core.List.{List, [], _∷_, _++_}
 use lib.ListN.{length, take, drop, getD, length-drop, length-set, drop-of-length-le}
 use lib.Seq.{getD-drop, drop-drop, take-append-seam, drop-append-seam}
 use Rattle.octets.specs.Numbers.{pairOf, quadOf, word16, word32, Octets}
 use Rattle.octets.specs.Checksum.{onesSum, blanked, checksumOf, wordTotal, folded, FoldLaws}
-use Rattle.octets.specs.Wide.{wideTotal, WideLaws, EveryLength}
+use Rattle.octets.specs.Wide.{wideTotal, roomy, WideLaws, EveryLength}
 use Rattle.octets.proofs.Laws.{six-or-more, fold-positive, fold-sum, folds}
 
 -- ---- the sums of 32-bit and of 16-bit words
@@ -169,6 +172,11 @@ fold-again (suc m) n =
     let q : 0 < suc m + n = omega arith in
     fold-positive (m % 65535 + 1 + n) p ∙ omega arith ∙ sym (fold-positive (suc m + n) q)
 
+fold-below : (n : ℕ) → folded n < 65536
+unfolding folded
+fold-below zero = omega arith
+fold-below (suc n) = omega arith
+
 pub fold-halves : (n : ℕ) → folded (n / 65536 + n % 65536) ≡ folded n
 fold-halves zero = refl
 fold-halves (suc n) =
@@ -212,24 +220,26 @@ module _ (n a b c : ℕ) (n-fits : n < 18446744073709551616) (p : a ≡ (n / 429
       fold-sum c fold-fits ∙ ap folded r ∙ fold-halves b ∙ ap folded q ∙ fold-halves a ∙ ap folded p
       ∙ fold-halves (n / 4294967296 + n % 4294967296) ∙ fold-wide-halves n
 
--- parts of octets are octets
-pub take-octets : (n : ℕ) (l : List ℕ) → Octets l → Octets (take n l)
-take-octets zero l o i = omega arith
-take-octets (suc n) [] o i = omega arith
-take-octets (suc n) (a ∷ l) o zero = o 0
-take-octets (suc n) (a ∷ l) o (suc i) = take-octets n l (λ k. o (suc k)) i
+-- a running sum folds as what it is kept as does, whatever is still to come
+pub roomy-again : (s n : ℕ) → folded (roomy s + n) ≡ folded (s + n)
+unfolding roomy
+roomy-again s n = go (ltb s 9223372036854775808)
+  where
+    go : (b : Bool) → folded (cond b s (folded s) + n) ≡ folded (s + n)
+    go true = refl
+    go false = fold-again s n
 
-pub drop-octets : (n : ℕ) (l : List ℕ) → Octets l → Octets (drop n l)
-drop-octets n l o i = rw (getD-drop n l i 0) (o (n + i))
+pub roomy-below : (s : ℕ) → roomy s < 9223372036854775808
+unfolding roomy
+roomy-below s = go (ltb s 9223372036854775808) refl
+  where
+    go : (b : Bool) → ltb s 9223372036854775808 ≡ b → cond b s (folded s) < 9223372036854775808
+    go true e = ltb-true s 9223372036854775808 e
+    go false e = omega (arith, fold-below s)
 
--- a stretch on top of what the stretches before it left
-pub stretch-fits : (s : ℕ) (l : List ℕ) → s < 8589934592 → length l ≤ 1048576 → Octets l → s + wideTotal l < 18446744073709551616
-stretch-fits s l p q o = omega (arith, wide-below l o)
-
-pub fold-stretch : (s n : ℕ) (l : List ℕ) → n % 4 ≡ 0 → folded (s + wideTotal l) ≡ folded (folded (s + wideTotal (take n l)) + wideTotal (drop n l))
-fold-stretch s n l h =
-    let e : s + wideTotal l ≡ s + wideTotal (take n l) + wideTotal (drop n l) = omega (arith, wide-cut n l h) in
-    ap folded e ∙ sym (fold-again (s + wideTotal (take n l)) (wideTotal (drop n l)))
+-- words taken from the front into the sum
+pub fold-taken : (s w t u : ℕ) → w + t ≡ u → folded (s + w + t) ≡ folded (s + u)
+fold-taken s w t u e = let k : s + w + t ≡ s + u = omega arith in ap folded k
 
 -- ---- the whole
 
@@ -268,7 +278,7 @@ checksum-behind k p l r e o =
     ∙ ap (λ (x : List ℕ). 65535 - folded (wideTotal x)) (blank-front l r (omega arith))
     ∙ ap (λ (x : ℕ). 65535 - folded x) (wide-behind (blanked l) r n)
 
-wide-room : (m : List ℕ) → Octets m → length m ≤ 2048 → wideTotal (blanked m) < 18446744073709551616
+wide-room : (m : List ℕ) → Octets m → length m ≤ 2048 → wideTotal (blanked m) < 9223372036854775808
 wide-room m o h =
     let e : length (blanked m) ≡ length m = rw (length-set, length-set) in
     omega (arith, wide-below (blanked m) (blank-octets m o))

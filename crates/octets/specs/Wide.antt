@@ -2,6 +2,8 @@
 -- 2,048, odd ones included, to 01's sum of 16-bit words".
 use Prim.Native.Nat.{ℕ, _+_, _-_, _*_, _%_, _≤_, _<_}
 use mathlib.Core.Path.{_≡_}
+use mathlib.Core.Bool.{cond}
+use lib.Dec.{ltb}
 use mathlib.Core.List.{List, [], _∷_, _++_}
 use lib.ListN.{length}
 use Rattle.octets.specs.Numbers.{quadOf, Octets}
@@ -15,6 +17,10 @@ wideTotal (a ∷ b ∷ []) = quadOf a b 0 0
 wideTotal (a ∷ b ∷ c ∷ []) = quadOf a b c 0
 wideTotal (a ∷ b ∷ c ∷ d ∷ rest) = quadOf a b c d + wideTotal rest
 
+-- what a running sum is kept as: itself below 2^63, which no message reaches, so that a message is folded once, at the end
+unfoldable pub roomy : ℕ → ℕ
+roomy sum = cond (ltb sum 9223372036854775808) sum (folded sum)
+
 -- The law that carries the change: the sum of the 32-bit words and that of the 16-bit words agree modulo 65,535 and are 0 together.
 -- So they fold to the same, and the sum of the 32-bit words, folded once, gives 01's checksum of every message.
 pub record WideLaws : Type 0 where
@@ -24,10 +30,10 @@ pub record WideLaws : Type 0 where
   pub fold : (octets : List ℕ) → folded (wideTotal octets) ≡ folded (wordTotal octets)
   pub checksum : (message : List ℕ) → Octets message → 65535 - folded (wideTotal (blanked message)) ≡ checksumOf message
 
--- "At every length up to 2,048, odd ones included": 64 bits hold the sum, and its fold is 01's; of a length that leaves 1, 2 or 3 by 4
--- the last octets are the upper ones of one more word.
+-- "At every length up to 2,048, odd ones included": the sum stays below 2^63, and its fold is 01's; of a length that leaves 1, 2 or 3
+-- by 4 the last octets are the upper ones of one more word.
 pub record EveryLength : Type 0 where
-  pub room : (message : List ℕ) → Octets message → length message ≤ 2048 → wideTotal (blanked message) < 18446744073709551616
+  pub room : (message : List ℕ) → Octets message → length message ≤ 2048 → wideTotal (blanked message) < 9223372036854775808
   pub equal : (n : ℕ) → n ≤ 2048 → (message : List ℕ) → length message ≡ n → Octets message
       → checksumOf message ≡ 65535 - folded (wideTotal (blanked message))
   pub none : (k : ℕ) → 4 * k ≤ 2048 → (message : List ℕ) → length message ≡ 4 * k → Octets message

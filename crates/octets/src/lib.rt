@@ -5,7 +5,7 @@ ghost use lib.ListN.{length, getD, drop};
 ghost use Rattle.octets.specs.Numbers.{pairOf, quadOf, word16, word32};
 ghost use Rattle.octets.specs.Buffer.{over};
 ghost use Rattle.octets.specs.Checksum.{checksumOf, sealed, folded};
-ghost use Rattle.octets.specs.Wide.{wideTotal};
+ghost use Rattle.octets.specs.Wide.{wideTotal, roomy};
 
 // The 16-bit number whose octets are a and b.
 pub fn pair(a: u8, b: u8) -> u16
@@ -65,6 +65,7 @@ pub fn store(buffer: &mut [u8], octets: &[u8]) -> usize
 fn two_words(octets: &[u8]) -> u64
     requires { ⌜ 8 ≤ length (now octets) ⌝ }
     ensures { λ r. ⌜ r + wideTotal (drop 8 (now (octets .entry))) ≡ wideTotal (now (octets .entry)) ⌝ }
+    ensures { λ r. ⌜ r < 8589934592 ⌝ }
 {
     word32_at(octets, 0) as u64 + word32_at(octets, 4) as u64
 }
@@ -73,6 +74,7 @@ fn two_words(octets: &[u8]) -> u64
 fn four_words(octets: &[u8]) -> u64
     requires { ⌜ 16 ≤ length (now octets) ⌝ }
     ensures { λ r. ⌜ r + wideTotal (drop 16 (now (octets .entry))) ≡ wideTotal (now (octets .entry)) ⌝ }
+    ensures { λ r. ⌜ r < 17179869184 ⌝ }
 {
     word32_at(octets, 0) as u64
         + word32_at(octets, 4) as u64
@@ -84,6 +86,7 @@ fn four_words(octets: &[u8]) -> u64
 fn eight_words(octets: &[u8]) -> u64
     requires { ⌜ 32 ≤ length (now octets) ⌝ }
     ensures { λ r. ⌜ r + wideTotal (drop 32 (now (octets .entry))) ≡ wideTotal (now (octets .entry)) ⌝ }
+    ensures { λ r. ⌜ r < 34359738368 ⌝ }
 {
     word32_at(octets, 0) as u64
         + word32_at(octets, 4) as u64
@@ -93,32 +96,6 @@ fn eight_words(octets: &[u8]) -> u64
         + word32_at(octets, 20) as u64
         + word32_at(octets, 24) as u64
         + word32_at(octets, 28) as u64
-}
-
-// start and the plain sum of the 32-bit words of octets, where 64 bits hold it.
-fn wide_sum(octets: &[u8], start: u64) -> u64
-    requires { ⌜ start + wideTotal (now octets) < 18446744073709551616 ⌝ }
-    ensures { λ r. ⌜ r ≡ start + wideTotal (now (octets .entry)) ⌝ }
-{
-    let mut sum = start;
-    let mut rest = octets;
-    while 31 < rest.len() {
-        sum = sum + eight_words(rest);
-        rest = &rest[32..];
-    }
-    if 15 < rest.len() {
-        sum = sum + four_words(rest);
-        rest = &rest[16..];
-    }
-    if 7 < rest.len() {
-        sum = sum + two_words(rest);
-        rest = &rest[8..];
-    }
-    if 3 < rest.len() {
-        sum = sum + word32_at(rest, 0) as u64;
-        rest = &rest[4..];
-    }
-    sum + word32_at(rest, 0) as u64
 }
 
 // What lies above the lower 16 bits of a sum, added to them: the carries brought round.
@@ -138,26 +115,40 @@ fn fold(sum: u64) -> u16
     carries_round(twice) as u16
 }
 
-// How many octets are summed up before a fold: more than any message has, and few enough for 64 bits.
-fn stretch() -> usize
-    ensures { λ r. ⌜ r ≡ 1048576 ⌝ }
+// The sum itself while 64 bits have room for many more words, as in every message; else folded.
+fn with_room(sum: u64) -> u64
+    ensures { λ r. ⌜ r ≡ roomy sum ⌝ }
 {
-    1048576
+    if sum < 9223372036854775808 {
+        return sum;
+    }
+    fold(sum) as u64
 }
 
-// start and the words of octets, folded: once, at the end, and in a slice that no message fills after each stretch too.
-fn fold_words(octets: &[u8], start: u64) -> u16
+// A number that folds as start and the plain sum of the 32-bit words of octets do.
+fn wide_sum(octets: &[u8], start: u64) -> u64
     requires { ⌜ start < 8589934592 ⌝ }
-    ensures { λ r. ⌜ r ≡ folded (start + wideTotal (now (octets .entry))) ⌝ }
+    ensures { λ r. ⌜ folded r ≡ folded (start + wideTotal (now (octets .entry))) ⌝ }
 {
     let mut sum = start;
     let mut rest = octets;
-    let size = stretch();
-    while size < rest.len() {
-        sum = fold(wide_sum(&rest[..size], sum)) as u64;
-        rest = &rest[size..];
+    while 31 < rest.len() {
+        sum = with_room(sum) + eight_words(rest);
+        rest = &rest[32..];
     }
-    fold(wide_sum(rest, sum))
+    if 15 < rest.len() {
+        sum = sum + four_words(rest);
+        rest = &rest[16..];
+    }
+    if 7 < rest.len() {
+        sum = sum + two_words(rest);
+        rest = &rest[8..];
+    }
+    if 3 < rest.len() {
+        sum = sum + word32_at(rest, 0) as u64;
+        rest = &rest[4..];
+    }
+    sum + word32_at(rest, 0) as u64
 }
 
 // The sum of a message's first two words, the field in the second taken as 0.
@@ -174,7 +165,7 @@ pub fn checksum(message: &[u8]) -> u16
     if message.len() < 8 {
         return 65535 - fold(first_words(message));
     }
-    65535 - fold_words(&message[8..], first_words(message))
+    65535 - fold(wide_sum(&message[8..], first_words(message)))
 }
 
 // Puts a message's checksum into its field.

@@ -21,20 +21,23 @@ returns c =
     ap (λ (x : ℕ). 65535 - x) (c .fold .ensures ∙ ap folded (c .before .first-words .ensures))
     ∙ checksum-front (c .before .before .before .before .args .message .now) (λ i. c .before .before .before .shared-slice-known .given i .fits) (c .before .before .if1 .taken)
 
-sub-fold-words : tie.Need-sub-fold-words
-sub-fold-words c = search needs
+sub-wide-sum : tie.Need-sub-wide-sum
+sub-wide-sum c = search needs
 
-part-fold-words-start : tie.Need-part-fold-words-start
-part-fold-words-start c = search needs
+part-wide-sum-start : tie.Need-part-wide-sum-start
+part-wide-sum-start c = search needs
 
-part-fold-words-end : tie.Need-part-fold-words-end
-part-fold-words-end c = search needs
+part-wide-sum-end : tie.Need-part-wide-sum-end
+part-wide-sum-end c = search needs
 
 first-words-requires-2 : tie.Need-first-words-requires-2
 first-words-requires-2 c κs = search needs
 
-fold-words-requires : tie.Need-fold-words-requires
-fold-words-requires c κs = rw (c .first-words2 .ensures) (first-fits (c .before .before .before .before .args .message .now) (λ i. c .before .before .before .shared-slice-known .given i .fits))
+wide-sum-requires : tie.Need-wide-sum-requires
+wide-sum-requires c κs = rw (c .first-words2 .ensures) (first-fits (c .before .before .before .before .args .message .now) (λ i. c .before .before .before .shared-slice-known .given i .fits))
+
+fold-requires-2 : tie.Need-fold-requires-2
+fold-requires-2 c κs = search needs
 
 sub-result-2 : tie.Need-sub-result-2
 sub-result-2 c = search needs
@@ -42,8 +45,8 @@ sub-result-2 c = search needs
 returns-2 : tie.Need-returns-2
 returns-2 c =
     ap (λ (x : ℕ). 65535 - x)
-    (c .fold-words .ensures ∙ rw (c .before .first-words2 .ensures, part-from 8 (c .before .before .before .before .before .args .message .now)))
-    ∙ checksum-rest (c .before .before .before .before .before .args .message .now) (λ i. c .before .before .before .before .shared-slice-known .given i .fits)
+    (c .fold2 .ensures ∙ c .before .wide-sum .ensures ∙ rw (c .before .before .first-words2 .ensures, part-from 8 (c .before .before .before .before .before .before .args .message .now)))
+    ∙ checksum-rest (c .before .before .before .before .before .before .args .message .now) (λ i. c .before .before .before .before .before .shared-slice-known .given i .fits)
 
 pub checksum-spec : {M : Type 1} → statement M
 checksum-spec =
@@ -53,10 +56,11 @@ checksum-spec =
     fold-requires
     sub-result
     returns
-    sub-fold-words
-    part-fold-words-start
-    part-fold-words-end
+    sub-wide-sum
+    part-wide-sum-start
+    part-wide-sum-end
     first-words-requires-2
-    fold-words-requires
+    wide-sum-requires
+    fold-requires-2
     sub-result-2
     returns-2)

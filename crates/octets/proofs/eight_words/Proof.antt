@@ -1,3 +1,4 @@
+use native.Mathlib.Omega.{arith}
 use Rattle.octets.proofs.Wide.{wide-eight}
 use borrow.Author.Needs.{needs}
 use Rattle.octets.proofs.eight_words.Statement.{statement}
@@ -73,9 +74,7 @@ add-result-7 : tie.Need-add-result-7
 add-result-7 c = search needs
 
 returns : tie.Need-returns
-returns c =
-    rw (c .before .before .before .before .before .before .before .word32-at .ensures, c .before .before .before .before .before .before .word32-at2 .ensures, c .before .before .before .before .before .word32-at3 .ensures, c .before .before .before .before .word32-at4 .ensures, c .before .before .before .word32-at5 .ensures, c .before .before .word32-at6 .ensures, c .before .word32-at7 .ensures, c .word32-at8 .ensures)
-    (wide-eight (c .before .before .before .before .before .before .before .before .before .args .octets .now) (c .before .before .before .before .before .before .before .before .before .pre))
+returns c = (rw (c .before .before .before .before .before .before .before .word32-at .ensures, c .before .before .before .before .before .before .word32-at2 .ensures, c .before .before .before .before .before .word32-at3 .ensures, c .before .before .before .before .word32-at4 .ensures, c .before .before .before .word32-at5 .ensures, c .before .before .word32-at6 .ensures, c .before .word32-at7 .ensures, c .word32-at8 .ensures) (wide-eight (c .before .before .before .before .before .before .before .before .before .args .octets .now) (c .before .before .before .before .before .before .before .before .before .pre)), omega arith)
 
 pub eight-words-spec : {M : Type 1} → statement M
 eight-words-spec =

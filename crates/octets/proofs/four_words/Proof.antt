@@ -1,3 +1,4 @@
+use native.Mathlib.Omega.{arith}
 use Rattle.octets.proofs.Wide.{wide-four}
 use borrow.Author.Needs.{needs}
 use Rattle.octets.proofs.four_words.Statement.{statement}
@@ -37,7 +38,7 @@ add-result-3 : tie.Need-add-result-3
 add-result-3 c = search needs
 
 returns : tie.Need-returns
-returns c = rw (c .before .before .before .word32-at .ensures, c .before .before .word32-at2 .ensures, c .before .word32-at3 .ensures, c .word32-at4 .ensures) (wide-four (c .before .before .before .before .before .args .octets .now) (c .before .before .before .before .before .pre))
+returns c = (rw (c .before .before .before .word32-at .ensures, c .before .before .word32-at2 .ensures, c .before .word32-at3 .ensures, c .word32-at4 .ensures) (wide-four (c .before .before .before .before .before .args .octets .now) (c .before .before .before .before .before .pre)), omega arith)
 
 pub four-words-spec : {M : Type 1} → statement M
 four-words-spec =

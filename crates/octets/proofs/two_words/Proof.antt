@@ -1,3 +1,4 @@
+use native.Mathlib.Omega.{arith}
 use Rattle.octets.proofs.Wide.{wide-two}
 use borrow.Author.Needs.{needs}
 use Rattle.octets.proofs.two_words.Statement.{statement}
@@ -19,7 +20,7 @@ add-result : tie.Need-add-result
 add-result c = search needs
 
 returns : tie.Need-returns
-returns c = rw (c .before .word32-at .ensures, c .word32-at2 .ensures) (wide-two (c .before .before .before .args .octets .now) (c .before .before .before .pre))
+returns c = (rw (c .before .word32-at .ensures, c .word32-at2 .ensures) (wide-two (c .before .before .before .args .octets .now) (c .before .before .before .pre)), omega arith)
 
 pub two-words-spec : {M : Type 1} → statement M
 two-words-spec =

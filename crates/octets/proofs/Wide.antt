@@ -221,21 +221,21 @@ module _ (n a b c : ℕ) (n-fits : n < 18446744073709551616) (p : a ≡ (n / 429
       ∙ fold-halves (n / 4294967296 + n % 4294967296) ∙ fold-wide-halves n
 
 -- a running sum folds as what it is kept as does, whatever is still to come
+kept-again : (b : Bool) (s n : ℕ) → folded (cond b s (folded s) + n) ≡ folded (s + n)
+kept-again true s n = refl
+kept-again false s n = fold-again s n
+
 pub roomy-again : (s n : ℕ) → folded (roomy s + n) ≡ folded (s + n)
 unfolding roomy
-roomy-again s n = go (ltb s 9223372036854775808)
-  where
-    go : (b : Bool) → folded (cond b s (folded s) + n) ≡ folded (s + n)
-    go true = refl
-    go false = fold-again s n
+roomy-again s n = kept-again (ltb s _) s n
+
+kept-below : (most s : ℕ) (b : Bool) → ltb s most ≡ b → most ≤ 9223372036854775808 → cond b s (folded s) < 9223372036854775808
+kept-below most s true e h = omega (arith, ltb-true s most e)
+kept-below most s false e h = omega (arith, fold-below s)
 
 pub roomy-below : (s : ℕ) → roomy s < 9223372036854775808
 unfolding roomy
-roomy-below s = go (ltb s 9223372036854775808) refl
-  where
-    go : (b : Bool) → ltb s 9223372036854775808 ≡ b → cond b s (folded s) < 9223372036854775808
-    go true e = ltb-true s 9223372036854775808 e
-    go false e = omega (arith, fold-below s)
+roomy-below s = kept-below _ s (ltb s _) refl (omega arith)
 
 -- words taken from the front into the sum
 pub fold-taken : (s w t u : ℕ) → w + t ≡ u → folded (s + w + t) ≡ folded (s + u)

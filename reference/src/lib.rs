@@ -21,7 +21,7 @@
 pub mod answer;
 pub mod call;
 pub mod checksum;
-pub mod checksum_speed;
+pub mod checksums;
 pub mod compare;
 pub mod compare_recordings;
 pub mod coverage;

@@ -7,9 +7,7 @@ use std::process::ExitCode;
 
 use reference::coverage::{Survey, PLACES_WANTED};
 use reference::generate::{day, recordings};
-use reference::{
-    checksum_speed, compare, compare_recordings, coverage, playback, sample, site, speed,
-};
+use reference::{checksums, compare, compare_recordings, coverage, playback, sample, site, speed};
 
 fn main() -> ExitCode {
     let arguments: Vec<String> = std::env::args().skip(1).collect();
@@ -28,7 +26,8 @@ fn main() -> ExitCode {
         ["sample", "records"] => print_octets(&sample::records()),
         ["sample", "answers"] => print_octets(&sample::answers()),
         ["speed", driver] => print_times(speed::report(driver)),
-        ["checksum-speed", program] => print_times(checksum_speed::report(program)),
+        ["compare-checksums", program] => compare_checksums(program),
+        ["checksum-speed", program] => print_times(checksums::report(program)),
         _ => recording_command(&words),
     }
 }
@@ -149,6 +148,19 @@ fn print_playback(recording: io::Result<Vec<u8>>) -> ExitCode {
     }
 }
 
+fn compare_checksums(program: &str) -> ExitCode {
+    match checksums::compare(program) {
+        Ok(count) => {
+            println!("{count} checksums without a difference, of every length from 1 to 2,048");
+            ExitCode::SUCCESS
+        }
+        Err(error) => {
+            println!("{error}");
+            ExitCode::FAILURE
+        }
+    }
+}
+
 fn print_times(report: io::Result<String>) -> ExitCode {
     match report {
         Ok(report) => {
@@ -170,6 +182,7 @@ fn usage() -> ExitCode {
        reference case SEED INDEX
        reference sample records|answers
        reference speed DRIVER
+       reference compare-checksums PROGRAM
        reference checksum-speed PROGRAM
        reference play [FILE]
        reference recording SEED LINES

@@ -1,7 +1,8 @@
-//! How long the checksum alone takes: the proved one beside two plain loops, on the same messages.
+//! The checksum alone: that of the program `checksums` compared with the reference's at every length,
+//! and timed beside two plain loops.
 //!
-//! A record asks the program `checksums` to sum up the checksums of messages that lie one behind the
-//! other, so many times; the loops do the same here. All run in turn, and the best round counts.
+//! A record asks the program to sum up the checksums of messages that lie one behind the other, so
+//! many times; the loops do the same here. They run in turn, and the best round counts.
 
 use std::fmt::Write as _;
 use std::hint::black_box;
@@ -9,8 +10,11 @@ use std::io::{self, Read, Write};
 use std::process::{Child, ChildStdin, ChildStdout, Command, Stdio};
 use std::time::{Duration, Instant};
 
+use crate::checksum::checksum;
 use crate::random::Random;
 
+/// The longest message.
+const LONGEST: usize = 2048;
 /// The lengths of message that are timed.
 const LENGTHS: [usize; 5] = [10, 64, 576, 1168, 2048];
 /// How many octets of messages lie one behind the other: they stay in the nearest cache.
@@ -125,6 +129,45 @@ impl Program {
     }
 }
 
+/// Messages of a length: at random, of one octet throughout, and with one octet that is not 0, at
+/// the end or anywhere.
+fn messages(random: &mut Random, length: usize) -> Vec<Vec<u8>> {
+    let mut list: Vec<Vec<u8>> = (0..4)
+        .map(|_| (0..length).map(|_| random.octet()).collect())
+        .collect();
+    for octet in [0, 255, random.octet()] {
+        list.push(vec![octet; length]);
+    }
+    for place in [length - 1, random.below(length)] {
+        let mut message = vec![0; length];
+        message[place] = random.octet();
+        list.push(message);
+    }
+    list
+}
+
+/// Compares the program's checksum with the reference's: messages of every length up to 2,048.
+/// How many there were, or the first that differs.
+pub fn compare(path: &str) -> io::Result<usize> {
+    let mut program = Program::start(path)?;
+    let mut random = Random::new(1);
+    let mut count = 0;
+    for length in 1..=LONGEST {
+        for message in messages(&mut random, length) {
+            let (theirs, _) = program.ask(&message, length, 1)?;
+            let ours = u32::from(checksum(&message));
+            if theirs != ours {
+                return Err(io::Error::other(format!(
+                    "{length} octets: {ours} (reference), {theirs} (program): {message:?}"
+                )));
+            }
+            count += 1;
+        }
+    }
+    program.end()?;
+    Ok(count)
+}
+
 /// Nanoseconds a message: the proved checksum, the loop by 16 bits, the loop by 32.
 fn measure(program: &mut Program, length: usize) -> io::Result<[f64; 3]> {
     let mut random = Random::new(length as u64);
@@ -183,7 +226,6 @@ pub fn report(path: &str) -> io::Result<String> {
 #[cfg(test)]
 mod tests {
     use super::*;
-    use crate::checksum::checksum;
 
     #[test]
     fn loops_give_the_checksum() {

@@ -4,7 +4,7 @@ use native.Mathlib.Nat.{zero-add}
 use native.Mathlib.Omega.{arith}
 use mathlib.Core.Path.{_≡_, refl, sym, ap, _∙_}
 use mathlib.Core.Bool.{Bool, true, false, cond}
-use borrow.Author.Tests.{ltb-true}
+use borrow.Author.Tests.{lt-ltb, ltb-true}
 use lib.Dec.{ltb}
 use mathlib.Core.List.{List, [], _∷_, _++_}
 use lib.ListN.{length, take, drop, getD, length-drop, length-set, drop-of-length-le}
@@ -283,11 +283,15 @@ wide-room m o h =
     let e : length (blanked m) ≡ length m = rw (length-set, length-set) in
     omega (arith, wide-below (blanked m) (blank-octets m o))
 
+roomy-itself : (s : ℕ) → s < 9223372036854775808 → roomy s ≡ s
+unfolding roomy
+roomy-itself s h = simp (lt-ltb s _ h)
+
 pub every-length : EveryLength
 unfolding wideTotal
 every-length =
     record {
-      room = wide-room;
+      unfolded = λ m o h s p. roomy-itself s (omega (arith, wide-room m o h));
       equal = λ n p m e o. sym (wide-checksum m o);
       none = λ k p m e o. sym (wide-checksum m o);
       one = λ k p q l a. checksum-behind k p l (a ∷ []);

@@ -17,7 +17,7 @@ wideTotal (a ∷ b ∷ []) = quadOf a b 0 0
 wideTotal (a ∷ b ∷ c ∷ []) = quadOf a b c 0
 wideTotal (a ∷ b ∷ c ∷ d ∷ rest) = quadOf a b c d + wideTotal rest
 
--- what a running sum is kept as: itself below 2^63, which no message reaches, so that a message is folded once, at the end
+-- what a sum on the way is kept as, so that 64 bits have room for the next words: itself, and folded from 2^63 on
 unfoldable pub roomy : ℕ → ℕ
 roomy sum = cond (ltb sum 9223372036854775808) sum (folded sum)
 
@@ -30,10 +30,11 @@ pub record WideLaws : Type 0 where
   pub fold : (octets : List ℕ) → folded (wideTotal octets) ≡ folded (wordTotal octets)
   pub checksum : (message : List ℕ) → Octets message → 65535 - folded (wideTotal (blanked message)) ≡ checksumOf message
 
--- "At every length up to 2,048, odd ones included": the sum stays below 2^63, and its fold is 01's; of a length that leaves 1, 2 or 3
--- by 4 the last octets are the upper ones of one more word.
+-- "At every length up to 2,048, odd ones included": no sum on the way is folded, and the last one's fold is 01's; of a length that
+-- leaves 1, 2 or 3 by 4 the last octets are the upper ones of one more word.
 pub record EveryLength : Type 0 where
-  pub room : (message : List ℕ) → Octets message → length message ≤ 2048 → wideTotal (blanked message) < 9223372036854775808
+  pub unfolded : (message : List ℕ) → Octets message → length message ≤ 2048
+      → (sum : ℕ) → sum ≤ wideTotal (blanked message) → roomy sum ≡ sum
   pub equal : (n : ℕ) → n ≤ 2048 → (message : List ℕ) → length message ≡ n → Octets message
       → checksumOf message ≡ 65535 - folded (wideTotal (blanked message))
   pub none : (k : ℕ) → 4 * k ≤ 2048 → (message : List ℕ) → length message ≡ 4 * k → Octets message

@@ -1,6 +1,6 @@
-// Takes the checksums of messages on standard input, over and over: the checksum alone, for timing.
-// A record is 8 octets, how often (32 bits), how many octets a message has (16) and how many follow (16), and then these: messages one
-// behind the other. The answer is the sum of their checksums, as often as was asked, modulo 2^32.
+// Takes the checksums of messages on standard input, over and over: the checksum alone, for timing. A record is 8
+// octets, how often (32 bits), how many octets a message has (16) and how many follow (16), and then these: messages
+// one behind the other. The answer is the sum of their checksums, as often as was asked, modulo 2^32.
 ghost use Prim.Native.Nat.{_≤_};
 ghost use lib.ListN.{length};
 
@@ -73,7 +73,8 @@ fn turn(room: &mut [u8; 65536]) -> bool {
     serve(room, &head)
 }
 
-// Records until the input ends. Nothing says that it ends, so the turns are counted down from a number that no run uses up.
+// Records until the input ends. Nothing says that it ends, so the turns are counted down from a number that no run
+// uses up.
 fn play(room: &mut [u8; 65536]) {
     let mut turns = u64::MAX;
     while turns > 0 {

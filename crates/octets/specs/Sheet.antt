@@ -1,4 +1,5 @@
--- Checksums of literal messages, worked out apart from these definitions. 01: "complement of the one's complement sum of 16-bit words".
+-- Checksums of literal messages, worked out apart from these definitions. 01: "complement of the one's complement sum
+-- of 16-bit words".
 use Prim.Native.Nat.{ℕ, zero, suc, _-_, _%_}
 use mathlib.Core.Path.{_≡_}
 use mathlib.Core.List.{List, [], _∷_, _++_, map}

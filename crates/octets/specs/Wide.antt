@@ -1,5 +1,5 @@
--- 02, L2: "take the checksum four octets at a time with a wider sum and fold only at the end. Prove it equal at every length up to
--- 2,048, odd ones included, to 01's sum of 16-bit words".
+-- 02, L2: "take the checksum four octets at a time with a wider sum and fold only at the end. Prove it equal at every
+-- length up to 2,048, odd ones included, to 01's sum of 16-bit words".
 use Prim.Native.Nat.{ℕ, _+_, _-_, _*_, _%_, _≤_, _<_}
 use mathlib.Core.Path.{_≡_}
 use mathlib.Core.Bool.{cond}
@@ -21,8 +21,9 @@ wideTotal (a ∷ b ∷ c ∷ d ∷ rest) = quadOf a b c d + wideTotal rest
 unfoldable pub roomy : ℕ → ℕ
 roomy sum = cond (ltb sum 9223372036854775808) sum (folded sum)
 
--- The law that carries the change: the sum of the 32-bit words and that of the 16-bit words agree modulo 65,535 and are 0 together.
--- So they fold to the same, and the sum of the 32-bit words, folded once, gives 01's checksum of every message.
+-- The law that carries the change: the sum of the 32-bit words and that of the 16-bit words agree modulo 65,535 and
+-- are 0 together. So they fold to the same, and the sum of the 32-bit words, folded once, gives 01's checksum of
+-- every message.
 pub record WideLaws : Type 0 where
   pub modulo : (octets : List ℕ) → wideTotal octets % 65535 ≡ wordTotal octets % 65535
   pub zero-wide : (octets : List ℕ) → wordTotal octets ≡ 0 → wideTotal octets ≡ 0
@@ -30,8 +31,8 @@ pub record WideLaws : Type 0 where
   pub fold : (octets : List ℕ) → folded (wideTotal octets) ≡ folded (wordTotal octets)
   pub checksum : (message : List ℕ) → Octets message → 65535 - folded (wideTotal (blanked message)) ≡ checksumOf message
 
--- "At every length up to 2,048, odd ones included": no sum on the way is folded, and the last one's fold is 01's; of a length that
--- leaves 1, 2 or 3 by 4 the last octets are the upper ones of one more word.
+-- "At every length up to 2,048, odd ones included": no sum on the way is folded, and the last one's fold is 01's; of
+-- a length that leaves 1, 2 or 3 by 4 the last octets are the upper ones of one more word.
 pub record EveryLength : Type 0 where
   pub unfolded : (message : List ℕ) → Octets message → length message ≤ 2048
       → (sum : ℕ) → sum ≤ wideTotal (blanked message) → roomy sum ≡ sum

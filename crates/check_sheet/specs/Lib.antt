@@ -12,4 +12,5 @@ pub mod Bodies
 pub mod Writings
 pub mod Listings
 pub mod Effects
+pub mod Indications
 pub mod Sheet

@@ -17,6 +17,8 @@ use Rattle.check_sheet.specs.Writings.{writings}
 use Rattle.check_sheet.specs.Listings.{listings}
 use Rattle.check_sheet.specs.Effects.{effects, readOnC, writtenOnC}
 use Rattle.check_sheet.specs.Effects as Effects
+use Rattle.check_sheet.specs.Indications.{indications}
+use Rattle.check_sheet.specs.Indications as Indications
 
 -- every line of every list comes out as it says
 pub record CheckSheet : Type 0 where
@@ -44,5 +46,7 @@ pub record CheckSheet : Type 0 where
   pub listings : map computed listings ≡ map written listings
   -- what a call that is carried out leaves in the state, the buffer and the table
   pub effects : map Effects.computed effects ≡ map Effects.written effects
+  -- which Update is an indication, and that a refused one is none
+  pub indications : map Indications.computed indications ≡ map Indications.written indications
   -- an Update read on a net of class C
   pub class-c : readOnC ≡ writtenOnC

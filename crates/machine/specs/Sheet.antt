@@ -381,11 +381,11 @@ updateRow =
     line "Update: Down, active" g1 7 (at Down 4 17 40 130 19 0 50 Active 10 0 0) (Received (M.Update 7 4 1 common))
     (at Down 4 17 40 130 19 0 3600 Active 10 1 0) Nothing ∷
     line "Update: Down, passive" g1 7 (at Down 4 17 40 130 19 0 50 Passive 10 0 0) (Received (M.Update 7 4 1 common))
-    (at Down 4 17 40 130 19 0 50 Passive 10 0 0) Nothing ∷
+    (at Down 4 17 40 130 19 0 3600 Passive 10 1 0) Nothing ∷
     line "Update: Up, active" g1 7 (at Up 4 17 40 130 19 77 50 Active 10 0 0) (Received (M.Update 7 4 1 common))
     (at Up 4 17 40 130 19 77 3600 Active 10 1 0) Nothing ∷
     line "Update: Up, passive" g1 7 (at Up 4 17 40 130 19 77 50 Passive 10 0 0) (Received (M.Update 7 4 1 common))
-    (at Up 4 17 40 130 19 77 50 Passive 10 0 0) Nothing ∷
+    (at Up 4 17 40 130 19 77 3600 Passive 10 1 0) Nothing ∷
     line "Update: Cease, cause 5" g1 7 (at Cease 4 17 0 0 19 0 50 Unset 0 0 5) (Received (M.Update 7 4 1 common))
     (at Cease 4 17 0 0 19 0 50 Unset 0 0 5) Nothing ∷
     line "Update: Cease, cause 6" g1 7 (at Cease 4 17 0 0 19 0 50 Unset 0 0 6) (Received (M.Update 7 4 1 common))
@@ -575,8 +575,9 @@ modes =
     []
 
 -- 01: "An indication is noted when the state before was Down or Up: active mode, a Confirm, I-H-U or Update carried
--- out; passive mode, a Hello or Poll carried out with status 1 (section 3.3). It sets heard to 1 and t3 to P4." Every
--- kind in both, with its statuses.
+-- out; passive mode, a Hello or Poll carried out with status 1 (section 3.3). It sets heard to 1 and t3 to P4." 02, L3:
+-- "in passive mode, an Update carried out in Down or Up whose status without the unsolicited bit is 1 is an indication
+-- too". Every kind in both, with its statuses.
 unfoldable pub indications : List Line
 indications =
     line "indication, Request 1: Down, active" g0 7 (at Down 4 17 40 130 19 0 50 Active 10 1 0) (Received (M.Request 7 21 1 60 200))
@@ -668,9 +669,9 @@ indications =
     hears "indication, Update 0: Up, active" Up 77 Active (M.Update 7 4 0 common) 17 3600 1 Nothing ∷
     hears "indication, Update 0: Up, passive" Up 77 Passive (M.Update 7 4 0 common) 17 50 0 Nothing ∷
     hears "indication, Update 1: Down, active" Down 0 Active (M.Update 7 4 1 common) 17 3600 1 Nothing ∷
-    hears "indication, Update 1: Down, passive" Down 0 Passive (M.Update 7 4 1 common) 17 50 0 Nothing ∷
+    hears "indication, Update 1: Down, passive" Down 0 Passive (M.Update 7 4 1 common) 17 3600 1 Nothing ∷
     hears "indication, Update 1: Up, active" Up 77 Active (M.Update 7 4 1 common) 17 3600 1 Nothing ∷
-    hears "indication, Update 1: Up, passive" Up 77 Passive (M.Update 7 4 1 common) 17 50 0 Nothing ∷
+    hears "indication, Update 1: Up, passive" Up 77 Passive (M.Update 7 4 1 common) 17 3600 1 Nothing ∷
     hears "indication, Update 2: Down, active" Down 0 Active (M.Update 7 4 2 common) 17 3600 1 Nothing ∷
     hears "indication, Update 2: Down, passive" Down 0 Passive (M.Update 7 4 2 common) 17 50 0 Nothing ∷
     hears "indication, Update 2: Up, active" Up 77 Active (M.Update 7 4 2 common) 17 3600 1 Nothing ∷
@@ -680,9 +681,9 @@ indications =
     hears "indication, Update 128: Up, active" Up 77 Active (M.Update 7 4 128 common) 17 3600 1 Nothing ∷
     hears "indication, Update 128: Up, passive" Up 77 Passive (M.Update 7 4 128 common) 17 50 0 Nothing ∷
     hears "indication, Update 129: Down, active" Down 0 Active (M.Update 7 4 129 common) 17 3600 1 Nothing ∷
-    hears "indication, Update 129: Down, passive" Down 0 Passive (M.Update 7 4 129 common) 17 50 0 Nothing ∷
+    hears "indication, Update 129: Down, passive" Down 0 Passive (M.Update 7 4 129 common) 17 3600 1 Nothing ∷
     hears "indication, Update 129: Up, active" Up 77 Active (M.Update 7 4 129 common) 17 3600 1 Nothing ∷
-    hears "indication, Update 129: Up, passive" Up 77 Passive (M.Update 7 4 129 common) 17 50 0 Nothing ∷
+    hears "indication, Update 129: Up, passive" Up 77 Passive (M.Update 7 4 129 common) 17 3600 1 Nothing ∷
     hears "indication, Update 130: Down, active" Down 0 Active (M.Update 7 4 130 common) 17 3600 1 Nothing ∷
     hears "indication, Update 130: Down, passive" Down 0 Passive (M.Update 7 4 130 common) 17 50 0 Nothing ∷
     hears "indication, Update 130: Up, active" Up 77 Active (M.Update 7 4 130 common) 17 3600 1 Nothing ∷

@@ -39,11 +39,12 @@ inSequence n m = isIdle (n .phase) || not (mustCarryS (kindOf m)) || eqb (sequen
 unfoldable pub commanded : Neighbour → Message → Neighbour
 commanded n m = cond (not (isIdle (n .phase)) && isCommand (kindOf m)) (withNumbers n (n .s) (sequenceOf m)) n
 
--- 01: "active mode, a Confirm, I-H-U or Update carried out; passive mode, a Hello or Poll carried out with status 1"
+-- 01: "active mode, a Confirm, I-H-U or Update carried out; passive mode, a Hello or Poll carried out with status 1";
+-- 02, L3: "in passive mode, an Update .. whose status without the unsolicited bit is 1 is an indication too"
 unfoldable pub indicates : Mode → Kind → ℕ → Bool
 indicates Unset kind status = false
 indicates Active kind status = oneOf kind (K.Confirm ∷ K.IHeardYou ∷ K.Update ∷ [])
-indicates Passive kind status = oneOf kind (K.Hello ∷ K.Poll ∷ []) && eqb status 1
+indicates Passive kind status = (oneOf kind (K.Hello ∷ K.Poll ∷ []) && eqb status 1) || (same kind K.Update && eqb (status % 128) 1)
 
 -- 01: "An indication is noted when the state before was Down or Up". No kind that indicates leaves that state.
 unfoldable pub noted : Neighbour → Message → Neighbour

@@ -298,12 +298,12 @@ fn is_active_indication(kind: Kind) -> bool
         Kind::Hello => false,
         Kind::IHeardYou => true,
         Kind::Poll => false,
-        Kind::Update => true,
+        Kind::Update => true, // whatever its status
         Kind::Error => false,
     }
 }
 
-// In passive mode a Hello or a Poll whose status says Up.
+// In passive mode a Hello or a Poll whose status says Up, and an Update whose status does, solicited or not.
 fn is_passive_indication(kind: Kind, status: u8) -> bool
     ensures { λ r. ⌜ r ≡ indicates Mode.Passive kind status ⌝ }
 {
@@ -316,7 +316,7 @@ fn is_passive_indication(kind: Kind, status: u8) -> bool
         Kind::Hello => status == 1,
         Kind::IHeardYou => false,
         Kind::Poll => status == 1,
-        Kind::Update => false,
+        Kind::Update => status % 128 == 1,
         Kind::Error => false,
     }
 }

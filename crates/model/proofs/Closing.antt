@@ -28,7 +28,7 @@ abbrev pub NotUp : After → Type 0
 NotUp x = isUp (x .neighbour .phase) ≡ false
 
 -- a cell, by the phase
-under-elim : {A : Type 0} (P : A → Type 0) (p : Phase) (a b c d e : A)
+pub under-elim : {A : Type 0} (P : A → Type 0) (p : Phase) (a b c d e : A)
     → (p ≡ Idle → P a) → (p ≡ Acquisition → P b) → (p ≡ Down → P c) → (p ≡ Up → P d) → (p ≡ Cease → P e) → P (under p a b c d e)
 unfolding under
 under-elim P Idle a b c d e ka kb kc kd ke = ka refl
@@ -37,7 +37,7 @@ under-elim P Down a b c d e ka kb kc kd ke = kc refl
 under-elim P Up a b c d e ka kb kc kd ke = kd refl
 under-elim P Cease a b c d e ka kb kc kd ke = ke refl
 
-up-under : {A : Type 0} (P : A → Type 0) (p : Phase) (a b c d e : A) → p ≡ Up → P d → P (under p a b c d e)
+pub up-under : {A : Type 0} (P : A → Type 0) (p : Phase) (a b c d e : A) → p ≡ Up → P d → P (under p a b c d e)
 up-under P p a b c d e h k = rw (at-up p a b c d e h) k
 
 -- ---- Stop, Start
@@ -85,7 +85,7 @@ reacquired g asn n head a q s hello poll =
 -- ---- the clock
 
 -- a second less on t3
-abbrev later : Neighbour → Neighbour
+abbrev pub later : Neighbour → Neighbour
 later n = withTimers n (n .t1) (n .t2) (n .t3 - 1)
 
 -- one tick in Up: t3 ran out, or what follows

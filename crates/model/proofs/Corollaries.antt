@@ -48,7 +48,7 @@ from-model P h b s = subst P (model-back b s) (h (modelOf b) (good-back b s))
 
 -- ---- slots of the gateway and of the model
 
-up-shown : (slot : Slot) → isUpSlot slot ≡ isUp ((cell slot) .neighbour .phase)
+pub up-shown : (slot : Slot) → isUpSlot slot ≡ isUp ((cell slot) .neighbour .phase)
 unfolding isUpSlot cell freeSlot idle
 up-shown free = refl
 up-shown (used address asn n rows) = refl
@@ -60,7 +60,7 @@ up-address free u s e = false≢true u
 up-address (used address asn n rows) u s e = false≢true (sym (ap not (ap (λ (a : ℕ). eqb a 0) e)) ∙ s)
 
 module _ (m : Model) (ok : Good m) where
-  slot-is : (j : ℕ) → slotOn (represent m) j ≡ cell (slotIn m j)
+  pub slot-is : (j : ℕ) → slotOn (represent m) j ≡ cell (slotIn m j)
   unfolding represent
   slot-is j = at-of m ok j
 

@@ -3,7 +3,7 @@ use Prim.Native.Nat.{ℕ, zero, suc, _+_, _*_, _%_, _<_}
 use native.Mathlib.Nat.{zero-add}
 use native.Mathlib.Omega.{arith}
 use mathlib.Core.Path.{_≡_, refl, sym, _∙_, ap, subst}
-use mathlib.Core.Bool.{Bool, true}
+use mathlib.Core.Bool.{Bool, true, false}
 use mathlib.Core.List.{List, [], _∷_, _++_, append-assoc}
 use lib.Dec.{leb, eqb}
 use lib.ListN.{length}
@@ -26,6 +26,7 @@ use Rattle.walk.specs.Body as Body
 use Rattle.blocks.specs.Blocks as Blocks
 use Rattle.codec.specs.Octets as Octets
 use Rattle.codec.specs.Octets.{octetsOf}
+use Rattle.neighbour.specs.declared.Mode.the-variants.{Passive}
 use Rattle.neighbour.specs.declared.Settings.{Settings}
 use Rattle.neighbour.specs.declared.Neighbour.{Neighbour}
 use Rattle.neighbour.specs.Rules.{onesOf, goesDown}
@@ -41,12 +42,15 @@ use Rattle.model.specs.Model.{Call, tick, Slot, free, Model, slotIn, mod
 use Rattle.model.specs.History.{lastAccepted}
 use Rattle.model.specs.Theorem.{Gateway, gatewayStep, run, cell, stateOf, rowsHeld, rowsAt}
 use Rattle.model.specs.Corollaries.{Taken, slotOn, isUpOn, reports, BothReport, Says}
-use Rattle.model.specs.Example.{someSettings, lent, classA, ticks, saysHello, reporting, eight, polled, lastNumber, EightMet, LastNumberMet}
+use Rattle.model.specs.History.{isUpSlot}
+use Rattle.model.specs.Windows.{restartsNone, windows, anyOf, oneInFour, latest}
+use Rattle.model.specs.Example.{someSettings, lent, classA, ticks, saysHello, reporting, eight, polled, lastNumber, almostUp, slow, EightMet, LastNumberMet, QuietMet}
 use Rattle.model.proofs.Represent.{Good}
 use Rattle.model.proofs.Simulation.{represent}
 use Rattle.model.proofs.History.{model-append}
-use Rattle.model.proofs.Theorem.{step-is, rows-read, run-is, model-good, last}
-use Rattle.model.proofs.Computed.{atRest, alone, eightSlots, computed}
+use Rattle.model.proofs.Theorem.{step-is, rows-read, run-is, model-good, model-more, last}
+use Rattle.model.proofs.Quiet.{slot-run, up-run}
+use Rattle.model.proofs.Computed.{atRest, alone, eightSlots, justUp, computed}
 
 some-taken : Taken someSettings
 unfolding someSettings Slots.freshOf Slots.freshAnswer Outcomes.silentOf check Formed.goodSettings Classes.goodNet Classes.onNet Classes.netWidth Classes.hostSpan
@@ -54,14 +58,14 @@ some-taken = refl
 
 -- ---- eight neighbours
 
-eight-model : model someSettings eight ≡ eightSlots (atRest 1 1 0 122 122 3478)
+eight-model : model someSettings eight ≡ eightSlots (atRest 1 1 1 122 122 3600)
 unfolding model
 eight-model = computed .all-up
 
-silent-model : model someSettings (eight ++ ticks 1 487) ≡ eightSlots (atRest 4 8 0 1 1 2991)
+silent-model : model someSettings (eight ++ ticks 1 609) ≡ eightSlots (atRest 5 8 0 1 1 2991)
 unfolding model
 silent-model =
-    model-append (empty someSettings) eight (ticks 1 487) ∙ ap (λ (m : Model). modelFrom m (ticks 1 487)) (computed .all-up) ∙ computed .silent
+    model-append (empty someSettings) eight (ticks 1 609) ∙ ap (λ (m : Model). modelFrom m (ticks 1 609)) (computed .all-up) ∙ computed .silent
 
 -- a run, by its model
 module _ (calls : List Call) (m : Model) (e : model someSettings calls ≡ m) where
@@ -124,7 +128,7 @@ run-settings n = refl
 
 says : (o : List ℕ) (x : Message) → headerAnswer o ≡ 0 → asnAt o ≡ 7 → decodeOf o ≡ D.Good x → Says (run someSettings eight) 0 o [] lent x
 says o x h a d =
-    let n = atRest 1 1 0 122 122 3478 in
+    let n = atRest 1 1 1 122 122 3600 in
     let is = is-run eight (eightSlots n) eight-model in
     record {
       room = enough;
@@ -156,19 +160,19 @@ read-back =
       body = refl;
     }
 
-silent-first : slotOn (represent (eightSlots (atRest 4 8 0 1 1 2991))) 0 ≡ record { address = 1; asn = 7; neighbour = atRest 4 8 0 1 1 2991; rows = 128 }
+silent-first : slotOn (represent (eightSlots (atRest 5 8 0 1 1 2991))) 0 ≡ record { address = 1; asn = 7; neighbour = atRest 5 8 0 1 1 2991; rows = 128 }
 unfolding represent stateOf eightSlots slotAt cell classA
 silent-first = refl
 
-silent-slot : slotOn (run someSettings (eight ++ ticks 1 487)) 0 ≡ record { address = 1; asn = 7; neighbour = atRest 4 8 0 1 1 2991; rows = 128 }
+silent-slot : slotOn (run someSettings (eight ++ ticks 1 609)) 0 ≡ record { address = 1; asn = 7; neighbour = atRest 5 8 0 1 1 2991; rows = 128 }
 silent-slot =
-    ap (λ (b : Gateway). slotOn b 0) (is-run (eight ++ ticks 1 487) (eightSlots (atRest 4 8 0 1 1 2991)) silent-model) ∙ silent-first
+    ap (λ (b : Gateway). slotOn b 0) (is-run (eight ++ ticks 1 609) (eightSlots (atRest 5 8 0 1 1 2991)) silent-model) ∙ silent-first
 
-goes-down : goesDown ((atRest 4 8 0 1 1 2991) .mode) (onesOf (((atRest 4 8 0 1 1 2991) .register * 2 + (atRest 4 8 0 1 1 2991) .heard) % 16)) ≡ true
+goes-down : goesDown ((atRest 5 8 0 1 1 2991) .mode) (onesOf (((atRest 5 8 0 1 1 2991) .register * 2 + (atRest 5 8 0 1 1 2991) .heard) % 16)) ≡ true
 unfolding atRest goesDown onesOf
 goes-down = refl
 
-one-second : (atRest 4 8 0 1 1 2991) .t1 ≡ 1
+one-second : (atRest 5 8 0 1 1 2991) .t1 ≡ 1
 unfolding atRest
 one-second = refl
 
@@ -176,12 +180,12 @@ pub eight-met : EightMet
 eight-met =
     record {
       taken = some-taken;
-      full = λ j j8. ap length (last-of eight (eightSlots (atRest 1 1 0 122 122 3478)) eight-model j j8) ∙ full-slots (atRest 1 1 0 122 122 3478) j j8;
-      both = both-report eight (atRest 1 1 0 122 122 3478) eight-model;
+      full = λ j j8. ap length (last-of eight (eightSlots (atRest 1 1 1 122 122 3600)) eight-model j j8) ∙ full-slots (atRest 1 1 1 122 122 3600) j j8;
+      both = both-report eight (atRest 1 1 1 122 122 3600) eight-model;
       room = enough;
       cease = says _ _ (read-back .cease .header) (read-back .cease .from) (read-back .cease .meaning);
       request = says _ _ (read-back .request .header) (read-back .request .from) (read-back .request .meaning);
-      still-both = both-report (eight ++ ticks 1 487) (atRest 4 8 0 1 1 2991) silent-model;
+      still-both = both-report (eight ++ ticks 1 609) (atRest 5 8 0 1 1 2991) silent-model;
       silent = ap (λ (s : Stored.Slot). s .neighbour .t1) silent-slot ∙ one-second;
       lost =
           ap (λ (s : Stored.Slot). goesDown (s .neighbour .mode) (onesOf ((s .neighbour .register * 2 + s .neighbour .heard) % 16))) silent-slot ∙ goes-down;
@@ -218,9 +222,9 @@ last-model =
     let second = saysHello 1 ∷ ticks 1 121 in
     model-append (empty someSettings) (reporting 1) (polled 65534 ++ second)
     ∙ ap (λ (m : Model). modelFrom m (polled 65534 ++ second)) (computed .one-up)
-    ∙ model-append (alone (atRest 1 1 0 122 122 3478)) (polled 65534) second
-    ∙ ap (λ (l : List Call). modelFrom (modelFrom (alone (atRest 1 1 0 122 122 3478)) l) second) polled-all
-    ∙ ap (λ (m : Model). modelFrom m second) (model-append (alone (atRest 1 1 0 122 122 3478)) (polled 3) (polled 65531))
+    ∙ model-append (alone (atRest 1 1 1 122 122 3600)) (polled 65534) second
+    ∙ ap (λ (l : List Call). modelFrom (modelFrom (alone (atRest 1 1 1 122 122 3600)) l) second) polled-all
+    ∙ ap (λ (m : Model). modelFrom m second) (model-append (alone (atRest 1 1 1 122 122 3600)) (polled 3) (polled 65531))
     ∙ ap (λ (m : Model). modelFrom (modelFrom m (polled 65531)) second) (computed .full)
     ∙ ap (λ (m : Model). modelFrom m second) (polls 65531 4 (omega arith))
     ∙ computed .due
@@ -289,4 +293,48 @@ last-number-met =
             body = ap (λ (g : Settings). Body.updateOf 128 (g .net) (octetsOf (Update 7 0 1 2148073472) (classA 10 1))) settings
                 ∙ ap (λ (net : ℕ). Body.updateOf 128 net (octetsOf (Update 7 0 1 2148073472) (classA 10 1))) some-net ∙ read-back .body;
           };
+    }
+
+-- ---- a quiet neighbour
+
+just-up : model someSettings (almostUp ++ (tick 1 lent ∷ [])) ≡ justUp
+unfolding model
+just-up = computed .just-up
+
+almost-up : isUpSlot (slotIn (model someSettings almostUp) 0) ≡ false
+unfolding model
+almost-up = computed .not-yet
+
+just-passive : (cell (slotIn justUp 0)) .neighbour .mode ≡ Passive
+unfolding justUp slotIn cell
+just-passive = refl
+
+just-in-up : isUpSlot (slotIn justUp 0) ≡ true
+unfolding justUp slotIn isUpSlot
+just-in-up = refl
+
+one-in-five : oneInFour (true ∷ false ∷ false ∷ false ∷ true ∷ []) ≡ true
+unfolding oneInFour anyOf
+one-in-five = refl
+
+pub quiet-met : QuietMet
+quiet-met =
+    let since = almostUp ++ (tick 1 lent ∷ []) in
+    record {
+      entered =
+          record {
+            not-before = up-run someSettings some-taken almostUp 0 ∙ almost-up;
+            since = up-run someSettings some-taken since 0 ∙ ap (λ (m : Model). isUpSlot (slotIn m 0)) just-up ∙ just-in-up;
+            passive =
+                ap (λ (s : Stored.Slot). s .neighbour .mode) (slot-run someSettings some-taken since 0)
+                ∙ ap (λ (m : Model). (cell (slotIn m 0)) .neighbour .mode) just-up ∙ just-passive;
+          };
+      unrestarted = ap (λ (m : Model). restartsNone m 0 (slow 1 129)) just-up ∙ computed .unrestarted;
+      ended = ap (λ (m : Model). windows m 0 false (slow 1 129)) just-up ∙ computed .ended;
+      often = ap oneInFour (ap (λ (m : Model). windows m 0 false (slow 1 129)) just-up ∙ computed .ended) ∙ one-in-five;
+      last = ap (λ (m : Model). latest m 0 [] (slow 1 129)) just-up ∙ computed .last;
+      lost =
+          up-run someSettings some-taken (since ++ slow 2 2) 0
+          ∙ ap (λ (m : Model). isUpSlot (slotIn m 0)) (model-more someSettings some-taken since (slow 2 2) ∙ ap (λ (m : Model). modelFrom m (slow 2 2)) just-up)
+          ∙ computed .lost;
     }

@@ -11,5 +11,8 @@ pub mod Steady
 pub mod Closing
 pub mod Found
 pub mod Corollaries
+pub mod Reach
+pub mod Windows
+pub mod Quiet
 pub mod Computed
 pub mod Example

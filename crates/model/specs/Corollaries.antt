@@ -16,6 +16,7 @@ use Rattle.wire.specs.Reading.{headerAnswer, asnAt, decodeOf}
 use Rattle.wire.specs.declared.Decoded.the-variants as D
 use Rattle.walk.specs.Body.{accepted, updateOf}
 use Rattle.codec.specs.Reading.{most, mostNumbers}
+use Rattle.neighbour.specs.declared.Mode.the-variants.{Passive}
 use Rattle.neighbour.specs.declared.Settings.{Settings}
 use Rattle.neighbour.specs.Rules.{onesOf, goesDown}
 use Rattle.state.specs.declared.Slot.{Slot}
@@ -25,6 +26,7 @@ use Rattle.calls.specs.Carried.{partAt}
 use Rattle.calls.specs.Home.{goodHome}
 use Rattle.model.specs.Model.{Call, start, stop, tick, receive, model}
 use Rattle.model.specs.History.{accepts, lastAccepted, isAbout}
+use Rattle.model.specs.Windows.{isIndication, brings, restartsNone, windows, oneInFour, latest}
 use Rattle.model.specs.Theorem.{Gateway, outcomeOf, gatewayStep, gatewayFrom, run, rowsAt, Sensible}
 
 -- ---- words
@@ -243,3 +245,43 @@ pub record AllStand (g : Settings) (calls : List Call) : Type 0 where
 abbrev pub EightFull : Type 0
 EightFull =
     (g : Settings) → Taken g → (calls : List Call) → ((j : ℕ) → j < 8 → length (lastAccepted g j calls) ≡ 128) → AllStand g calls
+
+-- ---- a quiet passive neighbour
+
+-- slot j entered Up by the last of these calls, in passive mode
+pub record EnteredUp (g : Settings) (before : List Call) (call : Call) (j : ℕ) : Type 0 where
+  pub not-before : isUpOn (run g before) j ≡ false
+  pub since : isUpOn (run g (before ++ (call ∷ []))) j ≡ true
+  pub passive : (slotOn (run g (before ++ (call ∷ []))) j) .neighbour .mode ≡ Passive
+
+-- slot j is Up after these calls and more, with the rows of the last Update that it accepted by the latter
+pub record StillUp (g : Settings) (calls more : List Call) (j : ℕ) : Type 0 where
+  pub up : isUpOn (run g (calls ++ more)) j ≡ true
+  pub rows : rowsAt (run g (calls ++ more)) j ≡ latest (model g calls) j [] more
+
+-- if no Request, Cease, Start or Stop was carried out for it since, and of any four consecutive windows that ended since at least one holds
+-- an indication: neither its register nor t3 takes it out of Up
+abbrev pub QuietStaysUp : Type 0
+QuietStaysUp =
+    (g : Settings) → Taken g → (before : List Call) (call : Call) (more : List Call) (j : ℕ) → j < 8 → EnteredUp g before call j
+    → restartsNone (model g (before ++ (call ∷ []))) j more ≡ true
+    → oneInFour (windows (model g (before ++ (call ∷ []))) j false more) ≡ true
+    → StillUp g (before ++ (call ∷ [])) more j
+
+-- an indication: the window that is open holds one, and t3 starts anew
+pub record Indicates (g : Settings) (calls : List Call) (call : Call) (j : ℕ) : Type 0 where
+  pub indication : brings isIndication (model g calls) j call ≡ true
+  pub heard : (slotOn (run g (calls ++ (call ∷ []))) j) .neighbour .heard ≡ 1
+  pub t3 : (slotOn (run g (calls ++ (call ∷ []))) j) .neighbour .t3 ≡ 3600
+
+-- 02, L3: an Update that a passive neighbour's slot accepts is one if its status is 1 or 129, and else is none
+pub record UpdateStatus (g : Settings) (calls : List Call) (call : Call) (j status : ℕ) : Type 0 where
+  pub up : (eqb status 1 || eqb status 129) ≡ true → Indicates g calls call j
+  pub other : (eqb status 0 || eqb status 2 || eqb status 128 || eqb status 130) ≡ true → brings isIndication (model g calls) j call ≡ false
+
+abbrev pub UpdateIndicates : Type 0
+UpdateIndicates =
+    (g : Settings) → Taken g → (calls : List Call) (j a : ℕ) (o home buffer : List ℕ) (asn number status net : ℕ) → j < 8
+    → accepts (model g calls) j (receive a o home buffer) ≡ true → decodeOf o ≡ D.Good (M.Update asn number status net)
+    → (slotOn (run g calls) j) .neighbour .mode ≡ Passive
+    → UpdateStatus g calls (receive a o home buffer) j status

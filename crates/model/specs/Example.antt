@@ -1,7 +1,8 @@
--- An example, so that no corollary's premise is one that nothing meets: neighbours that come Up, report 128 nets each, fall silent, and poll 65,535 times.
+-- An example, so that no corollary's premise is one that nothing meets: neighbours that come Up, report 128 nets each, fall silent, poll 65,535
+-- times, and are heard of by their Updates alone.
 use Prim.Native.Nat.{ℕ, zero, suc, _+_, _*_, _%_, _<_}
 use mathlib.Core.Path.{_≡_}
-use mathlib.Core.Bool.{true}
+use mathlib.Core.Bool.{true, false}
 use mathlib.Core.List.{List, [], _∷_, _++_}
 use lib.Dec.{leb}
 use lib.ListN.{length}
@@ -11,10 +12,11 @@ use Rattle.message.specs.declared.Message.the-variants.{Request, Cease, Hello, 
 use Rattle.codec.specs.Octets.{octetsOf}
 use Rattle.neighbour.specs.declared.Settings.{Settings}
 use Rattle.neighbour.specs.Rules.{onesOf, goesDown}
-use Rattle.model.specs.Model.{Call, add, tick, receive}
+use Rattle.model.specs.Model.{Call, add, tick, receive, model}
 use Rattle.model.specs.History.{lastAccepted}
 use Rattle.model.specs.Theorem.{gatewayStep, run}
-use Rattle.model.specs.Corollaries.{Taken, slotOn, isUpOn, BothReport, Says, SaysRows}
+use Rattle.model.specs.Windows.{restartsNone, windows, oneInFour, latest}
+use Rattle.model.specs.Corollaries.{Taken, slotOn, isUpOn, BothReport, Says, SaysRows, EnteredUp}
 
 -- AS 9 at 128.9.0.1 on 128.9.0.0, passive only
 unfoldable pub someSettings : Settings
@@ -61,6 +63,16 @@ polled (suc n) = (saysHello 1 ∷ ticks 1 122) ++ polled n
 unfoldable pub lastNumber : List Call
 lastNumber = reporting 1 ++ (polled 65534 ++ (saysHello 1 ∷ ticks 1 121))
 
+-- added, acquired with T1 32, heard once; the next tick enters Up
+unfoldable pub almostUp : List Call
+almostUp = add 1 7 ∷ receive 1 (octetsOf (Request 7 0 0 30 120) []) [] lent ∷ saysHello 1 ∷ ticks 1 31
+
+-- an Update of this status in the first window of 32 seconds, the next one in the fifth; our second Poll went out in the fourth
+unfoldable pub slow : ℕ → ℕ → List Call
+slow first second =
+    receive 1 (octetsOf (Update 7 1 first 2148073472) (classA 10 1)) [] lent
+    ∷ (ticks 1 128 ++ (receive 1 (octetsOf (Update 7 2 second 2148073472) (classA 11 1)) [] lent ∷ ticks 1 32))
+
 -- ---- the premises
 
 -- eight neighbours of 128 rows; two that report 10.0.0.0; a Cease and a Request of the first, and its silence
@@ -71,11 +83,11 @@ pub record EightMet : Type 0 where
   pub room : leb 2048 (length lent) ≡ true
   pub cease : Says (run someSettings eight) 0 (octetsOf (Cease 7 0 0) []) [] lent (Cease 7 0 0)
   pub request : Says (run someSettings eight) 0 (octetsOf (Request 7 0 0 120 120) []) [] lent (Request 7 0 0 120 120)
-  pub still-both : BothReport (run someSettings (eight ++ ticks 1 487)) 0 1 167772160
-  pub silent : (slotOn (run someSettings (eight ++ ticks 1 487)) 0) .neighbour .t1 ≡ 1
+  pub still-both : BothReport (run someSettings (eight ++ ticks 1 609)) 0 1 167772160
+  pub silent : (slotOn (run someSettings (eight ++ ticks 1 609)) 0) .neighbour .t1 ≡ 1
   pub lost :
-      goesDown ((slotOn (run someSettings (eight ++ ticks 1 487)) 0) .neighbour .mode)
-      (onesOf (((slotOn (run someSettings (eight ++ ticks 1 487)) 0) .neighbour .register * 2 + (slotOn (run someSettings (eight ++ ticks 1 487)) 0) .neighbour .heard) % 16)) ≡ true
+      goesDown ((slotOn (run someSettings (eight ++ ticks 1 609)) 0) .neighbour .mode)
+      (onesOf (((slotOn (run someSettings (eight ++ ticks 1 609)) 0) .neighbour .register * 2 + (slotOn (run someSettings (eight ++ ticks 1 609)) 0) .neighbour .heard) % 16)) ≡ true
 
 -- a run from fresh in which S is 65,535 and the next tick polls; and an Update with number 0
 pub record LastNumberMet : Type 0 where
@@ -84,3 +96,12 @@ pub record LastNumberMet : Type 0 where
   pub up : isUpOn (run someSettings lastNumber) 0 ≡ true
   pub still : isUpOn (gatewayStep (tick ((slotOn (run someSettings lastNumber) 0) .address) lent) (run someSettings lastNumber)) 0 ≡ true
   pub update : SaysRows (run someSettings lastNumber) 0 0 (octetsOf (Update 7 0 1 2148073472) (classA 10 1)) [] lent (classA 10 1)
+
+-- a passive neighbour that is heard of once in four windows, by its Updates of status 1 and 129; of status 2 they would not keep it
+pub record QuietMet : Type 0 where
+  pub entered : EnteredUp someSettings almostUp (tick 1 lent) 0
+  pub unrestarted : restartsNone (model someSettings (almostUp ++ (tick 1 lent ∷ []))) 0 (slow 1 129) ≡ true
+  pub ended : windows (model someSettings (almostUp ++ (tick 1 lent ∷ []))) 0 false (slow 1 129) ≡ true ∷ false ∷ false ∷ false ∷ true ∷ []
+  pub often : oneInFour (windows (model someSettings (almostUp ++ (tick 1 lent ∷ []))) 0 false (slow 1 129)) ≡ true
+  pub last : latest (model someSettings (almostUp ++ (tick 1 lent ∷ []))) 0 [] (slow 1 129) ≡ classA 11 1
+  pub lost : isUpOn (run someSettings ((almostUp ++ (tick 1 lent ∷ [])) ++ slow 2 2)) 0 ≡ false

@@ -613,7 +613,7 @@ fn expected() -> Vec<(Section, String)> {
         for kind in [Kind::Confirm, Kind::IHeardYou, Kind::Update] {
             want(Section::Indications, indication(Mode::Active, kind, state));
         }
-        for kind in [Kind::Hello, Kind::Poll] {
+        for kind in [Kind::Hello, Kind::Poll, Kind::Update] {
             want(Section::Indications, indication(Mode::Passive, kind, state));
         }
     }

@@ -1,4 +1,4 @@
-//! The state machine of one neighbour (01, "One neighbour"; RFC 904, sections 3 and 4).
+//! The state machine of one neighbour (01, "One neighbour"; 02, L3; RFC 904, sections 3 and 4).
 
 use crate::message::{self, Body, Intervals, Message};
 use crate::update::Row;
@@ -31,6 +31,8 @@ pub const PASSIVE_ONLY: u8 = 2;
 /// Statuses of reachability messages (RFC 904, A.2).
 pub const STATUS_UP: u8 = 1;
 pub const STATUS_DOWN: u8 = 2;
+/// What an Update's status has besides if nothing asked for it (RFC 904, A.4).
+pub const UNSOLICITED: u8 = 128;
 
 /// Error reasons (RFC 904, A.5).
 pub const UNSPECIFIED: u16 = 0;
@@ -548,17 +550,15 @@ impl Machine<'_> {
 }
 
 /// "Active mode, a Confirm, I-H-U or Update carried out; passive mode, a Hello or Poll carried
-/// out with status 1 (section 3.3)."
+/// out with status 1 (section 3.3)." By 02's L3 also, "in passive mode, an Update carried out in
+/// Down or Up whose status without the unsolicited bit is 1 is an indication too. Active mode
+/// stays as it was."
 fn is_indication(mode: Mode, message: &Message) -> bool {
     use message::Kind;
-    match mode {
-        Mode::Active => matches!(
-            message.kind(),
-            Kind::Confirm | Kind::IHeardYou | Kind::Update
-        ),
-        Mode::Passive => {
-            matches!(message.kind(), Kind::Hello | Kind::Poll) && message.status == STATUS_UP
-        }
-        Mode::None => false,
+    match (mode, message.kind()) {
+        (Mode::Active, Kind::Confirm | Kind::IHeardYou | Kind::Update) => true,
+        (Mode::Passive, Kind::Hello | Kind::Poll) => message.status == STATUS_UP,
+        (Mode::Passive, Kind::Update) => message.status & !UNSOLICITED == STATUS_UP,
+        _ => false,
     }
 }

@@ -1,4 +1,4 @@
-//! Every cell of the machine's table (01, "One neighbour").
+//! Every cell of the machine's table (01, "One neighbour"; 02, L3).
 //!
 //! The neighbour starts with S 4 and R 5; in Up it holds two rows. Each case compares the whole
 //! neighbour after the event, every octet sent, and the rows.
@@ -344,7 +344,12 @@ fn update_outside_up() {
         let active = s1(Down, Mode::Active);
         check(active, 1, message(octets.clone()), heard(active), &[]);
         let passive = s1(Down, Mode::Passive);
-        check(passive, 1, message(octets.clone()), passive, &[]);
+        let after = if octets[3] == 0 {
+            passive
+        } else {
+            heard(passive)
+        };
+        check(passive, 1, message(octets.clone()), after, &[]);
     }
 }
 
@@ -355,15 +360,12 @@ fn update_in_up_replaces_rows() {
             send_sequence: 1,
             ..in_state(Up, mode)
         };
+        // The first of them, of status 1, is an indication in both modes.
         let after = |rows: u16| {
-            let replaced = Neighbour {
+            heard(Neighbour {
                 row_count: rows,
                 ..before
-            };
-            match mode {
-                Mode::Active => heard(replaced),
-                _ => replaced,
-            }
+            })
         };
         let mut gateway = Gateway::with(before);
         gateway.bench.table[383] = 77;
@@ -389,6 +391,95 @@ fn update_in_up_replaces_rows() {
         );
         assert_eq!(gateway.n(), after(0));
         assert!(gateway.area(0).iter().all(|number| *number == 0));
+    }
+}
+
+/// What an Update that carries S leaves of an unheard neighbour, beside its answer.
+fn after_update(before: Neighbour, status: u8, blocks: Blocks) -> (u8, Neighbour) {
+    let Blocks(internal, octets) = blocks;
+    let s = before.send_sequence;
+    let mut gateway = Gateway::with(before);
+    let answer = gateway.message(&common::update(status, s, internal, 0, &octets));
+    (answer.answer, gateway.n())
+}
+
+/// How many internal gateways an Update names, and its octets from 16 on.
+struct Blocks(u8, Vec<u8>);
+
+fn one_row() -> Blocks {
+    Blocks(1, vec![0, 5, 1, 0, 1, 10])
+}
+
+fn octet_left_over() -> Blocks {
+    Blocks(1, vec![0, 5, 1, 0, 1, 10, 0])
+}
+
+fn rows_129() -> Blocks {
+    Blocks(1, [vec![0, 5, 1, 0, 129], vec![10; 129]].concat())
+}
+
+const UPDATE_STATUSES: [u8; 6] = [0, 1, 2, 128, 129, 130];
+
+/// 02, L3: "in passive mode, an Update carried out in Down or Up whose status without the
+/// unsolicited bit is 1 is an indication too. Active mode stays as it was."
+#[test]
+fn update_is_an_indication_by_mode_and_status() {
+    for status in UPDATE_STATUSES {
+        for mode in MODES {
+            let noted = |neighbour: Neighbour| {
+                if mode == Mode::Active || [1, 129].contains(&status) {
+                    heard(neighbour)
+                } else {
+                    neighbour
+                }
+            };
+            let down = in_state(Down, mode);
+            let after = after_update(down, status, one_row());
+            assert_eq!(after, (0, noted(down)), "{mode:?} {status}");
+            let up = in_state(Up, mode);
+            let one = Neighbour { row_count: 1, ..up };
+            let after = after_update(up, status, one_row());
+            assert_eq!(after, (0, noted(one)), "{mode:?} {status}");
+        }
+    }
+}
+
+#[test]
+fn update_with_a_bad_body_in_down_is_an_indication() {
+    let down = in_state(Down, Mode::Passive);
+    for body in [octet_left_over, rows_129] {
+        assert_eq!(after_update(down, 1, body()), (0, heard(down)));
+        assert_eq!(after_update(down, 129, body()), (0, heard(down)));
+        assert_eq!(after_update(down, 2, body()), (0, down));
+    }
+}
+
+#[test]
+fn refused_updates_are_no_indications() {
+    for status in [1, 129] {
+        for mode in MODES {
+            for before in [in_state(Down, mode), in_state(Up, mode)] {
+                for s in [3, 5] {
+                    let mut gateway = Gateway::with(before);
+                    let octets = common::update(status, s, 0, 0, &[]);
+                    assert_eq!(gateway.message(&octets), got(13, &[]));
+                    assert_eq!(gateway.n(), before);
+                }
+            }
+            let up = in_state(Up, mode);
+            assert_eq!(after_update(up, status, octet_left_over()), (14, up));
+            assert_eq!(after_update(up, status, rows_129()), (15, up));
+        }
+    }
+}
+
+#[test]
+fn updates_outside_down_and_up_are_no_indications() {
+    for status in UPDATE_STATUSES {
+        for state in [Idle, Acquisition, Cease] {
+            let before = in_state(state, Mode::None);
+            assert_eq!(after_update(before, status, one_row()), (0, before));
+        }
     }
 }
 

@@ -1,4 +1,4 @@
-//! The places 01 leaves open, as they are read: one case for each that names an input. The
+//! The places the papers leave open, as they are read: one case for each that names an input. The
 //! number in a test's name is the reading's.
 
 mod common;
@@ -832,10 +832,22 @@ fn b117_capability_is_a_number() {
 }
 
 #[test]
+fn b120_a_refused_update_is_no_indication() {
+    let mut gateway = gateway_with(Up, Mode::Passive, |_| {});
+    let before = gateway.n();
+    assert_eq!(gateway.message(&update(1, 4, 0, 1, &[])).answer, 14);
+    assert_eq!(gateway.n(), before);
+    // In Down any body will do.
+    let mut gateway = gateway_with(Down, Mode::Passive, |_| {});
+    assert_eq!(gateway.message(&update(1, 4, 0, 1, &[])), got(0, &[]));
+    assert_eq!((gateway.n().heard, gateway.n().t3), (1, 3600));
+}
+
+#[test]
 fn b123_an_update_of_status_down_replaces_rows() {
     let mut gateway = gateway_with(Up, Mode::Passive, |_| {});
     assert_eq!(gateway.message(&update(2, 4, 0, 0, &[])), got(0, &[]));
-    assert_eq!(gateway.n().row_count, 0);
+    assert_eq!((gateway.n().row_count, gateway.n().heard), (0, 0));
 }
 
 #[test]

@@ -285,6 +285,36 @@ fn a_life_in_passive_mode() {
     assert_eq!(gateway.n().register, 0);
 }
 
+/// 02, L3: "a site with slow Polls from its peer lost its rows". Updates alone keep it up if no
+/// four intervals, 128 seconds, go by without one.
+#[test]
+fn updates_keep_a_passive_site_up() {
+    let falls_after = |every: u32, status: u8| {
+        let mut gateway = Gateway::new(2);
+        gateway.message(&request(1, 50, 30, 480));
+        gateway.message(&poll(1, 51, NET));
+        for _ in 0..32 {
+            gateway.tick();
+        }
+        assert_eq!(gateway.n().state, Up);
+        (1..=1200).find(|second| {
+            gateway.tick();
+            if second % every == 0 {
+                let s = gateway.n().send_sequence;
+                gateway.message(&update(status, s, 1, 0, &[0, 5, 1, 0, 1, 10]));
+            }
+            gateway.n().state == Down
+        })
+    };
+    for status in [1, 129] {
+        assert_eq!(falls_after(122, status), None);
+        assert_eq!(falls_after(128, status), Some(128));
+    }
+    for status in [0, 2, 128, 130] {
+        assert_eq!(falls_after(1, status), Some(128));
+    }
+}
+
 #[test]
 fn without_a_sign_of_life_acquisition_and_cease_end_at_t3() {
     let mut gateway = Gateway::new(0);

@@ -430,3 +430,21 @@ fn the_example_shows_what_it_is_for() {
     assert!(after.contains(&format!("rows=2\n{shared}gw=128.9.0.6\n")));
     assert_eq!(after.matches(&shared).count(), 1);
 }
+
+/// 02, L3: from our first Poll on the site is up after every line, though its peer says so by a
+/// Poll in eight minutes and by its Updates only.
+#[test]
+fn the_passive_example_stays_up() {
+    let stored = include_str!("../../examples/passive.rec");
+    assert_eq!(play(stored), include_str!("../../examples/passive.out"));
+    let comes_up = "tick=128.9.0.5/23\n";
+    let (before, after) = stored.split_once(comes_up).expect("seconds");
+    let mut played = format!("{before}{comes_up}");
+    assert!(play(&played).contains("state=up\nmode=passive\nrows=0\n"));
+    for line in after.split_inclusive('\n') {
+        played.push_str(line);
+        let output = play(&played);
+        assert!(output.contains("state=up\nmode=passive\nrows=2\n"));
+        assert!(!output.contains("bad="));
+    }
+}

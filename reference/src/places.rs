@@ -2,7 +2,8 @@
 //!
 //! A place is a predicate on a call, the state and table before it, and what it gave. Each is
 //! one where a gateway can be wrong while nearly every other call agrees: two checks that fail
-//! at once, a number at its limit or one beyond, a message that nearly gets a reply.
+//! at once, a number at its limit or one beyond, a message that nearly gets a reply, an Update
+//! that is or nearly is an indication.
 
 use crate::answer::Answer;
 use crate::call::{Call, CallKind, Record};
@@ -13,7 +14,7 @@ use crate::generate::faults::ONES;
 use crate::generate::{Origin, Step};
 use crate::listing::{self, LISTING_BUFFER};
 use crate::message::{self, Body, Kind, LONGEST, REPLY_BUFFER, SHORTEST, VERSION};
-use crate::neighbour::{Neighbour, NeighbourState};
+use crate::neighbour::{Mode, Neighbour, NeighbourState, P4};
 use crate::net::{self, Class};
 use crate::update::{self, Row, MOST_ROWS};
 
@@ -78,6 +79,7 @@ pub fn all() -> Vec<Place> {
     places.extend(sizes());
     places.extend(strangers());
     places.extend(updates());
+    places.extend(indications());
     places.extend(home_lists());
     places.extend(readings());
     places.extend(writings());
@@ -463,6 +465,10 @@ fn strangers() -> Vec<Place> {
 
 // Bodies of Updates.
 
+fn has_bad_body(seen: &Seen, octets: &[u8]) -> bool {
+    message::read_rows(octets, seen.before.state.net) == Err(Answer::BadUpdate)
+}
+
 fn updates() -> Vec<Place> {
     use NeighbourState::{Acquisition, Cease, Down, Idle, Up};
     let mut places = Vec::new();
@@ -471,9 +477,7 @@ fn updates() -> Vec<Place> {
         places.push(place(name, move |seen| {
             seen.gives(0)
                 && seen.update().is_some_and(|(neighbour, octets)| {
-                    neighbour.state == state
-                        && message::read_rows(octets, seen.before.state.net)
-                            == Err(Answer::BadUpdate)
+                    neighbour.state == state && has_bad_body(seen, octets)
                 })
         }));
     }
@@ -484,6 +488,62 @@ fn updates() -> Vec<Place> {
                     && rows_before_a_defect(octets, seen.before.state.net) == MOST_ROWS + 1
             })
     }));
+    places
+}
+
+// Updates as indications.
+
+/// An Update from a neighbour of this mode and state that gives this number, where an indication
+/// would show: heard is 0, and t3 below what it would be set to.
+fn unheard<'a>(seen: &'a Seen, mode: Mode, state: NeighbourState, number: u8) -> Option<&'a [u8]> {
+    if !seen.gives(number) {
+        return None;
+    }
+    let (neighbour, octets) = seen.update()?;
+    let is_wanted = (neighbour.mode, neighbour.state) == (mode, state)
+        && neighbour.heard == 0
+        && neighbour.t3 < P4;
+    is_wanted.then_some(octets)
+}
+
+/// Whether an Update's status is Up, asked for or not.
+fn says_up(octets: &[u8]) -> bool {
+    [1, 129].contains(&octets[3])
+}
+
+fn indications() -> Vec<Place> {
+    use Mode::{Active, Passive};
+    use NeighbourState::{Acquisition, Cease, Down, Idle, Up};
+    let mut places = Vec::new();
+    for (mode, state) in [(Active, Down), (Active, Up), (Passive, Down), (Passive, Up)] {
+        for status in [0, 1, 2, 128, 129, 130] {
+            let name = format!("unheard, {mode:?} in {state:?}: Update {status}");
+            places.push(place(name, move |seen| {
+                unheard(seen, mode, state, 0).is_some_and(|octets| octets[3] == status)
+            }));
+        }
+    }
+    // What says Up is an indication whatever its body in Down, but not if it is refused.
+    places.push(place(
+        "unheard, Passive in Down: bad Update 1 or 129",
+        |seen| {
+            unheard(seen, Passive, Down, 0)
+                .is_some_and(|octets| says_up(octets) && has_bad_body(seen, octets))
+        },
+    ));
+    for (state, number) in [(Down, 13), (Up, 13), (Up, 14), (Up, 15)] {
+        let name = format!("unheard, Passive in {state:?}: Update 1 or 129, {number}");
+        places.push(place(name, move |seen| {
+            unheard(seen, Passive, state, number).is_some_and(says_up)
+        }));
+    }
+    // Nor where no mode is set.
+    for state in [Idle, Acquisition, Cease] {
+        let name = format!("unheard, {state:?}: Update 1 or 129");
+        places.push(place(name, move |seen| {
+            unheard(seen, Mode::None, state, 0).is_some_and(says_up)
+        }));
+    }
     places
 }
 

@@ -342,6 +342,63 @@ fn bodies_that_are_not_looked_at() {
     assert!(!reaches(&up, message(update_failing(&[14])), name));
 }
 
+/// The same Update with another status.
+fn of_status(mut octets: Vec<u8>, status: u8) -> Call {
+    octets[3] = status;
+    message(sealed(octets))
+}
+
+#[test]
+fn updates_of_every_status_to_an_unheard_neighbour() {
+    for state in [Down, Up] {
+        for mode in [Mode::Active, Mode::Passive] {
+            let unheard = Gateway::with(in_state(state, mode));
+            for status in [0, 1, 2, 128, 129, 130] {
+                let name = format!("unheard, {mode:?} in {state:?}: Update {status}");
+                let good = of_status(update_failing(&[]), status);
+                assert!(reaches(&unheard, good.clone(), &name));
+                let mut heard = unheard.clone();
+                heard.bench.state.neighbours[0].heard = 1;
+                assert!(!reaches(&heard, good.clone(), &name));
+                let mut at_its_limit = unheard.clone();
+                at_its_limit.bench.state.neighbours[0].t3 = 3600;
+                assert!(!reaches(&at_its_limit, good, &name));
+                let late = of_status(update_failing(&[13]), status);
+                assert!(!reaches(&unheard, late, &name));
+            }
+        }
+    }
+}
+
+#[test]
+fn updates_that_say_up_to_an_unheard_neighbour() {
+    for (state, failing, name) in [
+        (Down, 14, "Passive in Down: bad Update 1 or 129"),
+        (Down, 13, "Passive in Down: Update 1 or 129, 13"),
+        (Up, 13, "Passive in Up: Update 1 or 129, 13"),
+        (Up, 14, "Passive in Up: Update 1 or 129, 14"),
+        (Up, 15, "Passive in Up: Update 1 or 129, 15"),
+        (Idle, 0, "Idle: Update 1 or 129"),
+        (Acquisition, 0, "Acquisition: Update 1 or 129"),
+        (Cease, 0, "Cease: Update 1 or 129"),
+    ] {
+        let name = format!("unheard, {name}");
+        let octets = || update_failing(&[failing]);
+        let passive = Gateway::with(in_state(state, Mode::Passive));
+        for status in [0, 1, 2, 128, 129, 130] {
+            let says_up = status == 1 || status == 129;
+            let reached = reaches(&passive, of_status(octets(), status), &name);
+            assert_eq!(reached, says_up, "{name}, {status}");
+        }
+        if failing != 0 {
+            let active = Gateway::with(in_state(state, Mode::Active));
+            assert!(!reaches(&active, of_status(octets(), 1), &name), "{name}");
+            let good = of_status(update_failing(&[]), 1);
+            assert!(!reaches(&passive, good, &name), "{name}");
+        }
+    }
+}
+
 #[test]
 fn home_lists_bad_in_one_way() {
     let gateway = Gateway::new(1);

@@ -67,7 +67,7 @@ fn every_damaged_line_is_bad() {
 /// What the outputs of many recordings hold.
 #[test]
 fn recordings_are_meaningful() {
-    let outputs: Vec<String> = (0..300)
+    let outputs: Vec<String> = (0..600)
         .map(|seed| String::from_utf8(playback::play(&recording(seed, 200))).expect("text"))
         .collect();
     let with = |text: &str| {

@@ -102,6 +102,8 @@ enum Temper {
 enum Handed {
     /// Most likely a well-formed state, with a table of the right length.
     State,
+    /// A well-formed state whose neighbours are all acquired and unheard.
+    Unheard,
     /// A state that breaks one rule.
     BrokenState,
     /// A table of a wrong length.
@@ -190,6 +192,7 @@ impl Generator {
             379..=393 => self.membership(),
             394..=398 => self.list(SELDOM),
             399..=400 => self.near_the_turn(),
+            401..=412 => self.hand_unheard(),
             _ => self.live(),
         }
     }
@@ -776,6 +779,23 @@ impl Generator {
         (Call::HandState(Box::new(state)), "state handed in")
     }
 
+    /// A state where every neighbour is in Down or Up and unheard, so that an indication shows, and
+    /// about an Update for each.
+    fn hand_unheard(&mut self) -> (Call, &'static str) {
+        self.put_aside(Handed::Unheard);
+        let mut state = material::state(&mut self.random);
+        for neighbour in state.neighbours.iter_mut().filter(|n| n.is_used()) {
+            let (address, as_number) = (neighbour.address, neighbour.as_number);
+            let phase = self
+                .random
+                .pick(&[NeighbourState::Down, NeighbourState::Up]);
+            *neighbour = material::neighbour(&mut self.random, address, as_number, phase);
+            neighbour.heard = 0;
+        }
+        self.handed_left = state.neighbours.iter().filter(|n| n.is_used()).count();
+        (Call::HandState(Box::new(state)), "state handed in, unheard")
+    }
+
     /// States that break one rule, one after the other, and one call on each; the table may be
     /// of a wrong length besides, or hold rows that no listing takes.
     fn hand_broken(&mut self) -> (Call, &'static str) {
@@ -834,11 +854,38 @@ impl Generator {
         self.focus = self.used_slot();
         let (call, aim) = match handed {
             Handed::State => self.any_call(self.focus),
+            Handed::Unheard => self.update_to_unheard(),
             Handed::BrokenState => self.call_on_broken(self.focus),
             Handed::Table => self.call_on_table(self.focus),
         };
         self.focus = kept;
         (call, if aim == "life" { "handed in" } else { aim })
+    }
+
+    /// An Update to a neighbour that is still unheard: good, out of sequence, or such as Up refuses.
+    fn update_to_unheard(&mut self) -> (Call, &'static str) {
+        let neighbours = self.bench.state.neighbours;
+        let unheard: Vec<usize> = (0..SLOTS)
+            .filter(|&slot| neighbours[slot].state.is_acquired() && neighbours[slot].heard == 0)
+            .collect();
+        let slot = match unheard.as_slice() {
+            [] => self.focus,
+            slots => self.random.pick(slots),
+        };
+        let s = neighbours[slot].send_sequence;
+        let octets = match self.random.below(10) {
+            0..=1 => self.update(slot, s.wrapping_add(1)),
+            2..=3 => {
+                let sender = self.sender(slot);
+                let bad_body = self.random.pick(&faults::BODY_FAULTS);
+                let fault = self
+                    .random
+                    .weighted(&[(3, bad_body), (2, "Update above 128 rows")]);
+                faults::message(&mut self.random, sender, fault)
+            }
+            _ => self.update(slot, s),
+        };
+        self.message(slot, octets, "Update to an unheard neighbour")
     }
 
     /// Each call that makes check 1 about as often.
@@ -1002,7 +1049,7 @@ impl Generator {
 /// What counts as a sign of life in this mode.
 fn indication(random: &mut Random, mode: Mode) -> Act {
     match mode {
-        Mode::Passive => random.pick(&[Act::Hello, Act::Hello, Act::Poll]),
+        Mode::Passive => random.pick(&[Act::Hello, Act::Hello, Act::Poll, Act::Update]),
         _ => random.pick(&[Act::IHeardYou, Act::Update, Act::Confirm]),
     }
 }

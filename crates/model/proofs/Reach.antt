@@ -1,4 +1,5 @@
--- A passive neighbour's register, heard bit and t3, from the record that A or B leaves on: facts of one record. Assumes nothing.
+-- A passive neighbour's register, heard and t3, from the record that A or B leaves on: facts of one record. Assumes
+-- nothing.
 use Prim.Native.Nat.{ℕ, zero, suc, _+_, _-_, _*_, _/_, _%_, _≤_}
 use native.Mathlib.Omega.{arith}
 use mathlib.Core.Path.{_≡_, refl, sym, _∙_, ap, subst}
@@ -58,7 +59,8 @@ fine-in n p a e h = go p a (subst (λ (q : Phase). wellFormed (at n q) ≡ true)
 
 -- ---- Down
 
--- In Down a passive neighbour's register is 0, for one bit takes it Up; and an indication that is noted is no older than this window.
+-- In Down a passive neighbour's register is 0, for one bit takes it Up; and an indication that is noted is no older
+-- than this window.
 pub record Waits (n : Neighbour) : Type 0 where
   pub blank : n .phase ≡ Down → n .mode ≡ Passive → n .register ≡ 0
   pub young : n .phase ≡ Down → n .mode ≡ Passive → n .heard ≡ 1 → 3600 + n .t1 ≤ n .t3 + 122
@@ -334,8 +336,8 @@ step-waits g asn n Tick head h w = tick-waits g n w
 
 -- ---- Up
 
--- A passive neighbour in Up: `silent` windows ended since the one with its last indication, or since Up was entered; `heard`: whether the one
--- that is open holds one. t3 has run for no longer than these windows.
+-- A passive neighbour in Up: `silent` windows ended since the one with its last indication, or since Up was entered;
+-- `heard`: whether the one that is open holds one. t3 has run for no longer than these windows.
 pub record Held (n : Neighbour) (silent : ℕ) (heard : Bool) : Type 0 where
   pub up : n .phase ≡ Up
   pub passive : n .mode ≡ Passive

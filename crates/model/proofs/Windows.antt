@@ -1,4 +1,4 @@
--- What a call makes of a slot, by the event that it carries out there; a quiet passive neighbour stays Up. Assumes nothing.
+-- What a call makes of a slot, by the event carried out there; a quiet passive neighbour stays Up. Assumes nothing.
 use Prim.Native.Nat.{ℕ, zero, suc, _≤_, _<_}
 use native.Mathlib.Omega.{arith}
 use mathlib.Core.Path.{_≡_, refl, sym, _∙_, ap, subst}

@@ -259,8 +259,8 @@ pub record StillUp (g : Settings) (calls more : List Call) (j : ℕ) : Type 0 wh
   pub up : isUpOn (run g (calls ++ more)) j ≡ true
   pub rows : rowsAt (run g (calls ++ more)) j ≡ latest (model g calls) j [] more
 
--- if no Request, Cease, Start or Stop was carried out for it since, and of any four consecutive windows that ended since at least one holds
--- an indication: neither its register nor t3 takes it out of Up
+-- if no Request, Cease, Start or Stop was carried out for it since, and of any four consecutive windows that ended
+-- since at least one holds an indication: neither its register nor t3 takes it out of Up
 abbrev pub QuietStaysUp : Type 0
 QuietStaysUp =
     (g : Settings) → Taken g → (before : List Call) (call : Call) (more : List Call) (j : ℕ) → j < 8 → EnteredUp g before call j

@@ -1,5 +1,5 @@
--- An example, so that no corollary's premise is one that nothing meets: neighbours that come Up, report 128 nets each, fall silent, poll 65,535
--- times, and are heard of by their Updates alone.
+-- An example, so that no corollary's premise is one that nothing meets: neighbours that come Up, report 128 nets each,
+-- fall silent, poll 65,535 times, and are heard of by their Updates alone.
 use Prim.Native.Nat.{ℕ, zero, suc, _+_, _*_, _%_, _<_}
 use mathlib.Core.Path.{_≡_}
 use mathlib.Core.Bool.{true, false}
@@ -67,7 +67,8 @@ lastNumber = reporting 1 ++ (polled 65534 ++ (saysHello 1 ∷ ticks 1 121))
 unfoldable pub almostUp : List Call
 almostUp = add 1 7 ∷ receive 1 (octetsOf (Request 7 0 0 30 120) []) [] lent ∷ saysHello 1 ∷ ticks 1 31
 
--- an Update of this status in the first window of 32 seconds, the next one in the fifth; our second Poll went out in the fourth
+-- an Update of this status in the first window of 32 seconds, the next one in the fifth; our second Poll went out in
+-- the fourth
 unfoldable pub slow : ℕ → ℕ → List Call
 slow first second =
     receive 1 (octetsOf (Update 7 1 first 2148073472) (classA 10 1)) [] lent
@@ -97,7 +98,8 @@ pub record LastNumberMet : Type 0 where
   pub still : isUpOn (gatewayStep (tick ((slotOn (run someSettings lastNumber) 0) .address) lent) (run someSettings lastNumber)) 0 ≡ true
   pub update : SaysRows (run someSettings lastNumber) 0 0 (octetsOf (Update 7 0 1 2148073472) (classA 10 1)) [] lent (classA 10 1)
 
--- a passive neighbour that is heard of once in four windows, by its Updates of status 1 and 129; of status 2 they would not keep it
+-- a passive neighbour that is heard of once in four windows, by its Updates of status 1 and 129; of status 2 they would
+-- not keep it
 pub record QuietMet : Type 0 where
   pub entered : EnteredUp someSettings almostUp (tick 1 lent) 0
   pub unrestarted : restartsNone (model someSettings (almostUp ++ (tick 1 lent ∷ []))) 0 (slow 1 129) ≡ true

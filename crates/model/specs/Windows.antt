@@ -1,5 +1,5 @@
--- What happened to the neighbour in a slot, told from the calls: the events carried out for it, and its windows. A window is the stretch
--- between two consecutive evaluations of the register.
+-- What happened to the neighbour in a slot, told from the calls: the events carried out for it, and its windows. A
+-- window is the stretch between two consecutive evaluations of the register.
 use Prim.Native.Nat.{ℕ}
 use mathlib.Core.Bool.{Bool, true, false, cond, not, _&&_, _||_}
 use mathlib.Core.List.{List, [], _∷_, _++_}
@@ -30,7 +30,7 @@ isIndication n Start = false
 isIndication n Stop = false
 isIndication n Tick = false
 
--- 01: "Take 1 from t1; at 0, .. Down and Up shift heard into the register". Where t3 comes to 0, "the tick ends" before.
+-- 01: "Take 1 from t1; at 0, .. Down and Up shift heard into the register", unless t3 came to 0: then "the tick ends"
 unfoldable pub isEvaluation : Neighbour → Event → Bool
 isEvaluation n (Received x) = false
 isEvaluation n Start = false
@@ -85,7 +85,8 @@ unfoldable pub restartsNone : Model → ℕ → List Call → Bool
 restartsNone m j [] = true
 restartsNone m j (call ∷ rest) = not (brings isRestart m j call) && restartsNone ((step call m) .model) j rest
 
--- the windows of slot j that these calls end, in their order: whether each holds an indication. Of the one that is open, `heard` says it.
+-- the windows of slot j that these calls end, in their order: whether each holds an indication. Of the one that is
+-- open, `heard` says it.
 unfoldable pub windows : Model → ℕ → Bool → List Call → List Bool
 windows m j heard [] = []
 windows m j heard (call ∷ rest) =

@@ -43,7 +43,7 @@ use Rattle.model.specs.History.{lastAccepted}
 use Rattle.model.specs.Theorem.{Gateway, gatewayStep, run, cell, stateOf, rowsHeld, rowsAt}
 use Rattle.model.specs.Corollaries.{Taken, slotOn, isUpOn, reports, BothReport, Says}
 use Rattle.model.specs.History.{isUpSlot}
-use Rattle.model.specs.Windows.{restartsNone, windows, anyOf, oneInFour, latest}
+use Rattle.model.specs.Windows.{restartsNone, windows, anyOf, firstFour, oneInFour, latest}
 use Rattle.model.specs.Example.{someSettings, lent, classA, ticks, saysHello, reporting, eight, polled, lastNumber, almostUp, slow, EightMet, LastNumberMet, QuietMet}
 use Rattle.model.proofs.Represent.{Good}
 use Rattle.model.proofs.Simulation.{represent}
@@ -314,7 +314,7 @@ unfolding justUp slotIn isUpSlot
 just-in-up = refl
 
 one-in-five : oneInFour (true ∷ false ∷ false ∷ false ∷ true ∷ []) ≡ true
-unfolding oneInFour anyOf
+unfolding oneInFour firstFour anyOf
 one-in-five = refl
 
 pub quiet-met : QuietMet

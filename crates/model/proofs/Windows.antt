@@ -30,7 +30,7 @@ use Rattle.model.specs.Model as Calls
 use Rattle.model.specs.Model.{Call, add, remove, start, stop, tick, receive, listing, Slot, free, used, Model, slotIn, put, isFree, hasAddress, placeOf, isPresent, vacancy, spoken, whenOk, Turn, isIdleSlot, addAnswer, removeAnswer, addTurn, removeTurn, Move, noMove, moved, noOctets, eventMove, kindAnswer, answerTo, firstTwelve, afterMessage, rowsAfter, messageMove, eventAnswer, messageAnswer, turnAt, eventTurn, messageTurn, listingTurn, step, modelFrom}
 use Rattle.model.specs.History.{isUpSlot, accepts, rowsSaid}
 use Rattle.model.specs.Theorem.{cell, rowsHeld}
-use Rattle.model.specs.Windows.{isIndication, isEvaluation, isRestart, recordIn, meant, carriedOut, eventIn, passes, brings, restartsNone, windows, anyOf, oneInFour, latest}
+use Rattle.model.specs.Windows.{isIndication, isEvaluation, isRestart, recordIn, meant, carriedOut, eventIn, passes, brings, restartsNone, windows, anyOf, firstFour, oneInFour, latest}
 use Rattle.model.proofs.Represent.{Good, good-at, used-at}
 use Rattle.model.proofs.Simulation.{good-step, spoken-answer, found-used, found-free, add-free}
 use Rattle.model.proofs.History.{message-stays, step-told}
@@ -311,7 +311,7 @@ after-later (suc k) l = ap (λ (x : List Bool). false ∷ x) (after-later k l)
 -- what holds of a list of windows holds of its end
 in-rest : (window : Bool) (l : List Bool) → oneInFour (window ∷ l) ≡ true → oneInFour l ≡ true
 unfolding oneInFour
-in-rest window l e = and-right (ltb (length l) 3 || (window || anyOf (take 3 l))) (oneInFour l) e
+in-rest window l e = and-right (firstFour window l) (oneInFour l) e
 
 in-after : (k : ℕ) (l : List Bool) → oneInFour (after k l) ≡ true → oneInFour l ≡ true
 unfolding after
@@ -322,11 +322,13 @@ in-after (suc k) l e = in-after k l (in-rest false (after k l) e)
 three : (l : List Bool) → 3 ≤ length (false ∷ false ∷ false ∷ l)
 three l = omega arith
 
+four-silent : (l : List Bool) → firstFour false (after 3 l) ≡ false
+unfolding after firstFour anyOf
+four-silent l = rw (le-ltb (length (after 3 l)) 3 (three l))
+
 not-four : (l : List Bool) → oneInFour (after 4 l) ≡ true → ⊥
-unfolding after oneInFour anyOf
-not-four l e =
-    let long : ltb (length (after 3 l)) 3 ≡ false = le-ltb (length (after 3 l)) 3 (three l) in
-    false≢true (sym (rw long) ∙ and-left (ltb (length (after 3 l)) 3 || false) (oneInFour (after 3 l)) e)
+unfolding after oneInFour
+not-four l e = false≢true (sym (four-silent l) ∙ and-left (firstFour false (after 3 l)) (oneInFour (after 3 l)) e)
 
 few-silent : (silent : ℕ) (l : List Bool) → silent ≤ 3 → oneInFour (after silent (false ∷ l)) ≡ true → suc silent ≤ 3
 unfolding after

@@ -97,10 +97,14 @@ unfoldable pub anyOf : List Bool → Bool
 anyOf [] = false
 anyOf (b ∷ rest) = b || anyOf rest
 
+-- a window and the three behind it, where there are three: at least one holds an indication
+unfoldable pub firstFour : Bool → List Bool → Bool
+firstFour window rest = ltb (length rest) 3 || (window || anyOf (take 3 rest))
+
 -- of any four consecutive windows at least one holds an indication
 unfoldable pub oneInFour : List Bool → Bool
 oneInFour [] = true
-oneInFour (window ∷ rest) = (ltb (length rest) 3 || (window || anyOf (take 3 rest))) && oneInFour rest
+oneInFour (window ∷ rest) = firstFour window rest && oneInFour rest
 
 -- the rows of the last Update that slot j accepts by these calls; while it accepts none, those known
 unfoldable pub latest : Model → ℕ → List Row → List Call → List Row

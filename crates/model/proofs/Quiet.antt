@@ -27,7 +27,7 @@ use Rattle.claims.proofs.Verdicts.{is-up}
 use Rattle.model.specs.Model.{Call, receive, Slot, free, used, Model, slotIn, isFree, isIdleSlot, placeOf, step, model, empty}
 use Rattle.model.specs.History.{isUpSlot, saysUpdate, accepts}
 use Rattle.model.specs.Theorem.{Gateway, gatewayStep, gatewayFrom, run, cell, rowsHeld, rowsAt}
-use Rattle.model.specs.Windows.{isIndication, isRestart, recordIn, meant, carriedOut, eventIn, passes, brings, restartsNone, windows, oneInFour, latest}
+use Rattle.model.specs.Windows.{isIndication, isRestart, recordIn, saidEvent, doneFor, eventFor, holdsOf, brings, restartsNone, windows, oneInFour, latest}
 use Rattle.model.specs.Corollaries.{Taken, slotOn, isUpOn, EnteredUp, StillUp, QuietStaysUp, UpdateIndicates}
 use Rattle.model.proofs.Represent.{Good}
 use Rattle.model.proofs.History.{model-next}
@@ -162,8 +162,8 @@ module _ (m : Model) (ok : Good m) (j : ℕ) (j8 : j < 8) (a : ℕ) (o home buff
   abbrev call : Call
   call = receive a o home buffer
 
-  is-event : eventIn m j call ≡ some (Received (M.Update asn number status net))
-  unfolding eventIn carriedOut meant accepts
+  is-event : eventFor m j call ≡ some (Received (M.Update asn number status net))
+  unfolding eventFor doneFor saidEvent accepts
   is-event =
       let done = eqb ((step call m) .said .answer) 0 in
       let here = eqb (placeOf m a) j in
@@ -180,19 +180,19 @@ module _ (m : Model) (ok : Good m) (j : ℕ) (j8 : j < 8) (a : ℕ) (o home buff
 
   module _ (passive : (recordIn m j) .mode ≡ Passive) where
     brought : brings isIndication m j call ≡ eqb (status % 128) 1
-    unfolding brings passes recordIn
+    unfolding brings holdsOf recordIn
     brought =
-        ap (passes (isIndication (recordIn m j))) is-event
+        ap (holdsOf (isIndication (recordIn m j))) is-event
         ∙ update-indicates-by (recordIn m j) asn number status net (sym (up-shown (slotIn m j)) ∙ is-up-slot) passive
 
     abbrev NotedIn : Slot → Type 0
     NotedIn slot = ((cell slot) .neighbour .heard ≡ 1) × ((cell slot) .neighbour .t3 ≡ 3600)
 
     noted-in : eqb (status % 128) 1 ≡ true → NotedIn (slotIn ((step call m) .model) j)
-    unfolding cell isUpSlot recordIn isRestart unwrapped passes
+    unfolding cell isUpSlot recordIn isRestart unwrapped holdsOf
     noted-in e =
         step-elim m ok j j8 NotedIn call
-        (λ none-is. absurd (false≢true (ap (passes (λ _. true)) (sym none-is ∙ is-event))))
+        (λ none-is. absurd (false≢true (ap (holdsOf (λ _. true)) (sym none-is ∙ is-event))))
         (λ address as₀ n rows here event some-is head new.
         let up : isUp (n .phase) ≡ true = sym (ap isUpSlot here) ∙ is-up-slot in
         let mode : n .mode ≡ Passive = ap (λ (slot : Slot). (cell slot) .neighbour .mode) (sym here) ∙ passive in

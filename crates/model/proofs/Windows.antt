@@ -30,7 +30,7 @@ use Rattle.model.specs.Model as Calls
 use Rattle.model.specs.Model.{Call, add, remove, start, stop, tick, receive, listing, Slot, free, used, Model, slotIn, put, isFree, hasAddress, placeOf, isPresent, vacancy, spoken, whenOk, Turn, isIdleSlot, addAnswer, removeAnswer, addTurn, removeTurn, Move, noMove, moved, noOctets, eventMove, kindAnswer, answerTo, firstTwelve, afterMessage, rowsAfter, messageMove, eventAnswer, messageAnswer, turnAt, eventTurn, messageTurn, listingTurn, step, modelFrom}
 use Rattle.model.specs.History.{isUpSlot, accepts, rowsSaid}
 use Rattle.model.specs.Theorem.{cell, rowsHeld}
-use Rattle.model.specs.Windows.{isIndication, isEvaluation, isRestart, recordIn, meant, carriedOut, eventIn, passes, brings, restartsNone, windows, anyOf, firstFour, oneInFour, latest}
+use Rattle.model.specs.Windows.{isIndication, isEvaluation, isRestart, recordIn, saidEvent, doneFor, eventFor, holdsOf, brings, restartsNone, windows, anyOf, firstFour, oneInFour, latest}
 use Rattle.model.proofs.Represent.{Good, good-at, used-at}
 use Rattle.model.proofs.Simulation.{good-step, spoken-answer, found-used, found-free, add-free}
 use Rattle.model.proofs.History.{message-stays, step-told}
@@ -92,8 +92,8 @@ module _ (m : Model) (ok : Good m) (j : ℕ) (j8 : j < 8) where
       go true e true f = rw (e, eqb-true i j f, getD-set-same (m .slots) j new free (omega (arith, ok .eight))) (p (eqb-true k 0 e) (eqb-true i j f))
       go true e false f = rw (e, getD-set-other (m .slots) i j new free (λ x. eqb-false i j f (sym x))) (q (rw (e, f)))
 
-  module _ (P : Slot → Type 0) (call : Call) (stays : eventIn m j call ≡ none → P (slotIn m j))
-      (goes : (address asn : ℕ) (n : Neighbour) (rows : List Row) → slotIn m j ≡ used address asn n rows → (event : Event) → eventIn m j call ≡ some event
+  module _ (P : Slot → Type 0) (call : Call) (stays : eventFor m j call ≡ none → P (slotIn m j))
+      (goes : (address asn : ℕ) (n : Neighbour) (rows : List Row) → slotIn m j ≡ used address asn n rows → (event : Event) → eventFor m j call ≡ some event
       → (head : Head) (new : List Row) → P (used address asn ((stepOf (m .settings) asn n event head) .neighbour) new)) where
     -- the neighbour that a call is about, where it is in slot j
     found : (a : ℕ) (Q : Type 0) → placeOf m a ≡ j → ((address asn : ℕ) (n : Neighbour) (rows : List Row) → slotIn m j ≡ used address asn n rows → Q) → Q
@@ -102,7 +102,7 @@ module _ (m : Model) (ok : Good m) (j : ℕ) (j8 : j < 8) where
         (ap (λ (i : ℕ). hasAddress a (slotIn m i)) (sym e) ∙ found-used m ok a (omega (arith, e, j8))) refl
 
     -- Start, Stop and tick
-    module _ (event : Event) (a : ℕ) (buffer : List ℕ) (s : step call m ≡ eventTurn event m a buffer) (c : eventIn m j call ≡ carriedOut m j a call (some event)) where
+    module _ (event : Event) (a : ℕ) (buffer : List ℕ) (s : step call m ≡ eventTurn event m a buffer) (c : eventFor m j call ≡ doneFor m j a call (some event)) where
       event-answer : eqb ((step call m) .said .answer) 0 ≡ (eqb (eventAnswer m a buffer) 0 && true)
       unfolding eventTurn
       event-answer =
@@ -110,12 +110,12 @@ module _ (m : Model) (ok : Good m) (j : ℕ) (j8 : j < 8) where
           ∙ turn-zero m (eventAnswer m a buffer) (placeOf m a) (eventMove (m .settings) event (slotIn m (placeOf m a))) []
           ∙ ap (λ (x : ℕ). eqb (eventAnswer m a buffer) 0 && eqb x 0) (event-zero (m .settings) event (slotIn m (placeOf m a)))
 
-      event-done : eventAnswer m a buffer ≡ 0 → placeOf m a ≡ j → eventIn m j call ≡ some event
-      unfolding carriedOut
+      event-done : eventAnswer m a buffer ≡ 0 → placeOf m a ≡ j → eventFor m j call ≡ some event
+      unfolding doneFor
       event-done z e = c ∙ rw (event-answer, z, e, eq-eqb j j refl)
 
-      event-left : (eqb (eventAnswer m a buffer) 0 && eqb (placeOf m a) j) ≡ false → eventIn m j call ≡ none
-      unfolding carriedOut
+      event-left : (eqb (eventAnswer m a buffer) 0 && eqb (placeOf m a) j) ≡ false → eventFor m j call ≡ none
+      unfolding doneFor
       event-left f = c ∙ rw (event-answer, both-false (eqb (eventAnswer m a buffer) 0) (eqb (placeOf m a) j) f)
 
       event-moved : eventAnswer m a buffer ≡ 0 → placeOf m a ≡ j → P ((eventMove (m .settings) event (slotIn m (placeOf m a))) .slot)
@@ -131,7 +131,7 @@ module _ (m : Model) (ok : Good m) (j : ℕ) (j8 : j < 8) where
 
     -- a message
     module _ (a : ℕ) (o home buffer : List ℕ) (s : step call m ≡ messageTurn m a o home buffer)
-        (c : eventIn m j call ≡ carriedOut m j a call (meant (decodeOf o))) where
+        (c : eventFor m j call ≡ doneFor m j a call (saidEvent (decodeOf o))) where
       message-answer : eqb ((step call m) .said .answer) 0
           ≡ (eqb (messageAnswer m a home buffer) 0 && eqb ((messageMove (m .settings) o (slotIn m (placeOf m a))) .answer) 0)
       unfolding messageTurn
@@ -139,14 +139,14 @@ module _ (m : Model) (ok : Good m) (j : ℕ) (j8 : j < 8) where
           ap (λ (t : Turn). eqb (t .said .answer) 0) s
           ∙ turn-zero m (messageAnswer m a home buffer) (placeOf m a) (messageMove (m .settings) o (slotIn m (placeOf m a))) (rowsOf home)
 
-      message-left : (eqb (messageAnswer m a home buffer) 0 && eqb (placeOf m a) j) ≡ false → eventIn m j call ≡ none
-      unfolding carriedOut
+      message-left : (eqb (messageAnswer m a home buffer) 0 && eqb (placeOf m a) j) ≡ false → eventFor m j call ≡ none
+      unfolding doneFor
       message-left f =
           c ∙ rw (message-answer, thirds-false (eqb (messageAnswer m a home buffer) 0) (eqb (placeOf m a) j) (eqb ((messageMove (m .settings) o (slotIn m (placeOf m a))) .answer) 0) f)
 
       module _ (z : messageAnswer m a home buffer ≡ 0) (e : placeOf m a ≡ j) (address asn : ℕ) (n : Neighbour) (rows : List Row) (here : slotIn m j ≡ used address asn n rows) where
-        refused-answer : eqb (answerTo (m .settings) asn n o) 0 ≡ false → eventIn m j call ≡ none
-        unfolding carriedOut
+        refused-answer : eqb (answerTo (m .settings) asn n o) 0 ≡ false → eventFor m j call ≡ none
+        unfolding doneFor
         refused-answer f = c ∙ rw (message-answer, z, e, here, message-stays (m .settings) o address asn n rows f, f)
 
         done-move : eqb (answerTo (m .settings) asn n o) 0 ≡ true
@@ -154,13 +154,13 @@ module _ (m : Model) (ok : Good m) (j : ℕ) (j8 : j < 8) where
         unfolding messageMove whenOk
         done-move f = rw f
 
-        done-answer : eqb (answerTo (m .settings) asn n o) 0 ≡ true → eventIn m j call ≡ meant (decodeOf o)
-        unfolding carriedOut moved
+        done-answer : eqb (answerTo (m .settings) asn n o) 0 ≡ true → eventFor m j call ≡ saidEvent (decodeOf o)
+        unfolding doneFor moved
         done-answer f = c ∙ rw (message-answer, z, e, here, done-move f, eq-eqb j j refl)
 
-        by-kind : (d : Decoded) → decodeOf o ≡ d → kindAnswer (m .settings) n o d ≡ 0 → eventIn m j call ≡ meant d
+        by-kind : (d : Decoded) → decodeOf o ≡ d → kindAnswer (m .settings) n o d ≡ 0 → eventFor m j call ≡ saidEvent d
             → P ((moved address asn (afterMessage (m .settings) asn n o d) (rowsAfter (m .settings) n o d rows)) .slot)
-        unfolding moved afterMessage kindAnswer meant
+        unfolding moved afterMessage kindAnswer saidEvent
         by-kind (D.Good x) d k q = goes address asn n rows here (Received x) q (firstTwelve o) _
         by-kind D.UnknownKind d k q = absurd (omega (arith, k))
         by-kind D.BadStatus d k q = absurd (omega (arith, k))
@@ -184,13 +184,13 @@ module _ (m : Model) (ok : Good m) (j : ℕ) (j8 : j < 8) where
           message-moved (λ f. stays (message-left f)))
 
   -- any call: the slot stays where nothing is carried out for it; it moves by the event; it is taken, or freed
-  pub step-elim : (P : Slot → Type 0) (call : Call) → (eventIn m j call ≡ none → P (slotIn m j))
-      → ((address asn : ℕ) (n : Neighbour) (rows : List Row) → slotIn m j ≡ used address asn n rows → (event : Event) → eventIn m j call ≡ some event
+  pub step-elim : (P : Slot → Type 0) (call : Call) → (eventFor m j call ≡ none → P (slotIn m j))
+      → ((address asn : ℕ) (n : Neighbour) (rows : List Row) → slotIn m j ≡ used address asn n rows → (event : Event) → eventFor m j call ≡ some event
       → (head : Head) (new : List Row) → P (used address asn ((stepOf (m .settings) asn n event head) .neighbour) new))
       → (isFree (slotIn m j) ≡ true → (address asn : ℕ) → P (used address asn idle []))
       → (isIdleSlot (slotIn m j) ≡ true → P free)
       → P (slotIn ((step call m) .model) j)
-  unfolding step eventIn addTurn removeTurn listingTurn
+  unfolding step eventFor addTurn removeTurn listingTurn
   step-elim P (add address asn) stays goes taken freed =
       put-elim P (addAnswer m address asn) (vacancy m) (used address asn idle [])
       (λ z e. taken (ap (λ (i : ℕ). isFree (slotIn m i)) (sym e) ∙ found-free m ok (add-free m ok address asn z)) address asn) (λ _. stays refl)
@@ -244,14 +244,14 @@ module _ (m : Model) (ok : Good m) (j : ℕ) (j8 : j < 8) where
   formed-in address asn n rows here = subst (λ (slot : Slot). wellFormed ((cell slot) .neighbour) ≡ true) here (good-at m ok j .neighbour)
 
   -- what a call brings, by the event that it carries out
-  brings-none : (test : Neighbour → Event → Bool) (call : Call) → eventIn m j call ≡ none → brings test m j call ≡ false
-  unfolding brings passes
+  brings-none : (test : Neighbour → Event → Bool) (call : Call) → eventFor m j call ≡ none → brings test m j call ≡ false
+  unfolding brings holdsOf
   brings-none test call e = rw e
 
   brings-some : (test : Neighbour → Event → Bool) (call : Call) (address asn : ℕ) (n : Neighbour) (rows : List Row) (event : Event)
-      → slotIn m j ≡ used address asn n rows → eventIn m j call ≡ some event → brings test m j call ≡ test n event
-  unfolding brings passes recordIn cell
-  brings-some test call address asn n rows event here e = ap (passes (test (recordIn m j))) e ∙ ap (λ (slot : Slot). test ((cell slot) .neighbour) event) here
+      → slotIn m j ≡ used address asn n rows → eventFor m j call ≡ some event → brings test m j call ≡ test n event
+  unfolding brings holdsOf recordIn cell
+  brings-some test call address asn n rows event here e = ap (holdsOf (test (recordIn m j))) e ∙ ap (λ (slot : Slot). test ((cell slot) .neighbour) event) here
 
   -- a passive neighbour in Down stays one without ones
   waits-step : (call : Call) → WaitsIn (slotIn m j) → WaitsIn (slotIn ((step call m) .model) j)

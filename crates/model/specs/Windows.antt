@@ -50,33 +50,34 @@ isRestart n Tick = false
 unfoldable pub recordIn : Model → ℕ → Neighbour
 recordIn m j = (cell (slotIn m j)) .neighbour
 
-unfoldable pub meant : Decoded → Option Event
-meant (D.Good x) = some (Received x)
-meant D.UnknownKind = none
-meant D.BadStatus = none
-meant D.BadLength = none
+-- the event that octets say, if they say a message
+unfoldable pub saidEvent : Decoded → Option Event
+saidEvent (D.Good x) = some (Received x)
+saidEvent D.UnknownKind = none
+saidEvent D.BadStatus = none
+saidEvent D.BadLength = none
 
 -- this event, if the call is answered 0 and about the neighbour in slot j
-unfoldable pub carriedOut : Model → ℕ → ℕ → Call → Option Event → Option Event
-carriedOut m j a call event = cond (eqb ((step call m) .said .answer) 0 && eqb (placeOf m a) j) event none
+unfoldable pub doneFor : Model → ℕ → ℕ → Call → Option Event → Option Event
+doneFor m j a call event = cond (eqb ((step call m) .said .answer) 0 && eqb (placeOf m a) j) event none
 
 -- the event that a call carries out for the neighbour in slot j
-unfoldable pub eventIn : Model → ℕ → Call → Option Event
-eventIn m j (add address asn) = none
-eventIn m j (remove address) = none
-eventIn m j (start a buffer) = carriedOut m j a (start a buffer) (some Start)
-eventIn m j (stop a buffer) = carriedOut m j a (stop a buffer) (some Stop)
-eventIn m j (tick a buffer) = carriedOut m j a (tick a buffer) (some Tick)
-eventIn m j (receive a o home buffer) = carriedOut m j a (receive a o home buffer) (meant (decodeOf o))
-eventIn m j (listing buffer) = none
+unfoldable pub eventFor : Model → ℕ → Call → Option Event
+eventFor m j (add address asn) = none
+eventFor m j (remove address) = none
+eventFor m j (start a buffer) = doneFor m j a (start a buffer) (some Start)
+eventFor m j (stop a buffer) = doneFor m j a (stop a buffer) (some Stop)
+eventFor m j (tick a buffer) = doneFor m j a (tick a buffer) (some Tick)
+eventFor m j (receive a o home buffer) = doneFor m j a (receive a o home buffer) (saidEvent (decodeOf o))
+eventFor m j (listing buffer) = none
 
-unfoldable pub passes : (Event → Bool) → Option Event → Bool
-passes test none = false
-passes test (some event) = test event
+unfoldable pub holdsOf : (Event → Bool) → Option Event → Bool
+holdsOf test none = false
+holdsOf test (some event) = test event
 
 -- a call carries out such an event for slot j
 unfoldable pub brings : (Neighbour → Event → Bool) → Model → ℕ → Call → Bool
-brings test m j call = passes (test (recordIn m j)) (eventIn m j call)
+brings test m j call = holdsOf (test (recordIn m j)) (eventFor m j call)
 
 -- ---- over a list
 

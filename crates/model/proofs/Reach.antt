@@ -3,7 +3,7 @@
 use Prim.Native.Nat.{ℕ, zero, suc, _+_, _-_, _*_, _/_, _%_, _≤_}
 use native.Mathlib.Omega.{arith}
 use mathlib.Core.Path.{_≡_, refl, sym, _∙_, ap, subst}
-use mathlib.Core.Bool.{Bool, true, false, cond, not, _&&_, _||_, false≢true, true≢false}
+use mathlib.Core.Bool.{Bool, true, false, cond, not, _&&_, _||_, or-false, false≢true, true≢false}
 use lib.Dec.{leb, eqb}
 use borrow.Author.Tests.{eq-eqb, ne-eqb, eqb-true, eqb-false, leb-true, leb-false}
 use Rattle.checks.proofs.Laws.{cond-elim, and-left, and-right}
@@ -615,10 +615,6 @@ silentAfter ends heard silent = cond ends (cond heard 0 (suc silent)) silent
 
 unfoldable pub heardAfter : Bool → Bool → Bool → Bool
 heardAfter ends heard indication = cond ends false (heard || indication)
-
-pub or-false : (b : Bool) → (b || false) ≡ b
-or-false true = refl
-or-false false = refl
 
 module _ (g : Settings) (asn : ℕ) (n : Neighbour) (head : Head) (silent : ℕ) (fine : Fine n) where
   tick-held : (heard ends : Bool) → Held n silent heard → isEvaluation n Tick ≡ ends → (ends ≡ true → heard ≡ false → suc silent ≤ 3)

@@ -2,7 +2,7 @@
 use Prim.Native.Nat.{ℕ, zero, suc, _≤_, _<_}
 use native.Mathlib.Omega.{arith}
 use mathlib.Core.Path.{_≡_, refl, sym, _∙_, ap, subst}
-use mathlib.Core.Bool.{Bool, true, false, cond, not, _&&_, _||_, false≢true, true≢false}
+use mathlib.Core.Bool.{Bool, true, false, cond, not, _&&_, _||_, or-false, false≢true, true≢false}
 use mathlib.Core.List.{List, [], _∷_, _++_}
 use mathlib.Core.Option.{none, some}
 use lib.Dec.{ltb, eqb}
@@ -34,7 +34,7 @@ use Rattle.model.specs.Windows.{isIndication, isEvaluation, isRestart, r
 use Rattle.model.proofs.Represent.{Good, good-at, used-at}
 use Rattle.model.proofs.Simulation.{good-step, spoken-answer, found-used, found-free, add-free}
 use Rattle.model.proofs.History.{message-stays, step-told}
-use Rattle.model.proofs.Reach.{fine-in, Waits, idle-waits, step-waits, Held, step-enters, silentAfter, heardAfter, or-false, event-held}
+use Rattle.model.proofs.Reach.{fine-in, Waits, idle-waits, step-waits, Held, step-enters, silentAfter, heardAfter, event-held}
 
 -- ---- what a call makes of slot j
 
@@ -70,10 +70,6 @@ kind-zero g asn n o e = go (eqb (headerAnswer o) 0) refl (eqb (asnAt o) asn) (ki
     go true z true k f = f
     go true z false k f = absurd (omega (arith, f))
     go false z c k f = absurd (eqb-false (headerAnswer o) 0 z f)
-
-both-false : (a b : Bool) → (a && b) ≡ false → ((a && true) && b) ≡ false
-both-false true b e = e
-both-false false b e = e
 
 thirds-false : (a b c : Bool) → (a && b) ≡ false → ((a && c) && b) ≡ false
 thirds-false true b true e = e
@@ -116,7 +112,7 @@ module _ (m : Model) (ok : Good m) (j : ℕ) (j8 : j < 8) where
 
       event-left : (eqb (eventAnswer m a buffer) 0 && eqb (placeOf m a) j) ≡ false → eventFor m j call ≡ none
       unfolding doneFor
-      event-left f = c ∙ rw (event-answer, both-false (eqb (eventAnswer m a buffer) 0) (eqb (placeOf m a) j) f)
+      event-left f = c ∙ rw (event-answer, thirds-false (eqb (eventAnswer m a buffer) 0) (eqb (placeOf m a) j) true f)
 
       event-moved : eventAnswer m a buffer ≡ 0 → placeOf m a ≡ j → P ((eventMove (m .settings) event (slotIn m (placeOf m a))) .slot)
       unfolding eventMove moved

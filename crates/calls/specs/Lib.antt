@@ -1,4 +1,5 @@
-pub mod Verdict
 pub mod Home
+pub mod Number
+pub mod Ruling
 pub mod Carried
 pub mod Calls

@@ -1,4 +1,5 @@
 pub mod Slots
+pub mod Places
 pub mod Formed
 pub mod Outcomes
 pub mod Claims

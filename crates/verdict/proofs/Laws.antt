@@ -1,28 +1,67 @@
--- Laws of a verdict on one neighbour. Assumes nothing.
-use Prim.Native.Nat.{ℕ}
+-- Laws of a ruling on one neighbour's message. Assumes nothing.
+use Prim.Native.Nat.{ℕ, _<_, _≤_}
 use native.Mathlib.Omega.{arith}
-use mathlib.Core.Path.{_≡_, refl}
+use borrow.Author.Tests.{eq-eqb, ne-eqb, eqb-true, eqb-false, le-leb, lt-leb}
+use mathlib.Core.Path.{_≡_, refl, sym, _∙_, ap}
+use mathlib.Core.Bool.{Bool, true, false, cond, _&&_, false≢true}
 use mathlib.Core.List.{List, [], _∷_}
+use lib.Dec.{eqb}
+use lib.ListN.{length}
 use types.Run.{OneOf, miss}
 use denote.Enum.Declared.{tagOf}
+use Rattle.checks.specs.Checks.{check, ifOk}
+use Rattle.checks.proofs.Laws.{check-passed, ifOk-new, ifOk-old}
+use Rattle.nets.specs.Rows.{Row}
+use Rattle.message.specs.Kinds.{kindOf}
+use Rattle.message.specs.declared.Kind.the-variants as K
 use Rattle.message.specs.declared.Message.{Message}
 use Rattle.message.specs.declared.Message.the-variants.{Request, Confirm, Refuse, Cease, CeaseAck, Hello, IHeardYou, Poll, Update, Error}
 use Rattle.message.proofs.Message.{the-type}
-use Rattle.wire.specs.Reading as Wire
-use Rattle.wire.specs.declared.Decoded.{Decoded}
-use Rattle.wire.specs.declared.Decoded.the-variants as D
-use Rattle.wire.proofs.Decoded as DecodedType
-use Rattle.walk.specs.Body.{UpdateRead, accepted, brokenAt, tooMany, updateOf}
-use Rattle.walk.specs.Body as Body
-use Rattle.walk.specs.Walked.{walkedOf}
-use Rattle.walk.specs.declared.Walked.the-variants.{Broken, TooMany}
-use Rattle.codec.specs.Reading.{most}
+use Rattle.wire.specs.Reading.{headerAnswer, asnAt, kindIn, decodeOf}
+use Rattle.walk.specs.Body.{UpdateRead, accepted, brokenAt, tooMany, updateOf, rowsRead}
+use Rattle.walk.specs.Walked.{walkedOf, walkedNumber}
+use Rattle.walk.specs.declared.Walked.the-variants.{Rows, Broken, TooMany}
+use Rattle.walk.proofs.Accepted.{accepted-is}
 use Rattle.codec.proofs.Laws.{OtherKind}
 use Rattle.neighbour.specs.declared.Settings.{Settings}
 use Rattle.neighbour.specs.declared.Neighbour.{Neighbour}
-use Rattle.calls.specs.Verdict.{refuses, errorTo, updateVerdict, carriedOut, phaseVerdict, bodyVerdict, kindVerdict}
+use Rattle.neighbour.specs.Record.{isUp}
+use Rattle.neighbour.specs.Rules.{same, inSequence}
+use Rattle.machine.specs.declared.Event.the-variants.{Received}
+use Rattle.machine.specs.declared.Reply.{Reply}
+use Rattle.machine.specs.declared.Reply.the-variants.{Nothing}
+use Rattle.machine.specs.declared.After.{After}
+use Rattle.machine.specs.Step.{stepOf}
+use Rattle.calls.specs.Number.{bodyNumber, messageNumber, headAt, errorTo, refuseTo, namedReply}
+use Rattle.calls.specs.declared.Effect.the-variants.{Replace}
+use Rattle.calls.specs.declared.Verdict.{Verdict}
+use Rattle.calls.specs.Ruling.{stepped, refuses, replace, afterMessage, changeBy, carriedOut, receiveRuling, effectOf, verdictOf}
+use Rattle.calls.proofs.Number.{meaningNumber, kindNumber, brings-as, number-kind}
+use Rattle.verdict.specs.Stages.{headNumber, Read, takenUpdate}
 
--- ---- what the walk said of an Update
+-- ---- the stages
+
+pub head-passed : (asn : ℕ) (o : List ℕ) → headNumber asn o ≡ 0 → (headerAnswer o ≡ 0) × (eqb (asnAt o) asn ≡ true)
+unfolding headNumber
+head-passed asn o z = go (eqb (headerAnswer o) 0) refl
+  where
+    go : (b : Bool) → eqb (headerAnswer o) 0 ≡ b → (headerAnswer o ≡ 0) × (eqb (asnAt o) asn ≡ true)
+    go true e =
+        let h = eqb-true (headerAnswer o) 0 e in (h, check-passed (eqb (asnAt o) asn) 9 0 refl (sym (ifOk-new _ _ _ h) ∙ z) .0)
+    go false e = let h = eqb-false (headerAnswer o) 0 e in absurd (h (sym (ifOk-old _ _ _ h) ∙ z))
+
+-- ---- an Update's blocks
+
+pub rows-read : (room net : ℕ) (o : List ℕ) (count : ℕ) → walkedOf (updateOf room net o) ≡ Rows count
+    → (rows : List Row) × (updateOf room net o ≡ accepted rows) × (length rows ≡ count) × (length rows ≤ room)
+unfolding walkedOf
+rows-read room net o count e = go (updateOf room net o) refl e
+  where
+    go : (u : UpdateRead) → updateOf room net o ≡ u → walkedOf u ≡ Rows count
+        → (rows : List Row) × (updateOf room net o ≡ accepted rows) × (length rows ≡ count) × (length rows ≤ room)
+    go (accepted rows) f g = (rows, f, cc, accepted-is room net o rows f .fits)
+    go (brokenAt k) f g = let z : _≡_ {A = ℕ} 0 1 = cc in absurd (omega arith)
+    go tooMany f g = let z : _≡_ {A = ℕ} 0 1 = cc in absurd (omega arith)
 
 pub walk-broken : (u : UpdateRead) (offset : ℕ) → walkedOf u ≡ Broken offset → u ≡ brokenAt offset
 unfolding walkedOf
@@ -36,38 +75,105 @@ walk-many (accepted rs) e = let z : _≡_ {A = ℕ} 0 1 = cc in absurd (omega ar
 walk-many (brokenAt k) e = let z : _≡_ {A = ℕ} 0 1 = cc in absurd (omega arith)
 walk-many tooMany e = refl
 
-module _ (g : Settings) (asn : ℕ) (n : Neighbour) (o : List ℕ) where
-  pub update-broken : (m : Message) (offset : ℕ) → walkedOf (updateOf 128 (g .net) o) ≡ Broken offset
-      → refuses n 14 (errorTo g n o 2) ≡ updateVerdict g asn n o m (updateOf most (g .net) o)
-  unfolding updateVerdict Body.numberOf
-  update-broken m offset e = rw (walk-broken (updateOf 128 (g .net) o) offset e)
+module _ (g : Settings) (n : Neighbour) (o : List ℕ) (after : After) (room : ℕ) where
+  pub rows-taken : (count : ℕ) → walkedOf (updateOf room (g .net) o) ≡ Rows count
+      → _≡_ {A = Verdict} (record { answer = 0; reply = after .reply; neighbour = after .neighbour; effect = Replace count })
+      (verdictOf (takenUpdate g n o after (updateOf room (g .net) o)))
+  unfolding verdictOf effectOf takenUpdate
+  rows-taken count e =
+      let r = rows-read room (g .net) o count e in rw (r .1) (rw (r .2) refl)
 
-  pub update-many : (m : Message) → walkedOf (updateOf 128 (g .net) o) ≡ TooMany
-      → refuses n 15 (errorTo g n o 0) ≡ updateVerdict g asn n o m (updateOf most (g .net) o)
-  unfolding updateVerdict Body.numberOf
-  update-many m e = rw (walk-many (updateOf 128 (g .net) o) e)
+  pub broken-taken : (offset : ℕ) → walkedOf (updateOf room (g .net) o) ≡ Broken offset
+      → verdictOf (refuses n 14 (namedReply g n o 14)) ≡ verdictOf (takenUpdate g n o after (updateOf room (g .net) o))
+  unfolding takenUpdate
+  broken-taken offset e = rw (walk-broken (updateOf room (g .net) o) offset e)
 
-  pub other-body : (m : Message) → OtherKind m → carriedOut g asn n o m ≡ bodyVerdict g asn n o m
-  unfolding bodyVerdict
-  other-body (Request a q s h p) k = refl
-  other-body (Confirm a q s h p) k = refl
-  other-body (Refuse a q s) k = refl
-  other-body (Cease a q s) k = refl
-  other-body (CeaseAck a q s) k = refl
-  other-body (Hello a q s) k = refl
-  other-body (IHeardYou a q s) k = refl
-  other-body (Poll a q s net) k = refl
-  other-body (Update a q s net) k = absurd (miss (0 ∷ 1 ∷ 2 ∷ 3 ∷ 4 ∷ 5 ∷ 6 ∷ 7 ∷ 9 ∷ []) 8 tt k)
-  other-body (Error a q s r x y z) k = refl
+  pub many-taken : walkedOf (updateOf room (g .net) o) ≡ TooMany
+      → verdictOf (refuses n 15 (namedReply g n o 15)) ≡ verdictOf (takenUpdate g n o after (updateOf room (g .net) o))
+  unfolding takenUpdate
+  many-taken e = rw (walk-many (updateOf room (g .net) o) e)
 
-  pub update-body : (m : Message) (a q s net : ℕ) → m ≡ Update a q s net → phaseVerdict g asn n o m ≡ bodyVerdict g asn n o m
-  unfolding bodyVerdict
-  update-body m a q s net e = rw e
+pub update-small : (room net : ℕ) (o : List ℕ) (count : ℕ) → room < 65536 → walkedOf (updateOf room net o) ≡ Rows count → count < 65536
+update-small room net o count h e = let r = rows-read room net o count e in omega (arith, h, r .2, r .3)
 
-  pub kind-refused : (d : Decoded) → OneOf (1 ∷ 2 ∷ 3 ∷ []) (tagOf DecodedType.the-type d)
-      → refuses n (Wire.numberOf d) (errorTo g n o 1) ≡ kindVerdict g asn n o d
-  unfolding kindVerdict
-  kind-refused (D.Good m) k = absurd (miss (1 ∷ 2 ∷ 3 ∷ []) 0 tt k)
-  kind-refused D.UnknownKind k = refl
-  kind-refused D.BadStatus k = refl
-  kind-refused D.BadLength k = refl
+-- ---- kinds
+
+pub other-kind : (m : Message) (b : Bool) → OtherKind m → false ≡ (same (kindOf m) K.Update && b)
+other-kind (Request a q s h p) b k = refl
+other-kind (Confirm a q s h p) b k = refl
+other-kind (Refuse a q s) b k = refl
+other-kind (Cease a q s) b k = refl
+other-kind (CeaseAck a q s) b k = refl
+other-kind (Hello a q s) b k = refl
+other-kind (IHeardYou a q s) b k = refl
+other-kind (Poll a q s net) b k = refl
+other-kind (Update a q s net) b k = absurd (miss (0 ∷ 1 ∷ 2 ∷ 3 ∷ 4 ∷ 5 ∷ 6 ∷ 7 ∷ 9 ∷ []) 8 tt k)
+other-kind (Error a q s r x y z) b k = refl
+
+pub update-kind : (m : Message) (b : Bool) (a q s net : ℕ) → m ≡ Update a q s net → b ≡ (same (kindOf m) K.Update && b)
+update-kind m b a q s net e = rw e
+
+-- ---- the reply by the number
+
+module _ (g : Settings) (n : Neighbour) (o : List ℕ) (k : ℕ) where
+  pub reply-9 : k ≡ 9 → refuseTo g n o ≡ namedReply g n o k
+  unfolding namedReply
+  reply-9 e = rw e
+
+  pub reply-14 : k ≡ 14 → errorTo g n o 2 ≡ namedReply g n o k
+  unfolding namedReply
+  reply-14 e = rw e
+
+  pub reply-15 : k ≡ 15 → errorTo g n o 0 ≡ namedReply g n o k
+  unfolding namedReply
+  reply-15 e = rw e
+
+  pub reply-kind : 10 ≤ k → k ≤ 12 → errorTo g n o 1 ≡ namedReply g n o k
+  unfolding namedReply
+  reply-kind low high = rw (ne-eqb k 9 (λ e. absurd (omega (arith, low, e))), le-leb 10 k low, le-leb k 12 high)
+
+  module _ (nine : k ≡ 9 → ⊥) (fourteen : k ≡ 14 → ⊥) (fifteen : k ≡ 15 → ⊥) where
+    pub reply-low : k < 10 → Nothing ≡ namedReply g n o k
+    unfolding namedReply
+    reply-low h = rw (ne-eqb k 9 nine, lt-leb 10 k h, ne-eqb k 14 fourteen, ne-eqb k 15 fifteen)
+
+    pub reply-high : 12 < k → Nothing ≡ namedReply g n o k
+    unfolding namedReply
+    reply-high h = rw (ne-eqb k 9 nine, le-leb 10 k (omega (arith, h)), lt-leb k 12 h, ne-eqb k 14 fourteen, ne-eqb k 15 fifteen)
+
+-- ---- a message that was read
+
+module _ (room : ℕ) (g : Settings) (asn : ℕ) (n : Neighbour) (o : List ℕ) (m : Message) (r : Read asn o m) where
+  number-is : messageNumber room g asn n o ≡ meaningNumber room g n o m
+  unfolding kindNumber
+  number-is =
+      let p = head-passed asn o (r .head) in
+      number-kind room g n o asn (p .0) (p .1) ∙ ap (kindNumber room g n o) (r .meaning)
+
+  refused-as : (k : ℕ) → (k ≡ 0 → ⊥) → meaningNumber room g n o m ≡ k → refuses n k (namedReply g n o k) ≡ receiveRuling room g asn n o
+  unfolding receiveRuling
+  refused-as k z e = let f = number-is ∙ e in rw f (sym (ifOk-old _ _ _ z))
+
+  pub taken-13 : inSequence n m ≡ false → refuses n 13 (namedReply g n o 13) ≡ receiveRuling room g asn n o
+  unfolding meaningNumber check
+  taken-13 e = refused-as 13 (λ z. absurd (omega (arith, z))) (rw e)
+
+  module _ (s : inSequence n m ≡ true) where
+    carried-as : meaningNumber room g n o m ≡ 0 → carriedOut room g n o (stepOf g asn n (Received m) (headAt o)) ≡ receiveRuling room g asn n o
+    unfolding receiveRuling afterMessage ifOk
+    carried-as e = let f = number-is ∙ e in rw f (rw (r .meaning) refl)
+
+    pub taken-step : (same (kindOf m) K.Update && isUp (n .phase)) ≡ false → stepped n (stepOf g asn n (Received m) (headAt o)) ≡ receiveRuling room g asn n o
+    unfolding meaningNumber check stepped carriedOut changeBy decodeOf
+    taken-step b =
+        rw (brings-as (n .phase) o (kindIn o) m (r .meaning), b) at (carried-as (rw (s, b)))
+
+    pub taken-update : (same (kindOf m) K.Update && isUp (n .phase)) ≡ true
+        → takenUpdate g n o (stepOf g asn n (Received m) (headAt o)) (updateOf room (g .net) o) ≡ receiveRuling room g asn n o
+    unfolding meaningNumber check carriedOut changeBy decodeOf bodyNumber takenUpdate walkedNumber walkedOf rowsRead
+    taken-update b = go (updateOf room (g .net) o) refl
+      where
+        go : (u : UpdateRead) → updateOf room (g .net) o ≡ u → takenUpdate g n o (stepOf g asn n (Received m) (headAt o)) u ≡ receiveRuling room g asn n o
+        go (accepted rows) e = rw (brings-as (n .phase) o (kindIn o) m (r .meaning), b, e) at (carried-as (rw (s, b, e)))
+        go (brokenAt k) e = refused-as 14 (λ z. absurd (omega (arith, z))) (rw (s, b, e))
+        go tooMany e = refused-as 15 (λ z. absurd (omega (arith, z))) (rw (s, b, e))

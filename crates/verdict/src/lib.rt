@@ -1,4 +1,4 @@
-// What becomes of one neighbour: the machine's step, or checks 6 to 15 and then the machine's step for a message from it.
+// What becomes of one neighbour: the machine's step, or for a message from it the checks 6 to 15 stage by stage, then the machine's step.
 use calls::Effect;
 use calls::Verdict;
 use machine::After;
@@ -10,16 +10,22 @@ use neighbour::Phase;
 use neighbour::Settings;
 use sent::Head;
 use walk::Walked;
-use wire::Decoded;
 ghost use mathlib.Core.Path.{_≡_};
-ghost use Rattle.wire.specs.Reading.{numberOf};
+ghost use mathlib.Core.Bool.{_&&_};
+ghost use Rattle.message.specs.Kinds.{kindOf};
+ghost use Rattle.message.specs.declared.Kind.the-variants.{Update};
+ghost use Rattle.neighbour.specs.Record.{isUp};
+ghost use Rattle.neighbour.specs.Rules.{same};
+ghost use Rattle.machine.specs.declared.Event.the-variants.{Received};
+ghost use Rattle.machine.specs.Step.{stepOf};
 ghost use Rattle.walk.specs.Body.{updateOf};
-ghost use Rattle.codec.specs.Reading.{most};
-ghost use Rattle.calls.specs.Verdict.{effectOf, stepped, refuses, headAt, errorTo, refuseTo, updateVerdict, carriedOut, phaseVerdict, bodyVerdict, kindVerdict, receiveVerdict};
+ghost use Rattle.calls.specs.Number.{headAt, errorTo, refuseTo, namedReply};
+ghost use Rattle.calls.specs.Ruling.{leaving, effectOf, stepped, refuses, receiveRuling, verdictOf};
+ghost use Rattle.verdict.specs.Stages.{headNumber, Read, takenUpdate};
 
 // Leaving Up clears the rows.
 fn effect_of(before: Phase, now: Phase) -> Effect
-    ensures { λ r. ⌜ r ≡ effectOf before now ⌝ }
+    ensures { λ r. ⌜ r ≡ effectOf (leaving before now) ⌝ }
 {
     if state::is_up(before) {
         if !state::is_up(now) {
@@ -31,7 +37,7 @@ fn effect_of(before: Phase, now: Phase) -> Effect
 
 // The machine's step as a verdict.
 pub fn step_verdict(n: Neighbour, after: After) -> Verdict
-    ensures { λ r. ⌜ r ≡ stepped n after ⌝ }
+    ensures { λ r. ⌜ r ≡ verdictOf (stepped n after) ⌝ }
 {
     let before = n.phase;
     let next = after.neighbour;
@@ -43,18 +49,6 @@ pub fn step_verdict(n: Neighbour, after: After) -> Verdict
         reply,
         neighbour: next,
         effect,
-    }
-}
-
-// A refusal: the neighbour as it was.
-fn refuse(n: Neighbour, answer: u8, reply: Reply) -> Verdict
-    ensures { λ r. ⌜ r ≡ refuses n answer reply ⌝ }
-{
-    Verdict {
-        answer,
-        reply,
-        neighbour: n,
-        effect: Effect::Keep,
     }
 }
 
@@ -106,23 +100,90 @@ fn refuse_to(settings: Settings, n: Neighbour, message: &[u8]) -> Reply
     Reply::One(sent::refuse_message(settings, octets::word16_at(message, 8), 4))
 }
 
-// The machine carries a message out.
-fn carry_out(settings: Settings, asn: u16, n: Neighbour, message: &[u8], m: Message) -> Verdict
-    ensures { λ r. ⌜ r ≡ carriedOut settings asn n (now (message .entry)) m ⌝ }
+// The reply that 01 names beside the number.
+pub fn reply_to(settings: Settings, n: Neighbour, message: &[u8], number: u8) -> Reply
+    ensures { λ r. ⌜ r ≡ namedReply settings n (now (message .entry)) number ⌝ }
 {
-    step_verdict(
-        n,
-        machine_step::step(settings, asn, n, Event::Received(m), head_of(message)),
-    )
+    if number == 9 {
+        return refuse_to(settings, n, message);
+    }
+    if number == 14 {
+        return error_to(settings, n, message, 2);
+    }
+    if number == 15 {
+        return error_to(settings, n, message, 0);
+    }
+    if number < 10 {
+        return Reply::Nothing;
+    }
+    if 12 < number {
+        return Reply::Nothing;
+    }
+    error_to(settings, n, message, 1)
+}
+
+// A refusal: the neighbour as it was, and the reply by the number.
+fn refuse(settings: Settings, n: Neighbour, message: &[u8], number: u8) -> Verdict
+    ensures { λ r. ⌜ r ≡ verdictOf (refuses n number (namedReply settings n (now (message .entry)) number)) ⌝ }
+{
+    Verdict {
+        answer: number,
+        reply: reply_to(settings, n, message, number),
+        neighbour: n,
+        effect: Effect::Keep,
+    }
+}
+
+// Checks 6 to 9.
+pub fn head_number(asn: u16, message: &[u8]) -> u8
+    ensures { λ r. ⌜ r ≡ headNumber asn (now (message .entry)) ⌝ }
+{
+    let header = wire::read_header(message);
+    if header != 0 {
+        return header;
+    }
+    if octets::word16_at(message, 6) != asn {
+        return 9;
+    }
+    0
+}
+
+// Whether a message's blocks are read: those of an Update that finds its neighbour Up.
+fn brings_rows(phase: Phase, m: Message) -> bool
+    ensures { λ r. ⌜ r ≡ (same (kindOf m) Update && isUp phase) ⌝ }
+{
+    if let Message::Update {
+        asn: _,
+        sequence: _,
+        status: _,
+        net: _,
+    } = m {
+        return state::is_up(phase);
+    }
+    false
+}
+
+// The machine's step for a message.
+fn step_for(settings: Settings, asn: u16, n: Neighbour, message: &[u8], m: Message) -> After
+    ensures { λ r. ⌜ r ≡ stepOf settings asn n (Received m) (headAt (now (message .entry))) ⌝ }
+{
+    machine_step::step(settings, asn, n, Event::Received(m), head_of(message))
 }
 
 // An Update in Up: its blocks are walked whole before anything is done with it.
-fn take_update(settings: Settings, asn: u16, n: Neighbour, message: &[u8], m: Message) -> Verdict
-    ensures { λ r. ⌜ r ≡ updateVerdict settings asn n (now (message .entry)) m (updateOf most (settings .net) (now (message .entry))) ⌝ }
+fn take_update(
+    settings: Settings,
+    asn: u16,
+    n: Neighbour,
+    message: &[u8],
+    m: Message,
+    room: u16,
+) -> Verdict
+    ensures { λ r. ⌜ r ≡ verdictOf (takenUpdate settings n (now (message .entry)) (stepOf settings asn n (Received m) (headAt (now (message .entry)))) (updateOf room (settings .net) (now (message .entry)))) ⌝ }
 {
-    match walk::walk(settings.net, message, 128) {
+    match walk::walk(settings.net, message, room as usize) {
         Walked::Rows(count) => {
-            let after = machine_step::step(settings, asn, n, Event::Received(m), head_of(message));
+            let after = step_for(settings, asn, n, message, m);
             let reply = after.reply;
             let next = after.neighbour;
             Verdict {
@@ -132,58 +193,29 @@ fn take_update(settings: Settings, asn: u16, n: Neighbour, message: &[u8], m: Me
                 effect: Effect::Replace(count as u16),
             }
         }
-        Walked::Broken(_) => refuse(n, 14, error_to(settings, n, message, 2)),
-        Walked::TooMany => refuse(n, 15, error_to(settings, n, message, 0)),
+        Walked::Broken(_) => refuse(settings, n, message, 14),
+        Walked::TooMany => refuse(settings, n, message, 15),
     }
 }
 
-// An Update in sequence: in Up it is read first.
-fn take_in_phase(settings: Settings, asn: u16, n: Neighbour, message: &[u8], m: Message) -> Verdict
-    ensures { λ r. ⌜ r ≡ phaseVerdict settings asn n (now (message .entry)) m ⌝ }
+// A message that passed 6 to 12: checks 13 to 15, then the machine.
+pub fn take(
+    settings: Settings,
+    asn: u16,
+    n: Neighbour,
+    message: &[u8],
+    m: Message,
+    room: u16,
+) -> Verdict
+    requires { ⌜ Read asn (now message) m ⌝ }
+    ensures { λ r. ⌜ r ≡ verdictOf (receiveRuling room settings asn n (now (message .entry))) ⌝ }
 {
-    let phase = n.phase;
-    if state::is_up(phase) {
-        return take_update(settings, asn, n, message, m);
-    }
-    carry_out(settings, asn, n, message, m)
-}
-
-// A message in sequence.
-fn take_message(settings: Settings, asn: u16, n: Neighbour, message: &[u8], m: Message) -> Verdict
-    ensures { λ r. ⌜ r ≡ bodyVerdict settings asn n (now (message .entry)) m ⌝ }
-{
-    if let Message::Update {
-        asn: _,
-        sequence: _,
-        status: _,
-        net: _,
-    } = m {
-        return take_in_phase(settings, asn, n, message, m);
-    }
-    carry_out(settings, asn, n, message, m)
-}
-
-// A message from the neighbour, with checks 6 to 15 in their order.
-pub fn receive(settings: Settings, asn: u16, n: Neighbour, message: &[u8]) -> Verdict
-    ensures { λ r. ⌜ r ≡ receiveVerdict settings asn n (now (message .entry)) ⌝ }
-{
-    let header = wire::read_header(message);
-    if header != 0 {
-        return refuse(n, header, Reply::Nothing);
-    }
-    if octets::word16_at(message, 6) != asn {
-        return refuse(n, 9, refuse_to(settings, n, message));
-    }
-    let decoded = wire::decode(message);
-    let Decoded::Good(m) = decoded else {
-        return refuse(
-            n,
-            wire::number_of(decoded),
-            error_to(settings, n, message, 1),
-        );
-    };
     if !neighbour::in_sequence(n, m) {
-        return refuse(n, 13, Reply::Nothing);
+        return refuse(settings, n, message, 13);
     }
-    take_message(settings, asn, n, message, m)
+    let phase = n.phase;
+    if brings_rows(phase, m) {
+        return take_update(settings, asn, n, message, m, room);
+    }
+    step_verdict(n, step_for(settings, asn, n, message, m))
 }

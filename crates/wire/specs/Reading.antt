@@ -1,6 +1,6 @@
 -- Reading a message in stages: its header, then its kind. An Update's blocks are read elsewhere.
 use Prim.Native.Nat.{ℕ}
-use mathlib.Core.Bool.{cond, _&&_}
+use mathlib.Core.Bool.{Bool, true, false, cond, _&&_}
 use mathlib.Core.List.{List}
 use lib.ListN.{length, getD}
 use lib.Dec.{leb, eqb}
@@ -17,13 +17,21 @@ use Rattle.message.specs.declared.Message.the-variants as M
 use Rattle.wire.specs.declared.Decoded.{Decoded}
 use Rattle.wire.specs.declared.Decoded.the-variants.{Good, UnknownKind, BadStatus, BadLength}
 
--- 01: 6 "message below 10 or above 2,048 octets", 7 "version not 2", 8 "checksum field wrong"
+-- 01: 6 "message below 10 or above 2,048 octets"
+abbrev pub sizeAllowed : List ℕ → Bool
+sizeAllowed o = leb 10 (length o) && leb (length o) 2048
+
+-- 7 "version not 2"
+abbrev pub versionIs2 : List ℕ → Bool
+versionIs2 o = eqb (getD o 0 0) 2
+
+-- 8 "checksum field wrong"
+abbrev pub checksumHolds : List ℕ → Bool
+checksumHolds o = eqb (word16 o 4) (checksumOf o)
+
+-- the header stage of reading
 unfoldable pub headerAnswer : List ℕ → ℕ
-headerAnswer o =
-    check (leb 10 (length o) && leb (length o) 2048) 6
-    (check (eqb (getD o 0 0) 2) 7
-    (check (eqb (word16 o 4) (checksumOf o)) 8
-    0))
+headerAnswer o = check (sizeAllowed o) 6 (check (versionIs2 o) 7 (check (checksumHolds o) 8 0))
 
 -- 01: "Header: version 2, type, code, status, checksum (2), AS (2), sequence (2)"
 abbrev pub statusAt : List ℕ → ℕ
@@ -34,6 +42,25 @@ asnAt o = word16 o 6
 
 abbrev pub sequenceAt : List ℕ → ℕ
 sequenceAt o = word16 o 8
+
+-- the kind that its type and code name
+abbrev pub kindIn : List ℕ → Known
+kindIn o = kindAt (getD o 1 0) (getD o 2 0)
+
+-- 10 "unknown type and code pair"
+unfoldable pub isKnown : Known → Bool
+isKnown Unknown = false
+isKnown (Is kind) = true
+
+-- 11 "status not allowed"
+unfoldable pub statusFits : Known → List ℕ → Bool
+statusFits Unknown o = false
+statusFits (Is kind) o = statusAllowed kind (statusAt o)
+
+-- 12 "length wrong for the type"
+unfoldable pub lengthFits : Known → List ℕ → Bool
+lengthFits Unknown o = false
+lengthFits (Is kind) o = lengthAllowed kind (length o)
 
 -- what each kind carries behind the header. 01: "14: hello interval, poll interval"; "16: two reserved octets, net", "ignored"; at 12 the net; "24: reason, 12 octets"
 unfoldable pub meaningOf : Kind → List ℕ → Message
@@ -56,7 +83,7 @@ decodeAs (Is kind) o =
 
 -- the kind stage of reading
 unfoldable pub decodeOf : List ℕ → Decoded
-decodeOf o = decodeAs (kindAt (getD o 1 0) (getD o 2 0)) o
+decodeOf o = decodeAs (kindIn o) o
 
 -- 01's number for each case of the decoder's answer
 unfoldable pub numberOf : Decoded → ℕ

@@ -1,6 +1,6 @@
 use borrow.Author.Tests.{eq-eqb, ne-eqb}
 use borrow.Author.Tests.{not-true, not-false}
-use Rattle.calls.specs.Verdict.{errorTo}
+use Rattle.calls.specs.Number.{errorTo}
 use borrow.Author.Needs.{needs}
 use Rattle.verdict.proofs.error_to.Statement.{statement}
 use Rattle.verdict.proofs.error_to.Tie as tie

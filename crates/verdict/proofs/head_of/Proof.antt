@@ -1,4 +1,4 @@
-use Rattle.calls.specs.Verdict.{headAt}
+use Rattle.calls.specs.Number.{headAt}
 use borrow.Author.Needs.{needs}
 use Rattle.verdict.proofs.head_of.Statement.{statement}
 use Rattle.verdict.proofs.head_of.Tie as tie

@@ -1,7 +1,7 @@
 use borrow.Author.Tests.{le-leb, lt-leb, eq-eqb, ne-eqb}
 use borrow.Author.Tests.{not-true, not-false}
 use Rattle.message.specs.Kinds.{plainStatus}
-use Rattle.calls.specs.Verdict.{refuseTo}
+use Rattle.calls.specs.Number.{refuseTo}
 use borrow.Author.Needs.{needs}
 use Rattle.verdict.proofs.refuse_to.Statement.{statement}
 use Rattle.verdict.proofs.refuse_to.Tie as tie

@@ -1,4 +1,4 @@
-use Rattle.calls.specs.Verdict.{stepped}
+use Rattle.calls.specs.Ruling.{stepped, verdictOf}
 use borrow.Author.Needs.{needs}
 use Rattle.verdict.proofs.step_verdict.Statement.{statement}
 use Rattle.verdict.proofs.step_verdict.Tie as tie
@@ -12,7 +12,7 @@ effect-of-requires c κs = search needs
 
 -- src/lib.rt:33:1
 returns : tie.Need-returns
-unfolding stepped
+unfolding stepped verdictOf
 returns c = rw (c .effect-of .ensures)
 
 pub step-verdict-spec : {M : Type 1} → statement M

@@ -1,4 +1,4 @@
--- What a step may send, row by row: `StepSends` of specs/Laws.antt, and an eliminator for those who cite it. Assumes nothing.
+-- What a step may send, row by row: `StepSends` and `NoThird` of specs/Laws.antt, and an eliminator for those who cite it. Assumes nothing.
 use Prim.Native.Nat.{ℕ, _-_}
 use mathlib.Core.Path.{_≡_, refl, subst, sym}
 use mathlib.Core.Bool.{Bool, true, false, _&&_, _||_, false≢true}
@@ -27,7 +27,7 @@ use Rattle.machine.specs.declared.After.{After}
 use Rattle.machine.specs.Table.{followed, quiet, answers, says, helloIf, doesA, doesB, ceases, repeatsCease, acquires, stray, onRequest, settles, onConfirm, onRefuse, onCease, onCeaseAck, onHello, onIHeardYou, answersPoll, onPoll, onUpdate, onStart, onStop}
 use Rattle.machine.specs.Tick.{expired, repeats, listens, polls, pollsOnEntry, takesT2, pollsInUp, runs, onTick}
 use Rattle.machine.specs.Step.{onMessage, stepOf}
-use Rattle.machine.specs.Laws.{short, ourUpdate, maySend, StepSends}
+use Rattle.machine.specs.Laws.{short, ourUpdate, maySend, StepSends, NoThird}
 
 -- the four replies that there are
 pub send-elim : (g : Settings) (P : Reply → Type 0) → P Nothing → ((m : Message) → short m ≡ true → P (One m))
@@ -233,3 +233,6 @@ module _ (g : Settings) where
 pub step-sends : StepSends
 unfolding Sends
 step-sends g asn n event head = event-sends g asn n event head
+
+pub no-third : NoThird
+no-third g asn n event head e = false≢true (subst (λ (r : Reply). maySend g r ≡ true) e (step-sends g asn n event head))

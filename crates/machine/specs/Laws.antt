@@ -20,7 +20,7 @@ use Rattle.machine.specs.declared.Event.the-variants.{Received, Start, S
 use Rattle.machine.specs.declared.Reply.{Reply}
 use Rattle.machine.specs.declared.Reply.the-variants.{Nothing, One, Two}
 use Rattle.machine.specs.declared.After.{After}
-use Rattle.machine.specs.Table.{quiet}
+use Rattle.machine.specs.Table.{overfull, quiet}
 use Rattle.machine.specs.Step.{stepOf}
 
 abbrev pub isDown : Phase → Bool
@@ -97,6 +97,10 @@ maySend g (Two first second) = short first && short second
 -- what a step may send, from any record at all
 abbrev pub StepSends : Type 0
 StepSends = (g : Settings) (asn : ℕ) (n : Neighbour) (event : Event) (head : Head) → maySend g ((stepOf g asn n event head) .reply) ≡ true
+
+-- 01: "A reply is at most two messages": no step says a third
+abbrev pub NoThird : Type 0
+NoThird = (g : Settings) (asn : ℕ) (n : Neighbour) (event : Event) (head : Head) → (stepOf g asn n event head) .reply ≡ overfull → ⊥
 
 -- a well-formed record in Idle is zero throughout
 abbrev pub IdleIsZero : Type 0

@@ -1,2 +1,3 @@
 pub mod Theorems
+pub mod Sends
 pub mod Sheet

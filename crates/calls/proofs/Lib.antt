@@ -1,1 +1,4 @@
 pub mod Number
+pub mod Rulings
+pub mod Sends
+pub mod Checks

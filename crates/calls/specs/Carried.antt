@@ -53,5 +53,10 @@ outcomeAfter st i x home =
       state = withSlot st i (slotAfter (slotAt st i) x);
     }
 
+-- 01: "Every refusal returns the state as given .. and reports lengths 0 and 0 unless a reply is named"
+unfoldable pub refusedWith : State → ℕ → Reply → List Row → Outcome
+refusedWith st answer reply home =
+    record { answer = answer; first = length (firstOctets reply home); second = length (secondOctets reply home); state = st }
+
 unfoldable pub bufferAfter : List ℕ → Reply → List Row → List ℕ
 bufferAfter buffer reply home = over (replyOctets reply home) buffer

@@ -2,16 +2,18 @@
 use Prim.Native.Nat.{ℕ}
 use mathlib.Core.Bool.{Bool, true, false, _&&_}
 use mathlib.Core.List.{List}
-use lib.Dec.{leb}
+use lib.Dec.{leb, eqb}
 use lib.ListN.{length}
 use Rattle.nets.specs.Rows.{Row}
 use Rattle.message.specs.declared.Message.{Message}
-use Rattle.walk.specs.Body.{UpdateRead, accepted, brokenAt, tooMany}
+use Rattle.walk.specs.Body.{Walk, whole, broken}
 use Rattle.codec.specs.Writing.{rowsFit, roomFor}
 use Rattle.machine.specs.declared.Reply.{Reply}
 use Rattle.machine.specs.declared.Reply.the-variants.{Nothing, One, Two}
 use Rattle.calls.specs.declared.Effect.{Effect}
 use Rattle.calls.specs.declared.Effect.the-variants.{Keep, Clear, Replace}
+use Rattle.calls.specs.declared.Verdict.{Verdict}
+use Rattle.calls.specs.Ruling.{Change, keep, clear, replace, Ruling}
 use Rattle.calls.specs.Carried.{firstOctets, secondOctets}
 use Rattle.carry.specs.declared.Lengths.{Lengths}
 
@@ -29,13 +31,19 @@ sendable (Two m next) home = brief m && brief next
 unfoldable pub lengthsOf : Reply → List Row → Lengths
 lengthsOf reply home = record { first = length (firstOctets reply home); second = length (secondOctets reply home) }
 
-unfoldable pub isAccepted : UpdateRead → Bool
-isAccepted (accepted rows) = true
-isAccepted (brokenAt offset) = false
-isAccepted tooMany = false
+-- rows are replaced by those of blocks that are whole, as many as the effect says and no more than a slot has
+unfoldable pub takes : Effect → Walk → Bool
+takes Keep walk = true
+takes Clear walk = true
+takes (Replace count) (whole rows) = eqb count (length rows) && leb (length rows) 128
+takes (Replace count) (broken offset) = false
 
--- rows are replaced by those of an Update that was accepted
-unfoldable pub takes : Effect → UpdateRead → Bool
-takes Keep update = true
-takes Clear update = true
-takes (Replace count) update = isAccepted update
+-- the change that an effect stands for, these being the rows that it would store
+unfoldable pub changeOf : Effect → List Row → Change
+changeOf Keep rows = keep
+changeOf Clear rows = clear
+changeOf (Replace count) rows = replace rows
+
+-- the ruling that a verdict stands for
+unfoldable pub rulingOf : Verdict → List Row → Ruling
+rulingOf v rows = record { answer = v .answer; reply = v .reply; neighbour = v .neighbour; change = changeOf (v .effect) rows }

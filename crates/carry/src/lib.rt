@@ -7,13 +7,15 @@ use state::Slot;
 use state::State;
 ghost use mathlib.Core.Path.{_≡_};
 ghost use mathlib.Core.Bool.{true};
-ghost use Prim.Native.Nat.{_≤_, _<_};
+ghost use mathlib.Core.List.{List};
+ghost use Prim.Native.Nat.{ℕ, _≤_, _<_};
 ghost use lib.ListN.{length};
 ghost use Rattle.nets.specs.Rows.{rowsOf};
-ghost use Rattle.walk.specs.Body.{updateOf, rowsRead};
-ghost use Rattle.codec.specs.Reading.{most};
-ghost use Rattle.calls.specs.Carried.{tableAfter, countAfter, slotAfter, outcomeAfter, bufferAfter};
-ghost use Rattle.carry.specs.Asked.{sendable, lengthsOf, takes};
+ghost use Rattle.walk.specs.Body.{Walk, blocksOf};
+ghost use Rattle.rows.specs.Storing.{rowsIn};
+ghost use Rattle.state.specs.Places.{rowCounts};
+ghost use Rattle.calls.specs.Carried.{tableAfter, countAfter, slotAfter, outcomeAfter, refusedWith, bufferAfter};
+ghost use Rattle.carry.specs.Asked.{sendable, lengthsOf, takes, changeOf, rulingOf};
 
 // The lengths of the reply's two messages.
 struct Lengths {
@@ -53,11 +55,11 @@ fn send(buffer: &mut [u8], reply: Reply, home: &[u32]) -> Lengths
 // Leaves, zeroes or replaces the rows of slot i, in its part of the table.
 fn change_rows(table: &mut [u32], i: usize, effect: Effect, net: u32, message: &[u8])
     requires { ⌜ (i < 8) × (length (now table) ≡ 3072) ⌝ }
-    requires { ⌜ takes effect (updateOf most net (now message)) ≡ true ⌝ }
-    ensures { λ _. ⌜ now (table .exit) ≡ tableAfter (now (table .entry)) i effect (rowsRead (updateOf most net (now (message .entry)))) ⌝ }
+    requires { ⌜ takes effect (blocksOf net (now message)) ≡ true ⌝ }
+    ensures { λ _. ⌜ ((counts : List ℕ) → now (table .exit) ≡ tableAfter (now (table .entry)) counts i (changeOf effect (rowsIn (blocksOf net (now (message .entry)))))) ⌝ }
 {
-    let start = i * 384;
-    let end = start + 384;
+    let start = state::place(i);
+    let end = start + state::SLOT_NUMBERS;
     match effect {
         Effect::Keep => {}
         Effect::Clear => rows::clear(&mut table[start..end]),
@@ -67,7 +69,7 @@ fn change_rows(table: &mut [u32], i: usize, effect: Effect, net: u32, message: &
 
 // The row count after a verdict.
 fn count_after(count: u16, effect: Effect) -> u16
-    ensures { λ r. ⌜ r ≡ countAfter count effect ⌝ }
+    ensures { λ r. ⌜ ((walk : Walk) → takes effect walk ≡ true → r ≡ countAfter count (changeOf effect (rowsIn walk))) ⌝ }
 {
     match effect {
         Effect::Keep => count,
@@ -77,7 +79,7 @@ fn count_after(count: u16, effect: Effect) -> u16
 }
 
 fn slot_after(slot: Slot, v: Verdict) -> Slot
-    ensures { λ r. ⌜ r ≡ slotAfter slot v ⌝ }
+    ensures { λ r. ⌜ ((walk : Walk) → takes (v .effect) walk ≡ true → r ≡ slotAfter slot (rulingOf v (rowsIn walk))) ⌝ }
 {
     let next = v.neighbour;
     let effect = v.effect;
@@ -100,9 +102,9 @@ pub fn apply(
     message: &[u8],
 ) -> Outcome
     requires { ⌜ (i < 8) × (length (now table) ≡ 3072) × (2048 ≤ length (now buffer)) ⌝ }
-    requires { ⌜ (sendable (v .reply) (now home) ≡ true) × (takes (v .effect) (updateOf most (st .settings .net) (now message)) ≡ true) ⌝ }
-    ensures { λ r. ⌜ r ≡ outcomeAfter st i v (rowsOf (now (home .entry))) ⌝ }
-    ensures { λ _. ⌜ now (table .exit) ≡ tableAfter (now (table .entry)) i (v .effect) (rowsRead (updateOf most (st .settings .net) (now (message .entry)))) ⌝ }
+    requires { ⌜ (sendable (v .reply) (now home) ≡ true) × (takes (v .effect) (blocksOf (st .settings .net) (now message)) ≡ true) ⌝ }
+    ensures { λ r. ⌜ r ≡ outcomeAfter st i (rulingOf v (rowsIn (blocksOf (st .settings .net) (now (message .entry))))) (rowsOf (now (home .entry))) ⌝ }
+    ensures { λ _. ⌜ now (table .exit) ≡ tableAfter (now (table .entry)) (rowCounts st) i (changeOf (v .effect) (rowsIn (blocksOf (st .settings .net) (now (message .entry))))) ⌝ }
     ensures { λ _. ⌜ now (buffer .exit) ≡ bufferAfter (now (buffer .entry)) (v .reply) (rowsOf (now (home .entry))) ⌝ }
 {
     let reply = v.reply;
@@ -116,5 +118,20 @@ pub fn apply(
         first: lengths.first,
         second: lengths.second,
         state: state::with_slot(st, i, slot_after(slot, v)),
+    }
+}
+
+// Refuses a call: the reply that the number names is written, and nothing else changes.
+pub fn refuse(st: State, answer: u8, buffer: &mut [u8], reply: Reply, home: &[u32]) -> Outcome
+    requires { ⌜ (sendable reply (now home) ≡ true) × (2048 ≤ length (now buffer)) ⌝ }
+    ensures { λ r. ⌜ r ≡ refusedWith st answer reply (rowsOf (now (home .entry))) ⌝ }
+    ensures { λ _. ⌜ now (buffer .exit) ≡ bufferAfter (now (buffer .entry)) reply (rowsOf (now (home .entry))) ⌝ }
+{
+    let lengths = send(buffer, reply, home);
+    Outcome {
+        answer,
+        first: lengths.first,
+        second: lengths.second,
+        state: st,
     }
 }

@@ -160,5 +160,5 @@ well-formed-kept =
       messages = message-formed;
       add = λ st address asn k. let c = add-claim st address asn (k .eight) .0 in record { formed = c .formed (k .formed); eight = c .eight };
       remove = λ st address k. let c = remove-claim st address (k .eight) .0 in record { formed = c .formed (k .formed); eight = c .eight };
-      fresh = λ asn own capability net z. let c = fresh-claim asn own capability net in record { formed = c .formed z; eight = c .eight };
+      fresh = λ g z. let c = fresh-claim g in record { formed = c .formed z; eight = c .eight };
     }

@@ -15,10 +15,10 @@ use Rattle.codec.specs.Reading.{most}
 use Rattle.machine.specs.declared.Event.{Event}
 use Rattle.state.specs.declared.Slot.{Slot}
 use Rattle.state.specs.declared.State.{State}
-use Rattle.state.specs.Slots.{freeSlot, slotAt, withSlot, slotOf, lowestFree}
+use Rattle.state.specs.Slots.{newcomer, freeSlot, slotAt, withSlot, slotOf, lowestFree}
 use Rattle.state.specs.Outcomes.{refusedOf, silentOf}
 use Rattle.state.proofs.Theorems.{other-slots, slot-stays}
-use Rattle.slots.specs.Calls.{newcomer, addAnswer, addOf, removeAnswer, removeOf}
+use Rattle.slots.specs.Calls.{addAnswer, addOf, removeAnswer, removeOf}
 use Rattle.calls.specs.declared.Effect.{Effect}
 use Rattle.calls.specs.declared.Effect.the-variants.{Keep, Clear, Replace}
 use Rattle.calls.specs.declared.Verdict.{Verdict}

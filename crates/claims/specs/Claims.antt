@@ -197,4 +197,4 @@ pub record WellFormedKept : Type 0 where
   pub add : (st : State) (address asn : ℕ) → FormedState st → FormedState ((addOf st address asn) .state)
   pub remove : (st : State) (address : ℕ) → FormedState st → FormedState ((removeOf st address) .state)
   -- 01: where fresh refuses, it "returns the all-zero state, which is not well formed"
-  pub fresh : (asn own capability net : ℕ) → (freshOf asn own capability net) .answer ≡ 0 → FormedState ((freshOf asn own capability net) .state)
+  pub fresh : (g : Settings) → (freshOf g) .answer ≡ 0 → FormedState ((freshOf g) .state)

@@ -1,3 +1,3 @@
-pub mod Replies
 pub mod Checks
+pub mod Replies
 pub mod Calls

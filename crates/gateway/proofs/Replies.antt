@@ -1,39 +1,30 @@
--- Which replies there are: what the machine and a refusal send can be sent. Assumes nothing.
-use Prim.Native.Nat.{ℕ}
-use mathlib.Core.Path.{_≡_, refl}
-use mathlib.Core.Bool.{true, false, not, _&&_, false≢true}
+-- What a ruling sends can be sent, and the rows that it stores are there. Assumes nothing.
+use Prim.Native.Nat.{ℕ, _≤_}
+use native.Mathlib.Omega.{arith}
+use borrow.Author.Tests.{eq-eqb, le-leb}
+use mathlib.Core.Path.{_≡_, refl, sym, _∙_, ap}
+use mathlib.Core.Bool.{true, false, _&&_, false≢true}
 use mathlib.Core.List.{List}
-use lib.Dec.{eqb}
-use lib.ListN.{length, getD}
-use Rattle.checks.proofs.Laws.{and-both, cond-elim}
+use lib.Dec.{leb, eqb}
+use lib.ListN.{length}
+use Rattle.checks.proofs.Laws.{and-both}
 use Rattle.nets.specs.Classes.{goodNet}
-use Rattle.message.specs.Kinds.{plainStatus}
+use Rattle.nets.specs.Rows.{Row}
 use Rattle.message.specs.declared.Message.{Message}
 use Rattle.message.specs.declared.Message.the-variants as M
-use Rattle.wire.specs.Reading.{headerAnswer, asnAt, statusAt, decodeOf}
-use Rattle.wire.specs.declared.Decoded.{Decoded}
-use Rattle.wire.specs.declared.Decoded.the-variants as D
-use Rattle.walk.specs.Body.{UpdateRead, accepted, brokenAt, tooMany, updateOf}
-use Rattle.codec.specs.Reading.{most}
-use Rattle.calls.specs.declared.Effect.{Effect}
-use Rattle.calls.specs.declared.Verdict.{Verdict}
-use Rattle.calls.specs.Verdict.{effectOf, stepped, refuses, headAt, errorTo, refuseTo, updateVerdict, carriedOut, phaseVerdict, bodyVerdict, kindVerdict, receiveVerdict}
+use Rattle.walk.specs.Body.{Walk, whole, accepted, updateOf, blocksOf}
+use Rattle.walk.proofs.Accepted.{accepted-is}
+use Rattle.rows.specs.Storing.{rowsIn}
 use Rattle.blocks.specs.Writable.{writableNumbers}
 use Rattle.codec.specs.Writing.{rowsFit, roomFor}
-use Rattle.neighbour.specs.declared.Phase.{Phase}
 use Rattle.neighbour.specs.declared.Settings.{Settings}
-use Rattle.neighbour.specs.declared.Neighbour.{Neighbour}
-use Rattle.neighbour.specs.Record.{isIdle, acquired, isUp}
-use Rattle.neighbour.specs.Rules.{inSequence}
-use Rattle.sent.specs.declared.Head.{Head}
-use Rattle.machine.specs.declared.Event.{Event}
-use Rattle.machine.specs.declared.Event.the-variants.{Received}
 use Rattle.machine.specs.declared.Reply.{Reply}
-use Rattle.machine.specs.declared.Reply.the-variants.{Nothing}
-use Rattle.machine.specs.Step.{stepOf}
 use Rattle.machine.specs.Laws.{short, maySend}
-use Rattle.machine.proofs.Sends.{send-elim, step-sends}
-use Rattle.carry.specs.Asked.{brief, sendable, isAccepted, takes}
+use Rattle.machine.proofs.Sends.{send-elim}
+use Rattle.calls.specs.declared.Verdict.{Verdict}
+use Rattle.calls.specs.Ruling.{Change, keep, clear, replace, Ruling, effectOf, verdictOf}
+use Rattle.calls.proofs.Rulings.{Backed}
+use Rattle.carry.specs.Asked.{brief, sendable, takes, changeOf, rulingOf}
 use Rattle.carry.proofs.Sending.{brief-fits}
 
 -- a short message is a brief one
@@ -50,92 +41,34 @@ short-brief (M.Poll a q s net) e = refl
 short-brief (M.Update a q s net) e = absurd (false≢true e)
 short-brief (M.Error a q s reason x y z) e = refl
 
--- a verdict that can be carried out: its reply can be sent, and rows are replaced only by those of an accepted Update
-pub record Fine (home : List ℕ) (u : UpdateRead) (v : Verdict) : Type 0 where
-  pub reply : sendable (v .reply) home ≡ true
-  pub effect : takes (v .effect) u ≡ true
+-- what a step may send can be sent, with a home list that an Update on the common net can carry
+pub ready : (g : Settings) (home : List ℕ) → goodNet (g .net) ≡ true → writableNumbers (g .net) home ≡ true
+    → (reply : Reply) → maySend g reply ≡ true → sendable reply home ≡ true
+unfolding sendable rowsFit
+ready g home good fits =
+    send-elim g (λ r. sendable r home ≡ true) refl
+    (λ m e. brief-fits m home (short-brief m e))
+    (λ q. and-both (goodNet (g .net)) (writableNumbers (g .net) home) good fits)
+    (λ m next e f. and-both (brief m) (brief next) (short-brief m e) (short-brief next f))
 
-left-takes : (before after : Phase) (u : UpdateRead) → takes (effectOf before after) u ≡ true
-unfolding effectOf takes
-left-takes before after u =
-    cond-elim (λ (x : Effect). takes x u ≡ true) (isUp before && not (isUp after)) _ _ (λ _. refl) (λ _. refl)
+-- ---- the rows
 
--- with a home list that an Update on the common net can carry
-module _ (g : Settings) (home : List ℕ) (good : goodNet (g .net) ≡ true) (fits : writableNumbers (g .net) home ≡ true) where
-  -- what a step may send can be sent
-  ready : (reply : Reply) → maySend g reply ≡ true → sendable reply home ≡ true
-  unfolding sendable rowsFit
-  ready =
-      send-elim g (λ r. sendable r home ≡ true) refl
-      (λ m e. brief-fits m home (short-brief m e))
-      (λ q. and-both (goodNet (g .net)) (writableNumbers (g .net) home) good fits)
-      (λ m next e f. and-both (brief m) (brief next) (short-brief m e) (short-brief next f))
+module _ (net : ℕ) (o : List ℕ) where
+  pub backed-takes : (change : Change) → Backed 128 net o change → takes (effectOf change) (blocksOf net o) ≡ true
+  unfolding Backed effectOf takes
+  backed-takes keep b = refl
+  backed-takes clear b = refl
+  backed-takes (replace rows) b =
+      let a = accepted-is 128 net o rows b in
+      rw (a .is, eq-eqb (length rows) (length rows) refl, le-leb (length rows) 128 (a .fits))
 
-  step-ready : (asn : ℕ) (n : Neighbour) (event : Event) (head : Head) → sendable ((stepOf g asn n event head) .reply) home ≡ true
-  step-ready asn n event head = ready _ (step-sends g asn n event head)
+  change-back : (change : Change) → Backed 128 net o change → changeOf (effectOf change) (rowsIn (blocksOf net o)) ≡ change
+  unfolding Backed effectOf changeOf rowsIn
+  change-back keep b = refl
+  change-back clear b = refl
+  change-back (replace rows) b = ap (λ (w : Walk). replace (rowsIn w)) (accepted-is 128 net o rows b .is)
 
-  nothing-ready : sendable Nothing home ≡ true
-  nothing-ready = ready Nothing refl
-
-  error-ready : (n : Neighbour) (o : List ℕ) (reason : ℕ) → sendable (errorTo g n o reason) home ≡ true
-  unfolding errorTo
-  error-ready n o reason =
-      ready _ (cond-elim (λ (r : Reply). maySend g r ≡ true) (acquired (n .phase) && not (eqb (getD o 1 0) 8)) _ _ (λ _. refl) (λ _. refl))
-
-  refuse-ready : (n : Neighbour) (o : List ℕ) → sendable (refuseTo g n o) home ≡ true
-  unfolding refuseTo
-  refuse-ready n o =
-      ready _
-      (cond-elim (λ (r : Reply). maySend g r ≡ true) (isIdle (n .phase) && eqb (getD o 1 0) 3 && eqb (getD o 2 0) 0 && plainStatus (statusAt o) && eqb (length o) 14) _ _
-      (λ _. refl) (λ _. refl))
-
-  -- ---- verdicts
-
-  pub stepped-fine : (asn : ℕ) (n : Neighbour) (event : Event) (head : Head) (u : UpdateRead) → Fine home u (stepped n (stepOf g asn n event head))
-  unfolding stepped
-  stepped-fine asn n event head u = record { reply = step-ready asn n event head; effect = left-takes (n .phase) _ u }
-
-  refuses-fine : (n : Neighbour) (answer : ℕ) (reply : Reply) (u : UpdateRead) → sendable reply home ≡ true → Fine home u (refuses n answer reply)
-  unfolding refuses takes
-  refuses-fine n answer reply u e = record { reply = e; effect = refl }
-
-  update-fine : (asn : ℕ) (n : Neighbour) (o : List ℕ) (m : Message) (u : UpdateRead) → Fine home u (updateVerdict g asn n o m u)
-  unfolding updateVerdict takes isAccepted
-  update-fine asn n o m (accepted rows) = record { reply = step-ready asn n (Received m) (headAt o); effect = refl }
-  update-fine asn n o m (brokenAt offset) = refuses-fine n _ _ (brokenAt offset) (error-ready n o 2)
-  update-fine asn n o m tooMany = refuses-fine n _ _ tooMany (error-ready n o 0)
-
-  module _ (asn : ℕ) (n : Neighbour) (o : List ℕ) where
-    carried-fine : (m : Message) → Fine home (updateOf most (g .net) o) (carriedOut g asn n o m)
-    unfolding carriedOut
-    carried-fine m = stepped-fine asn n (Received m) (headAt o) (updateOf most (g .net) o)
-
-    body-fine : (m : Message) → Fine home (updateOf most (g .net) o) (bodyVerdict g asn n o m)
-    unfolding bodyVerdict phaseVerdict
-    body-fine (M.Update a q s net) =
-        cond-elim (Fine home (updateOf most (g .net) o)) (isUp (n .phase)) _ _
-        (λ _. update-fine asn n o (M.Update a q s net) (updateOf most (g .net) o)) (λ _. carried-fine (M.Update a q s net))
-    body-fine (M.Request a q s hello poll) = carried-fine (M.Request a q s hello poll)
-    body-fine (M.Confirm a q s hello poll) = carried-fine (M.Confirm a q s hello poll)
-    body-fine (M.Refuse a q s) = carried-fine (M.Refuse a q s)
-    body-fine (M.Cease a q s) = carried-fine (M.Cease a q s)
-    body-fine (M.CeaseAck a q s) = carried-fine (M.CeaseAck a q s)
-    body-fine (M.Hello a q s) = carried-fine (M.Hello a q s)
-    body-fine (M.IHeardYou a q s) = carried-fine (M.IHeardYou a q s)
-    body-fine (M.Poll a q s net) = carried-fine (M.Poll a q s net)
-    body-fine (M.Error a q s reason x y z) = carried-fine (M.Error a q s reason x y z)
-
-    kind-fine : (d : Decoded) → Fine home (updateOf most (g .net) o) (kindVerdict g asn n o d)
-    unfolding kindVerdict
-    kind-fine (D.Good m) =
-        cond-elim (Fine home (updateOf most (g .net) o)) (inSequence n m) _ _ (λ _. body-fine m) (λ _. refuses-fine n 13 Nothing _ nothing-ready)
-    kind-fine D.UnknownKind = refuses-fine n _ _ _ (error-ready n o 1)
-    kind-fine D.BadStatus = refuses-fine n _ _ _ (error-ready n o 1)
-    kind-fine D.BadLength = refuses-fine n _ _ _ (error-ready n o 1)
-
-    pub receive-fine : Fine home (updateOf most (g .net) o) (receiveVerdict g asn n o)
-    unfolding receiveVerdict
-    receive-fine =
-        cond-elim (Fine home (updateOf most (g .net) o)) (eqb (headerAnswer o) 0) _ _
-        (λ _. cond-elim (Fine home (updateOf most (g .net) o)) (eqb (asnAt o) asn) _ _ (λ _. kind-fine (decodeOf o)) (λ _. refuses-fine n 9 _ _ (refuse-ready n o)))
-        (λ _. refuses-fine n _ _ _ nothing-ready)
+  -- the verdict stands for the ruling
+  pub ruling-back : (x : Ruling) → Backed 128 net o (x .change) → rulingOf (verdictOf x) (rowsIn (blocksOf net o)) ≡ x
+  unfolding rulingOf verdictOf
+  ruling-back x b = λ k. record { answer = x .answer; reply = x .reply; neighbour = x .neighbour; change = change-back (x .change) b k }

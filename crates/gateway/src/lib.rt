@@ -3,16 +3,20 @@ use machine::Event;
 use sent::Head;
 use state::Outcome;
 use state::State;
+use wire::Decoded;
 ghost use mathlib.Core.Path.{_≡_};
 ghost use mathlib.Core.List.{List};
 ghost use Prim.Native.Nat.{ℕ};
 ghost use lib.ListN.{length};
-ghost use Rattle.machine.specs.declared.Event.the-variants.{Start, Stop, Tick};
-ghost use Rattle.calls.specs.Calls.{eventChecks, messageChecks, eventOutcome, eventTable, eventBuffer, messageOutcome, messageTable, messageBuffer};
+ghost use Rattle.machine.specs.Intrinsics.{Intrinsic, Start, Stop, Tick, asEvent};
+ghost use Rattle.calls.specs.Calls.{tableFits, bufferFits, lentChecks, eventChecks, messageChecks, eventOutcome, eventTable, eventBuffer, messageOutcome, messageTable, messageBuffer};
 
-// Checks 1, 2, 3 and 5, of a table and a buffer of these lengths.
-fn event_answer(st: State, numbers: usize, octets: usize, address: u32) -> u8
-    ensures { λ r. ⌜ ((table buffer : List ℕ) → length table ≡ numbers → length buffer ≡ octets → r ≡ eventChecks st table buffer address) ⌝ }
+// How many rows an Update may bring.
+const UPDATE_ROOM: u16 = 128;
+
+// Checks 1, 2 and 3, of a table and a buffer of these lengths.
+fn lent_answer(st: State, numbers: usize, octets: usize) -> u8
+    ensures { λ r. ⌜ ((table buffer : List ℕ) → length table ≡ numbers → length buffer ≡ octets → r ≡ lentChecks st (tableFits table) (bufferFits buffer) 0) ⌝ }
 {
     if !state::well_formed(st) {
         return 1;
@@ -23,24 +27,30 @@ fn event_answer(st: State, numbers: usize, octets: usize, address: u32) -> u8
     if octets < 2048 {
         return 3;
     }
+    0
+}
+
+// Start, Stop and tick make 5 as well.
+fn event_answer(st: State, numbers: usize, octets: usize, address: u32) -> u8
+    ensures { λ r. ⌜ ((event : Intrinsic) (table buffer : List ℕ) → length table ≡ numbers → length buffer ≡ octets → r ≡ eventChecks event st table buffer address) ⌝ }
+{
+    let lent = lent_answer(st, numbers, octets);
+    if lent != 0 {
+        return lent;
+    }
     if state::SLOTS <= state::slot_of(st, address) {
         return 5;
     }
     0
 }
 
-// The same for a message, with check 4 of the home list: a table of this size, and this room in the buffer.
-fn message_answer(st: State, size: usize, room: usize, home: &[u32], address: u32) -> u8
-    ensures { λ r. ⌜ ((table buffer : List ℕ) → length table ≡ size → length buffer ≡ room → r ≡ messageChecks st table buffer (now (home .entry)) address) ⌝ }
+// A message makes 4, of the home list, and 5.
+fn message_answer(st: State, numbers: usize, octets: usize, home: &[u32], address: u32) -> u8
+    ensures { λ r. ⌜ ((table buffer : List ℕ) → length table ≡ numbers → length buffer ≡ octets → r ≡ messageChecks st table buffer (now (home .entry)) address) ⌝ }
 {
-    if !state::well_formed(st) {
-        return 1;
-    }
-    if size != 3072 {
-        return 2;
-    }
-    if room < 2048 {
-        return 3;
+    let lent = lent_answer(st, numbers, octets);
+    if lent != 0 {
+        return lent;
     }
     let settings = st.settings;
     if !home::good_home(settings, home) {
@@ -54,9 +64,9 @@ fn message_answer(st: State, size: usize, room: usize, home: &[u32], address: u3
 
 // What the operator or the clock asks of the neighbour with this address.
 fn happen(st: State, table: &mut [u32], reply: &mut [u8], address: u32, event: Event) -> Outcome
-    ensures { λ r. ⌜ r ≡ eventOutcome event st (now (table .entry)) (now (reply .entry)) address ⌝ }
-    ensures { λ _. ⌜ now (table .exit) ≡ eventTable event st (now (table .entry)) (now (reply .entry)) address ⌝ }
-    ensures { λ _. ⌜ now (reply .exit) ≡ eventBuffer event st (now (table .entry)) (now (reply .entry)) address ⌝ }
+    ensures { λ r. ⌜ ((e : Intrinsic) → event ≡ asEvent e → r ≡ eventOutcome e st (now (table .entry)) (now (reply .entry)) address) ⌝ }
+    ensures { λ _. ⌜ ((e : Intrinsic) → event ≡ asEvent e → now (table .exit) ≡ eventTable e st (now (table .entry)) (now (reply .entry)) address) ⌝ }
+    ensures { λ _. ⌜ ((e : Intrinsic) → event ≡ asEvent e → now (reply .exit) ≡ eventBuffer e st (now (table .entry)) (now (reply .entry)) address) ⌝ }
 {
     let answer = event_answer(st, table.len(), reply.len(), address);
     if answer != 0 {
@@ -126,6 +136,17 @@ pub fn receive(
     let slot = state::slot_at(st, i);
     let n = slot.neighbour;
     let settings = st.settings;
-    let v = verdict::receive(settings, slot.asn, n, message);
+    let head = verdict::head_number(slot.asn, message);
+    if head != 0 {
+        let named = verdict::reply_to(settings, n, message, head);
+        return carry::refuse(st, head, reply, named, home);
+    }
+    let decoded = wire::decode(message);
+    let Decoded::Good(m) = decoded else {
+        let number = wire::number_of(decoded);
+        let named = verdict::reply_to(settings, n, message, number);
+        return carry::refuse(st, number, reply, named, home);
+    };
+    let v = verdict::take(settings, slot.asn, n, message, m, UPDATE_ROOM);
     carry::apply(st, i, v, table, reply, home, message)
 }

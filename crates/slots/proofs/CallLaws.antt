@@ -5,23 +5,21 @@ use mathlib.Core.Bool.{true, false, not, _&&_}
 use borrow.Author.Tests.{lt-ltb, le-ltb}
 use Rattle.checks.proofs.Laws.{check-holds, check-fails}
 use Rattle.neighbour.specs.Record.{isIdle}
+use Rattle.neighbour.specs.declared.Settings.{Settings}
 use Rattle.state.specs.declared.State.{State}
-use Rattle.state.specs.Slots.{freeSlot, slotAt, withSlot, slotOf, present, lowestFree}
+use Rattle.state.specs.Slots.{newcomer, freeSlot, slotAt, withSlot, slotOf, present, lowestFree}
 use Rattle.state.specs.Formed.{goodSettings, goodPeer, stateFormed}
 use Rattle.state.specs.Outcomes.{refusedOf, silentOf}
 use Rattle.state.proofs.OutcomeLaws.{silent-refused, silent-done}
-use Rattle.slots.specs.Calls.{emptyState, zeroState, newcomer, freshAnswer, freshOf, addAnswer, addOf, removeAnswer, removeOf}
+use Rattle.slots.specs.Calls.{emptyState, zeroState, freshAnswer, freshOf, addAnswer, addOf, removeAnswer, removeOf}
 
-module _ (asn own capability net : ℕ) where
-  pub fresh-16 : goodSettings (record { asn = asn; own = own; capability = capability; net = net }) ≡ false
-      → refusedOf zeroState 16 ≡ freshOf asn own capability net
+module _ (g : Settings) where
+  pub fresh-16 : goodSettings g ≡ false → refusedOf zeroState 16 ≡ freshOf g
   unfolding freshOf freshAnswer
   fresh-16 e = silent-refused _ _ zeroState 16 (check-fails _ 16 0 e) refl
 
-  pub fresh-done : goodSettings (record { asn = asn; own = own; capability = capability; net = net }) ≡ true
-      → silentOf 0 (emptyState (record { asn = asn; own = own; capability = capability; net = net }))
-      (emptyState (record { asn = asn; own = own; capability = capability; net = net }))
-      ≡ freshOf asn own capability net
+  pub fresh-done : goodSettings g ≡ true
+      → silentOf 0 (emptyState g) (emptyState g) ≡ freshOf g
   unfolding freshOf freshAnswer
   fresh-done e = silent-done _ _ zeroState (check-holds _ 16 0 e)
 

@@ -14,14 +14,14 @@ use Rattle.neighbour.specs.Record.{idle, isUp}
 use Rattle.state.specs.declared.Slot.{Slot}
 use Rattle.state.specs.declared.State.{State}
 use Rattle.state.specs.declared.Outcome.{Outcome}
-use Rattle.state.specs.Slots.{freeSlot, slotAt, withSlot, addressOf, addresses, clash, apart, slotOf, present, isNone, lowestFree}
+use Rattle.state.specs.Slots.{newcomer, freeSlot, slotAt, withSlot, addressOf, addresses, clash, apart, slotOf, present, isNone, lowestFree}
 use Rattle.state.specs.Formed.{goodSettings, goodPeer, rowsFormed, usedFormed, slotFormed, stateFormed}
 use Rattle.state.specs.Outcomes.{refusedOf, silentOf}
 use Rattle.state.proofs.ListLaws.{first-in, first-before, first-least, first-none, every-always, map-set, distinct-set}
 use Rattle.state.proofs.SlotLaws.{clash-zero, apart-both, address-at, addresses-length, slot-set-same, slot-set-other, slots-length}
 use Rattle.state.proofs.FormedLaws.{idle-formed}
 use Rattle.state.proofs.Theorems.{slot-found, slot-unique, free-slot-formed, formed-of, formed-distinct, free-is-zero, written-formed}
-use Rattle.slots.specs.Calls.{freeSlots, emptyState, zeroState, newcomer, freshAnswer, freshOf, addAnswer, addOf, removeAnswer, removeOf}
+use Rattle.slots.specs.Calls.{freeSlots, emptyState, zeroState, freshAnswer, freshOf, addAnswer, addOf, removeAnswer, removeOf}
 use Rattle.slots.proofs.CallLaws.{fresh-16, fresh-done}
 use Rattle.slots.specs.Claims.{ZeroNotFormed, Fresh, Keeps, Added, Add, Removed, Remove, AddAgain, AddFull}
 
@@ -68,23 +68,22 @@ zero-eight : length (zeroState .slots) ≡ 8
 unfolding zeroState
 zero-eight = fresh-eight _
 
-fresh-refused : (asn own capability net : ℕ) → ((freshOf asn own capability net) .answer ≡ 0 → ⊥) → freshOf asn own capability net ≡ refusedOf zeroState 16
-fresh-refused asn own capability net n = go (goodSettings (record { asn = asn; own = own; capability = capability; net = net })) refl
+fresh-refused : (g : Settings) → ((freshOf g) .answer ≡ 0 → ⊥) → freshOf g ≡ refusedOf zeroState 16
+fresh-refused g n = go (goodSettings g) refl
   where
-    go : (b : Bool) → goodSettings (record { asn = asn; own = own; capability = capability; net = net }) ≡ b
-        → freshOf asn own capability net ≡ refusedOf zeroState 16
-    go false e = sym (fresh-16 asn own capability net e)
-    go true e = absurd (n (ap (λ (o : Outcome). o .answer) (sym (fresh-done asn own capability net e)) ∙ silent-answer 0 _ _))
+    go : (b : Bool) → goodSettings g ≡ b
+        → freshOf g ≡ refusedOf zeroState 16
+    go false e = sym (fresh-16 g e)
+    go true e = absurd (n (ap (λ (o : Outcome). o .answer) (sym (fresh-done g e)) ∙ silent-answer 0 _ _))
 
 pub fresh-claim : Fresh
 unfolding freshOf silentOf freshAnswer
-fresh-claim asn own capability net =
-    let g : Settings = record { asn = asn; own = own; capability = capability; net = net } in
+fresh-claim g =
     let new = ifOk-new (check (goodSettings g) 16 0) (emptyState g) zeroState in
     record {
       formed = λ z. rw (new z) (empty-formed g (check-passed (goodSettings g) 16 0 refl z .0));
       given = new;
-      refused = fresh-refused asn own capability net;
+      refused = fresh-refused g;
       eight = ifOk-holds (check (goodSettings g) 16 0) (emptyState g) zeroState (λ s. length (s .slots) ≡ 8) (λ _. fresh-eight g) zero-eight;
     }
 
@@ -115,7 +114,7 @@ unfolding idle
 idle-not-up = refl
 
 newcomer-formed : (g : Settings) (address asn : ℕ) → goodPeer g address asn ≡ true → (address ≡ 0 → ⊥) → slotFormed g (newcomer address asn) ≡ true
-unfolding slotFormed usedFormed rowsFormed newcomer
+unfolding slotFormed usedFormed rowsFormed
 newcomer-formed g address asn p n = rw (ne-eqb address 0 n, p, idle-formed, idle-not-up)
 
 peer-used : (g : Settings) (address asn : ℕ) → goodPeer g address asn ≡ true → address ≡ 0 → ⊥
@@ -135,7 +134,6 @@ absent-apart st a eight h = first-none (clash a) (addresses st) (omega (arith, a
 
 added-formed : (st : State) (address asn : ℕ) → length (st .slots) ≡ 8 → Passed st address asn
     → stateFormed (withSlot st (lowestFree st) (newcomer address asn)) ≡ true
-unfolding newcomer
 added-formed st address asn eight p =
     written-formed st (lowestFree st) (newcomer address asn) (p .formed)
     (newcomer-formed (st .settings) address asn (p .peer) (peer-used (st .settings) address asn (p .peer)))
@@ -151,7 +149,6 @@ unfolding lowestFree
 lower-used st j h = eqb-false _ 0 (rw (address-at st j) at (first-before isNone (addresses st) 0 j h))
 
 newcomer-address : (address asn : ℕ) → (newcomer address asn) .address ≡ address
-unfolding newcomer
 newcomer-address address asn = refl
 
 add-answer : (st : State) (address asn : ℕ) → (addOf st address asn) .answer ≡ addAnswer st address asn

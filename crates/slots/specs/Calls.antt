@@ -6,11 +6,11 @@ use lib.ListN.{replicate}
 use lib.Dec.{ltb}
 use Rattle.checks.specs.Checks.{check}
 use Rattle.neighbour.specs.declared.Settings.{Settings}
-use Rattle.neighbour.specs.Record.{idle, isIdle}
+use Rattle.neighbour.specs.Record.{isIdle}
 use Rattle.state.specs.declared.Slot.{Slot}
 use Rattle.state.specs.declared.State.{State}
 use Rattle.state.specs.declared.Outcome.{Outcome}
-use Rattle.state.specs.Slots.{freeSlot, slotAt, withSlot, slotOf, present, lowestFree}
+use Rattle.state.specs.Slots.{newcomer, freeSlot, slotAt, withSlot, slotOf, present, lowestFree}
 use Rattle.state.specs.Formed.{goodSettings, goodPeer, stateFormed}
 use Rattle.state.specs.Outcomes.{silentOf}
 
@@ -21,23 +21,21 @@ freeSlots = replicate 8 freeSlot
 unfoldable pub emptyState : Settings → State
 emptyState g = record { settings = g; slots = freeSlots }
 
+-- before anything is set
+abbrev pub noSettings : Settings
+noSettings = record { asn = 0; own = 0; capability = 0; net = 0 }
+
 -- 01: "the all-zero state"
 unfoldable pub zeroState : State
-zeroState = emptyState (record { asn = 0; own = 0; capability = 0; net = 0 })
+zeroState = emptyState noSettings
 
 -- 01: "Fresh refuses 16 for own AS 0, capability above 2, a common net that isn't .., or an own address off that net"
 unfoldable pub freshAnswer : Settings → ℕ
 freshAnswer g = check (goodSettings g) 16 0
 
 -- 01: "it then returns the all-zero state"
-unfoldable pub freshOf : ℕ → ℕ → ℕ → ℕ → Outcome
-freshOf asn own capability net =
-    silentOf (freshAnswer (record { asn = asn; own = own; capability = capability; net = net }))
-    (emptyState (record { asn = asn; own = own; capability = capability; net = net })) zeroState
-
--- 01: "Entering Idle zeroes all but address and AS"; a neighbour is added in Idle, without rows
-unfoldable pub newcomer : ℕ → ℕ → Slot
-newcomer address asn = record { address = address; asn = asn; neighbour = idle; rows = 0 }
+unfoldable pub freshOf : Settings → Outcome
+freshOf g = silentOf (freshAnswer g) (emptyState g) zeroState
 
 -- 01: 1 "state not well formed", 16 "AS 0 or own AS, or an address that is 0, our own or present", 17 "no free slot"
 unfoldable pub addAnswer : State → ℕ → ℕ → ℕ

@@ -3,28 +3,27 @@ use Prim.Native.Nat.{ℕ, _<_}
 use mathlib.Core.Path.{_≡_}
 use mathlib.Core.Bool.{true, false}
 use lib.ListN.{length}
+use Rattle.neighbour.specs.declared.Settings.{Settings}
 use Rattle.state.specs.declared.State.{State}
 use Rattle.state.specs.declared.Outcome.{Outcome}
-use Rattle.state.specs.Slots.{freeSlot, slotAt, slotOf, present, lowestFree}
+use Rattle.state.specs.Slots.{newcomer, freeSlot, slotAt, slotOf, present, lowestFree}
 use Rattle.state.specs.Formed.{goodPeer, stateFormed}
 use Rattle.state.specs.Outcomes.{refusedOf}
-use Rattle.slots.specs.Calls.{zeroState, emptyState, newcomer, freshOf, addOf, removeOf}
+use Rattle.slots.specs.Calls.{zeroState, emptyState, freshOf, addOf, removeOf}
 
 -- 01: the all-zero state "is not well formed"
 abbrev pub ZeroNotFormed : Type 0
 ZeroNotFormed = stateFormed zeroState ≡ false
 
 -- fresh: a well-formed state with these settings, or 16 and the all-zero state
-pub record FreshClaim (asn own capability net : ℕ) : Type 0 where
-  pub formed : (freshOf asn own capability net) .answer ≡ 0 → stateFormed ((freshOf asn own capability net) .state) ≡ true
-  pub given :
-      (freshOf asn own capability net) .answer ≡ 0
-      → (freshOf asn own capability net) .state ≡ emptyState (record { asn = asn; own = own; capability = capability; net = net })
-  pub refused : ((freshOf asn own capability net) .answer ≡ 0 → ⊥) → freshOf asn own capability net ≡ refusedOf zeroState 16
-  pub eight : length ((freshOf asn own capability net) .state .slots) ≡ 8
+pub record FreshClaim (g : Settings) : Type 0 where
+  pub formed : (freshOf g) .answer ≡ 0 → stateFormed ((freshOf g) .state) ≡ true
+  pub given : (freshOf g) .answer ≡ 0 → (freshOf g) .state ≡ emptyState g
+  pub refused : ((freshOf g) .answer ≡ 0 → ⊥) → freshOf g ≡ refusedOf zeroState 16
+  pub eight : length ((freshOf g) .state .slots) ≡ 8
 
 abbrev pub Fresh : Type 0
-Fresh = (asn own capability net : ℕ) → FreshClaim asn own capability net
+Fresh = (g : Settings) → FreshClaim g
 
 -- what add and remove keep, whatever they answer
 pub record Keeps (st : State) (o : Outcome) : Type 0 where

@@ -1,10 +1,9 @@
 // The calls that take no table and no buffer: fresh, add and remove.
 ghost use mathlib.Core.Path.{_≡_};
 ghost use Rattle.state.specs.Outcomes.{silentOf};
-ghost use Rattle.slots.specs.Calls.{emptyState, newcomer, freshOf, addOf, removeOf};
+ghost use Rattle.slots.specs.Calls.{emptyState, freshOf, addOf, removeOf};
 use neighbour::Settings;
 use state::Outcome;
-use state::Slot;
 use state::State;
 
 // Settings, and no neighbour.
@@ -27,15 +26,9 @@ fn carried_out(st: State) -> Outcome
 }
 
 // A new state. Where the settings are bad, the all-zero state, which no call takes.
-pub fn fresh(own_as: u16, own: u32, capability: u8, net: u32) -> Outcome
-    ensures { λ r. ⌜ r ≡ freshOf own_as own capability net ⌝ }
+pub fn fresh(settings: Settings) -> Outcome
+    ensures { λ r. ⌜ r ≡ freshOf settings ⌝ }
 {
-    let settings = Settings {
-        asn: own_as,
-        own,
-        capability,
-        net,
-    };
     if !state::good_settings(settings) {
         let none = Settings {
             asn: 0,
@@ -46,18 +39,6 @@ pub fn fresh(own_as: u16, own: u32, capability: u8, net: u32) -> Outcome
         return state::refused(empty(none), 16);
     }
     carried_out(empty(settings))
-}
-
-// A neighbour that is added is Idle.
-fn new_slot(address: u32, asn: u16) -> Slot
-    ensures { λ r. ⌜ r ≡ newcomer address asn ⌝ }
-{
-    Slot {
-        address,
-        asn,
-        neighbour: neighbour::to_idle(),
-        rows: 0,
-    }
 }
 
 pub fn add(st: State, address: u32, asn: u16) -> Outcome
@@ -77,7 +58,7 @@ pub fn add(st: State, address: u32, asn: u16) -> Outcome
     if state::SLOTS <= free {
         return state::refused(st, 17);
     }
-    carried_out(state::with_slot(st, free, new_slot(address, asn)))
+    carried_out(state::with_slot(st, free, state::new_slot(address, asn)))
 }
 
 // Only an Idle neighbour is removed, so that no row of the table outlives it.

@@ -3,9 +3,9 @@ use Prim.Native.Nat.{ℕ, _+_, _≤_, _<_}
 use native.Mathlib.Omega.{arith}
 use mathlib.Core.Path.{_≡_, refl, sym, _∙_}
 use mathlib.Core.Bool.{Bool, true, false, not, _&&_, false≢true}
-use lib.ListN.{length, drop, getD, length-map, length-set, List·getD-map}
+use lib.ListN.{length, drop, getD, length-map, length-set, List·getD-map, List·getD-eq-default}
 use lib.Dec.{eqb}
-use lib.Seq.{getD-set-same, getD-set-other}
+use lib.Seq.{set-out, set-getD, getD-set-same, getD-set-other}
 use borrow.Author.Tests.{eq-eqb, ne-eqb, eqb-true, eqb-false, not-true}
 use Rattle.checks.proofs.Laws.{and-left, and-right}
 use Rattle.checks.specs.Lists.{first, every, distinct}
@@ -69,6 +69,20 @@ module _ (st : State) where
   pub slot-set-other : (i j : ℕ) (slot : Slot) → (j ≡ i → ⊥) → slotAt (withSlot st i slot) j ≡ slotAt st j
   unfolding slotAt withSlot
   slot-set-other i j slot n = getD-set-other (st .slots) i j slot freeSlot n
+
+  -- a slot that is written as it was read changes nothing
+  pub same-slot : (i : ℕ) → withSlot st i (slotAt st i) ≡ st
+  unfolding withSlot slotAt
+  same-slot i = λ k. record { settings = st .settings; slots = set-getD (st .slots) i freeSlot k }
+
+  -- past the last slot there is nothing: a free slot is read, and nothing is written
+  pub slot-past : (i : ℕ) → length (st .slots) ≡ 8 → 8 ≤ i → freeSlot ≡ slotAt st i
+  unfolding slotAt
+  slot-past i eight h = sym (List·getD-eq-default (st .slots) freeSlot (omega (arith, eight, h)))
+
+  pub with-past : (i : ℕ) (slot : Slot) → length (st .slots) ≡ 8 → 8 ≤ i → st ≡ withSlot st i slot
+  unfolding withSlot
+  with-past i slot eight h = λ k. record { settings = st .settings; slots = sym (set-out (st .slots) i slot (omega (arith, eight, h))) k }
 
   pub slots-length : (i : ℕ) (slot : Slot) → length ((withSlot st i slot) .slots) ≡ length (st .slots)
   unfolding withSlot

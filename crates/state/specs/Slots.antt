@@ -9,9 +9,13 @@ use Rattle.neighbour.specs.Record.{idle}
 use Rattle.state.specs.declared.Slot.{Slot}
 use Rattle.state.specs.declared.State.{State}
 
+-- 01: "Entering Idle zeroes all but address and AS"; a neighbour is added in Idle, without rows
+abbrev pub newcomer : ℕ → ℕ → Slot
+newcomer address asn = record { address = address; asn = asn; neighbour = idle; rows = 0 }
+
 -- 01: "free slots are all zero"; Idle and no mode are the first of their kinds
 unfoldable pub freeSlot : Slot
-freeSlot = record { address = 0; asn = 0; neighbour = idle; rows = 0 }
+freeSlot = newcomer 0 0
 
 unfoldable pub slotAt : State → ℕ → Slot
 slotAt st i = getD (st .slots) i freeSlot

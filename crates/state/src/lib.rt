@@ -1,10 +1,12 @@
 // The gateway's state: its settings and eight slots, check 1, and the look-up of a neighbour.
 ghost use mathlib.Core.Path.{_≡_};
-ghost use Prim.Native.Nat.{_≤_, _<_};
+ghost use mathlib.Core.List.{List};
+ghost use Prim.Native.Nat.{ℕ, _≤_, _<_};
 ghost use lib.ListN.{drop};
 ghost use Rattle.neighbour.specs.Record.{isUp};
 ghost use Rattle.checks.specs.Lists.{every, distinct};
-ghost use Rattle.state.specs.Slots.{freeSlot, slotAt, withSlot, addresses, apart, slotOf, lowestFree};
+ghost use Rattle.state.specs.Slots.{newcomer, freeSlot, slotAt, withSlot, addresses, apart, slotOf, lowestFree};
+ghost use Rattle.state.specs.Places as Places;
 ghost use Rattle.state.specs.Formed.{goodSettings, goodPeer, rowsFormed, freeFormed, usedFormed, slotFormed, stateFormed};
 ghost use Rattle.state.specs.Outcomes.{refusedOf};
 use neighbour::Neighbour;
@@ -13,6 +15,9 @@ use neighbour::Settings;
 
 // 01's number of slots.
 pub const SLOTS: usize = 8;
+
+// The numbers of a slot's rows in the table: 128 rows, three numbers a row.
+pub const SLOT_NUMBERS: usize = 384;
 
 // A slot is free where its address is 0, and then all zero.
 pub struct Slot {
@@ -37,31 +42,52 @@ pub struct Outcome {
     pub state: State,
 }
 
-pub fn free_slot() -> Slot
-    ensures { λ r. ⌜ r ≡ freeSlot ⌝ }
+// A neighbour that is added is Idle.
+pub fn new_slot(address: u32, asn: u16) -> Slot
+    ensures { λ r. ⌜ r ≡ newcomer address asn ⌝ }
 {
     Slot {
-        address: 0,
-        asn: 0,
+        address,
+        asn,
         neighbour: neighbour::to_idle(),
         rows: 0,
     }
 }
 
+pub fn free_slot() -> Slot
+    ensures { λ r. ⌜ r ≡ freeSlot ⌝ }
+{
+    new_slot(0, 0)
+}
+
+// The slot of this index; past the last there is a free one.
 pub fn slot_at(st: State, i: usize) -> Slot
-    requires { ⌜ i < 8 ⌝ }
     ensures { λ r. ⌜ r ≡ slotAt st i ⌝ }
 {
+    if SLOTS <= i {
+        return free_slot();
+    }
     st.slots[i]
 }
 
+// The state with another slot of this index; past the last nothing changes.
 pub fn with_slot(st: State, i: usize, slot: Slot) -> State
-    requires { ⌜ i < 8 ⌝ }
     ensures { λ r. ⌜ r ≡ withSlot st i slot ⌝ }
 {
+    if SLOTS <= i {
+        return st;
+    }
     let mut next = st;
     next.slots[i] = slot;
     next
+}
+
+// The index of slot i's first number in the table, whatever the row counts.
+pub fn place(i: usize) -> usize
+    requires { ⌜ i < 8 ⌝ }
+    ensures { λ r. ⌜ ((counts : List ℕ) → r ≡ Places.place counts i) ⌝ }
+{
+    i * SLOT_NUMBERS
 }
 
 // The index of the used slot with this address, or 8. Address 0 stands in free slots and finds none.

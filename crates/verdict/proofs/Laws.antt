@@ -18,6 +18,10 @@ use Rattle.message.specs.declared.Message.{Message}
 use Rattle.message.specs.declared.Message.the-variants.{Request, Confirm, Refuse, Cease, CeaseAck, Hello, IHeardYou, Poll, Update, Error}
 use Rattle.message.proofs.Message.{the-type}
 use Rattle.wire.specs.Reading.{headerAnswer, asnAt, kindIn, decodeOf}
+use Rattle.wire.specs.Reading as Wire
+use Rattle.wire.specs.declared.Decoded.{Decoded}
+use Rattle.wire.specs.declared.Decoded.the-variants as D
+use Rattle.wire.proofs.Decoded as DecodedType
 use Rattle.walk.specs.Body.{UpdateRead, accepted, brokenAt, tooMany, updateOf, rowsRead}
 use Rattle.walk.specs.Walked.{walkedOf, walkedNumber}
 use Rattle.walk.specs.declared.Walked.the-variants.{Rows, Broken, TooMany}
@@ -36,7 +40,7 @@ use Rattle.calls.specs.Number.{bodyNumber, messageNumber, headAt, errorTo, refu
 use Rattle.calls.specs.declared.Effect.the-variants.{Replace}
 use Rattle.calls.specs.declared.Verdict.{Verdict}
 use Rattle.calls.specs.Ruling.{stepped, refuses, replace, afterMessage, changeBy, carriedOut, receiveRuling, effectOf, verdictOf}
-use Rattle.calls.proofs.Number.{meaningNumber, kindNumber, brings-as, number-kind}
+use Rattle.calls.proofs.Number.{meaningNumber, kindNumber, brings-as, number-header, number-asn, number-kind}
 use Rattle.verdict.specs.Stages.{headNumber, Read, takenUpdate}
 
 -- ---- the stages
@@ -49,6 +53,32 @@ head-passed asn o z = go (eqb (headerAnswer o) 0) refl
     go true e =
         let h = eqb-true (headerAnswer o) 0 e in (h, check-passed (eqb (asnAt o) asn) 9 0 refl (sym (ifOk-new _ _ _ h) ∙ z) .0)
     go false e = let h = eqb-false (headerAnswer o) 0 e in absurd (h (sym (ifOk-old _ _ _ h) ∙ z))
+
+module _ (room : ℕ) (g : Settings) (asn : ℕ) (n : Neighbour) (o : List ℕ) where
+  -- what the stages before a message's meaning refuse
+  pub head-number : (headNumber asn o ≡ 0 → ⊥) → messageNumber room g asn n o ≡ headNumber asn o
+  unfolding headNumber ifOk check
+  head-number z = go (eqb (headerAnswer o) 0) refl (eqb (asnAt o) asn) refl z
+    where
+      go : (b : Bool) → eqb (headerAnswer o) 0 ≡ b → (c : Bool) → eqb (asnAt o) asn ≡ c → (cond b (cond c 0 9) (headerAnswer o) ≡ 0 → ⊥)
+          → messageNumber room g asn n o ≡ cond (eqb (headerAnswer o) 0) (cond (eqb (asnAt o) asn) 0 9) (headerAnswer o)
+      go true e true f y = absurd (y refl)
+      go true e false f y = rw (e, f) (number-asn room g n o asn (eqb-true (headerAnswer o) 0 e) f)
+      go false e c f y = rw e (number-header room g n o asn y)
+
+  pub kind-number : headNumber asn o ≡ 0 → OneOf (1 ∷ 2 ∷ 3 ∷ []) (tagOf DecodedType.the-type (decodeOf o))
+      → (messageNumber room g asn n o ≡ Wire.numberOf (decodeOf o)) × (Wire.numberOf (decodeOf o) ≡ 0 → ⊥)
+  unfolding kindNumber Wire.numberOf
+  kind-number h t =
+      let p = head-passed asn o h in
+      go (decodeOf o) (number-kind room g n o asn (p .0) (p .1)) t
+    where
+      go : (d : Decoded) → messageNumber room g asn n o ≡ kindNumber room g n o d → OneOf (1 ∷ 2 ∷ 3 ∷ []) (tagOf DecodedType.the-type d)
+          → (messageNumber room g asn n o ≡ Wire.numberOf d) × (Wire.numberOf d ≡ 0 → ⊥)
+      go (D.Good m) f k = absurd (miss (1 ∷ 2 ∷ 3 ∷ []) 0 tt k)
+      go D.UnknownKind f k = (f, λ z. absurd (omega (arith, z)))
+      go D.BadStatus f k = (f, λ z. absurd (omega (arith, z)))
+      go D.BadLength f k = (f, λ z. absurd (omega (arith, z)))
 
 -- ---- an Update's blocks
 

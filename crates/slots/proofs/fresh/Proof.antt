@@ -17,7 +17,7 @@ refused-requires c κs = search needs
 
 returns : tie.Need-returns
 unfolding zeroState
-returns c = rw (c .refused .ensures, c .before .empty .ensures) (fresh-16 _ _ _ _ (sym (c .before .before .before .good-settings .ensures) ∙ not-true _ (c .before .before .if1 .taken)))
+returns c = rw (c .refused .ensures, c .before .empty .ensures) (fresh-16 _ (sym (c .before .before .before .good-settings .ensures) ∙ not-true _ (c .before .before .if1 .taken)))
 
 empty-requires-2 : tie.Need-empty-requires-2
 empty-requires-2 c κs = search needs
@@ -26,7 +26,7 @@ carried-out-requires : tie.Need-carried-out-requires
 carried-out-requires c κs = search needs
 
 returns-2 : tie.Need-returns-2
-returns-2 c = rw (c .carried-out .ensures, c .before .empty2 .ensures) (fresh-done _ _ _ _ (sym (c .before .before .before .good-settings .ensures) ∙ not-false _ (c .before .before .if1 .left)))
+returns-2 c = rw (c .carried-out .ensures, c .before .empty2 .ensures) (fresh-done _ (sym (c .before .before .before .good-settings .ensures) ∙ not-false _ (c .before .before .if1 .left)))
 
 pub fresh-spec : {M : Type 1} → statement M
 fresh-spec =

@@ -1,18 +1,32 @@
-use mathlib.Core.Path.{refl}
-use borrow.Author.Needs.{needs}
+use mathlib.Core.Path.{_≡_, refl, _∙_}
+use lib.ListN.{length}
 use Rattle.state.specs.Slots.{withSlot}
+use Rattle.state.proofs.ListLaws.{unmapped}
+use Rattle.state.proofs.SlotLaws.{with-past}
+use borrow.Author.Needs.{needs}
 use Rattle.state.proofs.with_slot.Statement.{statement}
 use Rattle.state.proofs.with_slot.Tie as tie
+use Rattle.state.proofs.with_slot.Reads as reads
+use Rattle.state.proofs.with_slot.Lts as lts
 
+-- src/lib.rt:78:9
+returns : tie.Need-returns
+returns c =
+    let eight : length (c .before .args .st .slots) ≡ 8 = search (needs, unmapped) in
+    with-past (c .before .args .st) (c .before .args .i) (c .before .args .slot) eight (c .if1 .taken)
+
+-- src/lib.rt:81:5
 mul-slot : tie.Need-mul-slot
 mul-slot c = search needs
 
+-- src/lib.rt:81:5
 element-set-from-slot : tie.Need-element-set-from-slot
 element-set-from-slot c = search needs
 
-returns : tie.Need-returns
+-- src/lib.rt:74:1
+returns-2 : tie.Need-returns-2
 unfolding withSlot
-returns c = refl
+returns-2 c = refl
 
 pub with-slot-spec : {M : Type 1} → statement M
-with-slot-spec = tie.close (tie.spec mul-slot element-set-from-slot returns)
+with-slot-spec = tie.close (tie.spec returns mul-slot element-set-from-slot returns-2)

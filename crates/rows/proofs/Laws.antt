@@ -3,21 +3,20 @@ use Prim.Native.Nat.{ℕ, suc, _+_, _*_, _-_, _^_, _≤_, _<_}
 use native.Mathlib.Numerals.{add-one}
 use native.Mathlib.Nat.{add-zero, sub-zero}
 use native.Mathlib.Omega.{arith}
-use borrow.Author.Tests.{leb-false}
+use borrow.Author.Tests.{ltb-false, leb-false}
 use mathlib.Core.Path.{_≡_, refl, sym, ap, subst, _∙_}
 use mathlib.Core.Bool.{true}
 use mathlib.Core.List.{List, [], _∷_, _++_, append-nil}
-use lib.Dec.{leb}
+use lib.Dec.{ltb, leb}
 use lib.ListN.{length, take, drop, getD, set, replicate, length-append, length-replicate, drop-of-length-le}
 use lib.Seq.{sets, length-sets, sets-eq, length-take-le}
 use Rattle.checks.proofs.Laws.{part-from, cond-elim}
 use Rattle.nets.specs.Classes.{netWidth, hostSpan, goodNet}
 use Rattle.nets.specs.Rows.{Row, flat}
 use Rattle.walk.specs.Body.{Got, got, stop, andThen, after, many, bigEndian, leftJustified, netRow, groupRows, hostWidth, gatewayOf, blockRows, bothSides, Walk, whole, broken, blocksOf, updateOf, accepted}
-use Rattle.walk.specs.Walked.{groupNets}
 use Rattle.walk.proofs.Laws.{never, Front, Sounds, front-fits, front-rest, many-next, many-stop, many-none, many-sound, block-sound}
 use Rattle.walk.proofs.Turns.{Stepped, rowAt}
-use Rattle.walk.proofs.Groups.{net-good, Alone, group-alone}
+use Rattle.walk.proofs.Groups.{net-good}
 use Rattle.walk.proofs.Accepted.{Whole, whole-is, accepted-is}
 use Rattle.walk.proofs.Good.{justified-fits, net-of, gateway-fits}
 use Rattle.rows.specs.declared.Put.{Put}
@@ -220,38 +219,31 @@ unfolding isGot gotRows gotRest
 got-of (got rs rest) h = refl
 got-of (stop left) h = never h
 
--- a reading that is the same as another, for storing
-pub same-room : (g y : Got (List Row)) (at : ℕ) (part : List ℕ) → gotRows y ≡ gotRows g → isGot y ≡ isGot g → Room g at part → Room y at part
-same-room g y at part e h r = record { good = h ∙ r .good; fits = rw e (r .fits) }
+-- one group
+module _ (side gateway : ℕ) (t : List ℕ) where
+  pub record Group : Type 0 where
+    pub two : 2 ≤ length t
+    pub is : groupRows side gateway t ≡ many (netRow gateway (side + getD t 0 0)) (getD t 1 0) (drop 2 t)
 
--- one group, whose nets are stored from their part
-module _ (side gateway : ℕ) (t : List ℕ) (at : ℕ) (part : List ℕ) (r : Room (groupRows side gateway t) at part) where
-  pub group-part : Alone side gateway t (gotRows (groupRows side gateway t)) (gotRest (groupRows side gateway t))
-  group-part = group-alone side gateway t _ _ (got-of (groupRows side gateway t) (r .good))
+  pub group-good : isGot (groupRows side gateway t) ≡ true → Group
+  unfolding groupRows isGot
+  group-good h =
+      cond-elim (λ x. isGot x ≡ true → Group) (ltb (length t) 2) _ _ (λ a g. never g)
+      (λ a g. record { two = ltb-false (length t) 2 a; is = rw a }) h
 
-  module _ (inner : List ℕ) (n : inner ≡ groupNets t) where
-    inner-is : many (netRow gateway (side + getD t 0 0)) (getD t 1 0) inner ≡ got (gotRows (groupRows side gateway t)) []
-    inner-is = ap (many (netRow gateway (side + getD t 0 0)) (getD t 1 0)) n ∙ group-part .alone
+  module _ (at : ℕ) (part : List ℕ) (r : Room (groupRows side gateway t) at part) where
+    pub group-two : 2 ≤ length t
+    group-two = (group-good (r .good)) .two
 
-    inner-rows : gotRows (many (netRow gateway (side + getD t 0 0)) (getD t 1 0) inner) ≡ gotRows (groupRows side gateway t)
-    unfolding gotRows
-    inner-rows = ap gotRows inner-is
+    group-is : many (netRow gateway (side + getD t 0 0)) (getD t 1 0) (take (length t - 2) (drop 2 t)) ≡ groupRows side gateway t
+    group-is = rw (part-from 2 t) (sym ((group-good (r .good)) .is))
 
-    pub group-used : length inner + 2 ≤ length t
-    group-used = omega (arith, ap length n, group-part .used)
+    pub group-room : Room (many (netRow gateway (side + getD t 0 0)) (getD t 1 0) (take (length t - 2) (drop 2 t))) at part
+    group-room = rw group-is r
 
-    pub group-room : Room (many (netRow gateway (side + getD t 0 0)) (getD t 1 0) inner) at part
-    unfolding isGot
-    group-room = same-room (groupRows side gateway t) _ at part inner-rows (ap isGot inner-is ∙ sym (r .good)) r
-
-    pub group-stored : (new : List ℕ) (p : Put) → Stored (many (netRow gateway (side + getD t 0 0)) (getD t 1 0) inner) at part new p
-        → Stored (groupRows side gateway t) at part new (record { at = p .at; left = length t - (length inner + 2) })
-    group-stored new p w =
-        record {
-          numbers = w .numbers ∙ ap (λ (l : List Row). sets part at (flat l)) inner-rows;
-          next = w .next ∙ ap (λ (l : List Row). at + 3 * length l) inner-rows;
-          rest = omega (arith, ap length n, group-part .used);
-        }
+    pub group-stored : (new : List ℕ) (p : Put) → Stored (many (netRow gateway (side + getD t 0 0)) (getD t 1 0) (take (length t - 2) (drop 2 t))) at part new p
+        → Stored (groupRows side gateway t) at part new p
+    group-stored new p s = rw group-is at s
 
 -- one block
 module _ (side net : ℕ) (t : List ℕ) where

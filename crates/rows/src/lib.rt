@@ -58,20 +58,14 @@ fn put_nets(part: &mut [u32], at: usize, t: &[u8], count: u8, gateway: u32, thir
     }
 }
 
-// The rows of one distance group, whose nets are a part of the octets.
+// The rows of one distance group, stored as its nets are met: the walk has looked at them once, and they are not looked at between.
 fn put_group(part: &mut [u32], at: usize, t: &[u8], side: u32, gateway: u32) -> Put
     requires { ⌜ Room (groupRows side gateway (now t)) at (now part) ⌝ }
     requires { ⌜ side ≤ 256 ⌝ }
     ensures { λ r. ⌜ Stored (groupRows side gateway (now (t .entry))) at (now (part .entry)) (now (part .exit)) r ⌝ }
 {
-    let inner = walk::group_nets(t);
     let third = side + t[0] as u32;
-    let done = put_nets(part, at, inner, t[1], gateway, third);
-    let used = inner.len() + 2;
-    Put {
-        at: done.at,
-        left: t.len() - used,
-    }
+    put_nets(part, at, &t[2..], t[1], gateway, third)
 }
 
 // The rows of the distance groups of one gateway block.

@@ -214,11 +214,6 @@ clear-done out i n h =
 pub clear-all : (old new : List ℕ) → new ≡ sets old 0 (zeros (length old - 0)) → new ≡ zeros (length old)
 clear-all old new e = e ∙ ap (λ (n : ℕ). sets old 0 (zeros n)) (sub-zero (length old)) ∙ sets-all old (zeros (length old)) (zeros-length (length old))
 
-pub got-of : (g : Got (List Row)) → isGot g ≡ true → g ≡ got (gotRows g) (gotRest g)
-unfolding isGot gotRows gotRest
-got-of (got rs rest) h = refl
-got-of (stop left) h = never h
-
 -- one group
 module _ (side gateway : ℕ) (t : List ℕ) where
   pub record Group : Type 0 where

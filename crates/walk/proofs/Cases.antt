@@ -4,7 +4,8 @@ use mathlib.Core.Path.{_≡_, refl}
 use mathlib.Core.List.{List, [], _∷_, map}
 use Rattle.nets.specs.Classes.{netWidth, hostSpan, goodNet}
 use Rattle.walk.specs.Body.{digits, many, leftJustified, rowOfWidth, netRow, groupRows, hostWidth, gatewayOf, blockRows, bothSides, nothingLeft, bodyOf, further, netAt, blocksOf, accepted, brokenAt, tooMany, judged, updateOf}
-use Rattle.walk.specs.Walked.{walkedOf}
+use Rattle.walk.specs.Walked.{skipOf, taken, groupEnd, groupNets, walkedOf}
+use Rattle.walk.specs.declared.Skip.the-variants.{Past, Stop}
 use Rattle.walk.specs.declared.Walked.the-variants.{Rows, Broken}
 
 pub messages : List (List ℕ)
@@ -59,3 +60,16 @@ pub case-sides : updateOf 128 0 (2 ∷ 1 ∷ 0 ∷ 1 ∷ 179 ∷ 215 ∷ 0 ∷ 7
     ≡ accepted (record { net = 0; gateway = 1; third = 0 } ∷ record { net = 3221159936; gateway = 2; third = 259 } ∷ [])
 unfolding updateOf judged blocksOf netAt further bodyOf nothingLeft bothSides blockRows gatewayOf hostWidth groupRows netRow rowOfWidth leftJustified many digits netWidth hostSpan goodNet
 case-sides = refl
+
+-- one distance group: two nets; no nets, with an octet after it; a first octet of no class; a count that is missing
+pub groups : List (List ℕ)
+groups = (0 ∷ 2 ∷ 10 ∷ 192 ∷ 5 ∷ 6 ∷ []) ∷ (5 ∷ 0 ∷ 7 ∷ []) ∷ (5 ∷ 1 ∷ 224 ∷ []) ∷ (5 ∷ []) ∷ []
+
+-- an empty group and a bad one have the same nets, none, and differ in how far they were read
+pub case-groups : map (λ (t : List ℕ). skipOf (groupRows 0 0 t)) groups ≡ (Past 2 0 ∷ Past 0 1 ∷ Stop 1 ∷ Stop 0 ∷ [])
+unfolding groups skipOf groupRows netRow rowOfWidth leftJustified many digits netWidth hostSpan
+case-groups = refl
+
+pub case-nets : map groupNets groups ≡ ((10 ∷ 192 ∷ 5 ∷ 6 ∷ []) ∷ [] ∷ [] ∷ [] ∷ [])
+unfolding groups groupNets groupEnd taken groupRows netRow rowOfWidth leftJustified many digits netWidth hostSpan
+case-nets = refl

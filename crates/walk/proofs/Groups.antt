@@ -11,7 +11,7 @@ use Rattle.checks.proofs.Laws.{cond-elim}
 use Rattle.nets.specs.Classes.{netWidth}
 use Rattle.nets.specs.Rows.{Row}
 use Rattle.walk.specs.Body.{Got, got, stop, andThen, after, many, leftJustified, rowOfWidth, netRow, groupRows}
-use Rattle.walk.specs.Walked.{taken, groupEnd, groupNets}
+use Rattle.walk.specs.Walked.{taken, groupEnd, groupNets, NetsAlone}
 use Rattle.walk.proofs.Laws.{nonzero, Front, front-fits, front-part, many-sound, net-sound}
 use Rattle.walk.proofs.Turns.{Stepped}
 
@@ -99,6 +99,18 @@ module _ (side gateway : ℕ) where
         alone = ap f (p ∙ sym (append-nil (s .part))) ∙ s .again [];
         used = omega (arith, ap length p, ap length (s .split), length-append (s .part) rest);
       }
+
+no-nets : (t : List ℕ) → groupEnd t ≡ 0 → groupNets t ≡ []
+unfolding groupNets
+no-nets t e = ap (λ (n : ℕ). take (n - 2) (drop 2 t)) e
+
+pub nets-alone : NetsAlone
+unfolding taken
+nets-alone =
+    record {
+      rows = λ side gateway t rs rest e. (group-alone side gateway t rs rest e) .alone;
+      none = λ side gateway t left e. no-nets t (end-any side gateway t ∙ ap (taken t) e);
+    }
 
 -- a net that was read, from its first octet
 module _ (gateway third : ℕ) where

@@ -12,11 +12,11 @@ use Rattle.checks.proofs.Laws.{part-from, cond-elim}
 use Rattle.nets.specs.Classes.{netWidth, goodNet}
 use Rattle.nets.specs.Rows.{Row}
 use Rattle.walk.specs.Body.{Got, got, stop, after, many, leftJustified, rowOfWidth, netRow, groupRows, hostWidth, gatewayOf, blockRows, bothSides, nothingLeft, bodyOf, further, netAt, blocksOf, judged, updateOf, bigEndian, accepted, tooMany}
-use Rattle.walk.specs.Walked.{skipOf, netStep, verdict, WithinEnd, taken, groupEnd, walkedOf}
+use Rattle.walk.specs.Walked.{skipOf, netStep, verdict, WithinEnd, taken, groupEnd, groupNets, walkedOf}
 use Rattle.walk.specs.declared.Skip.{Skip}
 use Rattle.walk.specs.declared.Skip.the-variants.{Past, Stop}
 use Rattle.walk.specs.declared.Walked.the-variants.{Rows, Broken, TooMany}
-use Rattle.walk.proofs.Laws.{nonzero, width-small, Sound, Sounds, front-fits, front-rest, many-next, many-stop, many-none, many-sound, block-sound, sides-sound}
+use Rattle.walk.proofs.Laws.{nonzero, width-small, Sound, Sounds, front-fits, front-rest, many-next, many-stop, many-none, many-sound, net-sound, block-sound, sides-sound}
 
 -- so many rows more
 unfoldable pub plus : ℕ → Skip → Skip
@@ -193,15 +193,6 @@ module _ (t : List ℕ) where
 
 -- the nets of one group
 module _ (t : List ℕ) where
-  taken-within : (g : Got (List Row)) → taken t g ≤ length t
-  unfolding taken
-  taken-within (got rs rest) = omega arith
-  taken-within (stop left) = zero-le
-
-  pub end-within : groupEnd t ≤ length t
-  unfolding groupEnd
-  end-within = taken-within (groupRows 0 0 t)
-
   pub end-stop : (left : ℕ) → skipOf (groupRows 0 0 t) ≡ Stop left → 0 ≡ groupEnd t
   unfolding groupEnd taken
   end-stop left e = rw (stopped (groupRows 0 0 t) left e)
@@ -214,6 +205,34 @@ module _ (t : List ℕ) where
   pub end-past : (m left : ℕ) → skipOf (groupRows 0 0 t) ≡ Past m left → length t - left ≡ groupEnd t
   unfolding groupEnd
   end-past m left e = past-taken (groupRows 0 0 t) m left e
+
+  -- a group that was passed has its distance and its number of nets
+  pub past-two : (m left : ℕ) → skipOf (groupRows 0 0 t) ≡ Past m left → 2 + left ≤ length t
+  unfolding groupRows skipOf
+  past-two m left e =
+      let f = netRow 0 (0 + getD t 0 0) in
+      cond-elim (λ (g : Got (List Row)). skipOf g ≡ Past m left → 2 + left ≤ length t) (ltb (length t) 2) _ _
+      (λ a h. let z : _≡_ {A = ℕ} 0 1 = cc in absurd (omega arith))
+      (λ a h. omega (
+        arith,
+        ltb-false (length t) 2 a,
+        length-drop 2 t,
+        (passed (many f (getD t 1 0)) (drop 2 t) (many f (getD t 1 0) (drop 2 t)) m left (many-sound f (net-sound 0 (0 + getD t 0 0)) (getD t 1 0) (drop 2 t)) h) .fits,
+      ))
+      e
+
+  module _ (s : Skip) (k : s ≡ skipOf (groupRows 0 0 t)) where
+    module _ (m left : ℕ) (e : s ≡ Past m left) where
+      pub nets-two : 2 + left ≤ length t
+      nets-two = past-two m left (sym k ∙ e)
+
+      pub nets-past : take (length t - left - 2) (drop 2 t) ≡ groupNets t
+      unfolding groupNets
+      nets-past = ap (λ (n : ℕ). take (n - 2) (drop 2 t)) (end-past m left (sym k ∙ e))
+
+    pub nets-stop : (left : ℕ) → s ≡ Stop left → [] ≡ groupNets t
+    unfolding groupNets
+    nets-stop left e = ap (λ (n : ℕ). take (n - 2) (drop 2 t)) (end-stop left (sym k ∙ e))
 
 -- both sides
 module _ (net internal external : ℕ) (t : List ℕ) where

@@ -3,8 +3,8 @@ use Prim.Native.Nat.{ℕ}
 use mathlib.Core.Path.{_≡_, refl}
 use mathlib.Core.List.{List, [], _∷_, map}
 use Rattle.nets.specs.Classes.{netWidth, hostSpan, goodNet}
-use Rattle.walk.specs.Body.{digits, many, leftJustified, rowOfWidth, netRow, groupRows, hostWidth, gatewayOf, blockRows, bothSides, nothingLeft, bodyOf, further, netAt, blocksOf, accepted, brokenAt, tooMany, judged, updateOf}
-use Rattle.walk.specs.Walked.{skipOf, taken, groupEnd, groupNets, walkedOf}
+use Rattle.walk.specs.Body.{digits, many, leftJustified, rowOfWidth, netRow, groupRows, hostWidth, gatewayOf, blockRows, bothSides, nothingLeft, bodyOf, further, netAt, blocksOf, accepted, brokenAt, tooMany, judged, updateOf, walkedOf}
+use Rattle.walk.specs.Walked.{skipOf, taken, groupEnd, groupNets}
 use Rattle.walk.specs.declared.Skip.the-variants.{Past, Stop}
 use Rattle.walk.specs.declared.Walked.the-variants.{Rows, Broken}
 
@@ -38,7 +38,7 @@ messages =
 
 pub cases : map (λ (m : List ℕ). walkedOf (updateOf 128 2148073472 m)) messages
     ≡ (Rows 2 ∷ Broken 24 ∷ Broken 22 ∷ Broken 25 ∷ Rows 0 ∷ Broken 16 ∷ Rows 0 ∷ Broken 16 ∷ Broken 17 ∷ Broken 20 ∷ Broken 12 ∷ Broken 15 ∷ [])
-unfolding updateOf judged blocksOf netAt further bodyOf nothingLeft bothSides blockRows gatewayOf hostWidth groupRows netRow rowOfWidth leftJustified many digits netWidth hostSpan goodNet messages walkedOf
+unfolding updateOf judged blocksOf netAt further bodyOf nothingLeft bothSides blockRows gatewayOf hostWidth groupRows netRow rowOfWidth leftJustified many digits netWidth hostSpan goodNet messages
 cases = refl
 
 -- U's two rows, internal; one row more than there is room for; a bad common net

@@ -11,8 +11,8 @@ use lib.ListN.{length, take, drop, getD, length-append, length-drop}
 use Rattle.checks.proofs.Laws.{part-from, cond-elim}
 use Rattle.nets.specs.Classes.{netWidth, goodNet}
 use Rattle.nets.specs.Rows.{Row}
-use Rattle.walk.specs.Body.{Got, got, stop, after, many, leftJustified, rowOfWidth, netRow, groupRows, hostWidth, gatewayOf, blockRows, bothSides, nothingLeft, bodyOf, further, netAt, blocksOf, judged, updateOf, bigEndian, accepted, tooMany}
-use Rattle.walk.specs.Walked.{skipOf, netStep, verdict, WithinEnd, taken, groupEnd, groupNets, walkedOf}
+use Rattle.walk.specs.Body.{Got, got, stop, after, many, leftJustified, rowOfWidth, netRow, groupRows, hostWidth, gatewayOf, blockRows, bothSides, nothingLeft, bodyOf, further, netAt, blocksOf, judged, updateOf, bigEndian, accepted, tooMany, walkedOf}
+use Rattle.walk.specs.Walked.{skipOf, netStep, verdict, WithinEnd, taken, groupEnd, groupNets}
 use Rattle.walk.specs.declared.Skip.{Skip}
 use Rattle.walk.specs.declared.Skip.the-variants.{Past, Stop}
 use Rattle.walk.specs.declared.Walked.the-variants.{Rows, Broken, TooMany}
@@ -278,29 +278,28 @@ pub within-end : (end : ℕ) (s : Skip) (f : List ℕ → Got (List Row)) (t : L
 within-end end s f t g e k h = rw e (within end f t g k h)
 
 counted : (b : Bool) (rs : List Row) → cond b (Rows (length rs)) TooMany ≡ walkedOf (cond b (accepted rs) tooMany)
-unfolding walkedOf
 counted true rs = refl
 counted false rs = refl
 
 -- the whole message, from what the walk of its blocks came to
 module _ (room net : ℕ) (message : List ℕ) where
   pub walk-short : length message < 16 → Broken (length message) ≡ walkedOf (updateOf room net message)
-  unfolding updateOf blocksOf judged walkedOf
+  unfolding updateOf blocksOf judged
   walk-short h = rw (lt-ltb (length message) 16 h)
 
   module _ (h : 16 ≤ length message) where
     pub walk-classless : false ≡ goodNet net → Broken 12 ≡ walkedOf (updateOf room net message)
-    unfolding updateOf blocksOf judged walkedOf
+    unfolding updateOf blocksOf judged
     walk-classless g = rw (le-ltb (length message) 16 h, ← g)
 
     module _ (g : true ≡ goodNet net) where
       pub walk-other : (said : ℕ) → said ≡ bigEndian (take 4 (drop 12 message)) → (said ≡ net → ⊥) → Broken 12 ≡ walkedOf (updateOf room net message)
-      unfolding updateOf blocksOf judged walkedOf netAt
+      unfolding updateOf blocksOf judged netAt
       walk-other said e n = rw (le-ltb (length message) 16 h, ← g, ← e, ne-eqb said net n)
 
       judge-is : (y : Got (List Row)) → WithinEnd (length (drop 16 message)) (skipOf y)
           → verdict (length message) room (skipOf y) ≡ walkedOf (judged room (further 16 (nothingLeft (length (drop 16 message)) y)))
-      unfolding verdict skipOf walkedOf judged further nothingLeft
+      unfolding verdict skipOf judged further nothingLeft
       judge-is (got rs []) b = counted (leb (length rs) room) rs
       judge-is (got rs (o ∷ rest)) b =
           let e : length message - suc (length rest) ≡ length (drop 16 message) - suc (length rest) + 16 = omega (arith, length-drop 16 message) in

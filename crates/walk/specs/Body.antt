@@ -6,6 +6,8 @@ use lib.Dec.{ltb, leb, eqb}
 use lib.ListN.{length, take, drop, getD}
 use Rattle.nets.specs.Classes.{netWidth, widthOf, hostSpan, goodNet}
 use Rattle.nets.specs.Rows.{Row}
+use Rattle.walk.specs.declared.Walked.{Walked}
+use Rattle.walk.specs.declared.Walked.the-variants.{Rows, Broken, TooMany}
 
 -- 01: "All numbers are big-endian": the number n, continued by these octets
 unfoldable pub digits : ℕ → List ℕ → ℕ
@@ -118,11 +120,20 @@ judged room (broken offset) = brokenAt offset
 unfoldable pub updateOf : ℕ → ℕ → List ℕ → UpdateRead
 updateOf room net message = judged room (blocksOf net message)
 
--- 01's answer numbers 0, 14 and 15
+-- how many rows an Update has, or the offset where it breaks: the answer that the code gives
+abbrev pub walkedOf : UpdateRead → Walked
+walkedOf (accepted rs) = Rows (length rs)
+walkedOf (brokenAt offset) = Broken offset
+walkedOf tooMany = TooMany
+
+-- 01's answer numbers 0, 14 and 15, one for each case of that answer
+abbrev pub walkedNumber : Walked → ℕ
+walkedNumber (Rows count) = 0
+walkedNumber (Broken offset) = 14
+walkedNumber TooMany = 15
+
 unfoldable pub numberOf : UpdateRead → ℕ
-numberOf (accepted rs) = 0
-numberOf (brokenAt offset) = 14
-numberOf tooMany = 15
+numberOf update = walkedNumber (walkedOf update)
 
 -- the rows of an accepted Update, none otherwise
 unfoldable pub rowsRead : UpdateRead → List Row

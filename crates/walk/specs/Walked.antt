@@ -7,7 +7,7 @@ use lib.Dec.{ltb, leb, eqb}
 use lib.ListN.{length, take, drop, getD}
 use Rattle.nets.specs.Classes.{netWidth}
 use Rattle.nets.specs.Rows.{Row}
-use Rattle.walk.specs.Body.{Got, got, stop, many, netRow, groupRows, UpdateRead, accepted, brokenAt, tooMany}
+use Rattle.walk.specs.Body.{Got, got, stop, many, netRow, groupRows}
 use Rattle.walk.specs.declared.Skip.{Skip}
 use Rattle.walk.specs.declared.Skip.the-variants.{Past, Stop}
 use Rattle.walk.specs.declared.Walked.{Walked}
@@ -42,22 +42,10 @@ pub record NetsAlone : Type 0 where
   -- and a bad group has none, whatever side and gateway are
   pub none : (side gateway : ℕ) (t : List ℕ) (left : ℕ) → groupRows side gateway t ≡ stop left → groupNets t ≡ []
 
--- how many rows an Update has, or the offset where it breaks
-unfoldable pub walkedOf : UpdateRead → Walked
-walkedOf (accepted rs) = Rows (length rs)
-walkedOf (brokenAt offset) = Broken offset
-walkedOf tooMany = TooMany
-
--- the same from what the walk counted, the message's end and the room for rows
+-- what the walk answers, from what it counted, the message's end and the room for rows
 unfoldable pub verdict : ℕ → ℕ → Skip → Walked
 verdict end room (Past count left) = cond (eqb left 0) (cond (leb count room) (Rows count) TooMany) (Broken (end - left))
 verdict end room (Stop left) = Broken (end - left)
-
--- 01's answer numbers 0, 14 and 15
-unfoldable pub walkedNumber : Walked → ℕ
-walkedNumber (Rows count) = 0
-walkedNumber (Broken offset) = 14
-walkedNumber TooMany = 15
 
 -- the octets that are left stand before the end
 abbrev pub WithinEnd : ℕ → Skip → Type 0

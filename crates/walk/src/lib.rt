@@ -2,11 +2,11 @@
 ghost use mathlib.Core.Path.{_≡_};
 ghost use Prim.Native.Nat.{ℕ, _^_, _≤_, _<_};
 ghost use lib.ListN.{length};
-ghost use Rattle.walk.specs.Body.{bigEndian, many, netRow, groupRows, hostWidth, blockRows, bothSides, updateOf};
-ghost use Rattle.walk.specs.Walked.{skipOf, netStep, groupNets, verdict, walkedOf, WithinEnd};
+ghost use Rattle.walk.specs.Body.{bigEndian, many, netRow, groupRows, hostWidth, blockRows, bothSides, updateOf, walkedOf};
+ghost use Rattle.walk.specs.Walked.{skipOf, netStep, groupNets, verdict, WithinEnd};
 
 // How far a part of the walk came: past so many rows, or to a stop; and how many octets are left there.
-pub enum Skip {
+enum Skip {
     Past { rows: usize, left: usize },
     Stop(usize),
 }
@@ -19,9 +19,9 @@ pub enum Walked {
 }
 
 // The nets of one distance group as a part of the received octets, and how far the group was read.
-pub struct Nets<'a> {
-    pub octets: &'a [u8],
-    pub skip: Skip,
+struct Nets<'a> {
+    octets: &'a [u8],
+    skip: Skip,
 }
 
 // The number that at most four octets make, big-endian.
@@ -111,7 +111,7 @@ fn nets_of(t: &[u8], skip: Skip) -> &[u8]
 }
 
 // The nets of the distance group at the front, uncopied, and whether it is good: a group of no nets is `Past` with 0 rows, a bad one a `Stop`.
-pub fn group_nets<'a>(t: &'a [u8]) -> Nets<'a>
+fn group_nets<'a>(t: &'a [u8]) -> Nets<'a>
     ensures { λ r. ⌜ (now (r .octets) ≡ groupNets (now (t .entry))) × ((side gateway : ℕ) → r .skip ≡ skipOf (groupRows side gateway (now (t .entry)))) ⌝ }
 {
     let skip = read_group(t);

@@ -1,4 +1,3 @@
-use Rattle.walk.specs.Walked.{walkedNumber}
 use borrow.Author.Needs.{needs}
 use Rattle.codec.proofs.body_number.Statement.{statement}
 use Rattle.codec.proofs.body_number.Tie as tie
@@ -19,17 +18,14 @@ enum-told-3 c = search needs
 
 -- src/lib.rt:150:1
 returns : tie.Need-returns
-unfolding walkedNumber
 returns c = rw (c .enum-told .given .1)
 
 -- src/lib.rt:150:1
 returns-2 : tie.Need-returns-2
-unfolding walkedNumber
 returns-2 c = rw (c .enum-told2 .given .1)
 
 -- src/lib.rt:150:1
 returns-3 : tie.Need-returns-3
-unfolding walkedNumber
 returns-3 c = rw (c .enum-told3 .given .1)
 
 pub body-number-spec : {M : Type 1} → statement M

@@ -14,6 +14,7 @@ use Rattle.checks.proofs.Laws.{part-from, cond-elim}
 use Rattle.nets.specs.Classes.{netWidth, hostSpan, goodNet}
 use Rattle.nets.specs.Rows.{Row, flat}
 use Rattle.walk.specs.Body.{Got, got, stop, andThen, after, many, bigEndian, leftJustified, netRow, groupRows, hostWidth, gatewayOf, blockRows, bothSides, Walk, whole, broken, blocksOf, updateOf, accepted}
+use Rattle.walk.proofs.Flat.{group-rows, block-rows, both-sides}
 use Rattle.walk.proofs.Laws.{never, Front, Sounds, front-fits, front-rest, many-next, many-stop, many-none, many-sound, block-sound}
 use Rattle.walk.proofs.Turns.{Stepped, rowAt}
 use Rattle.walk.proofs.Groups.{net-good}
@@ -221,10 +222,10 @@ module _ (side gateway : ℕ) (t : List ℕ) where
     pub is : groupRows side gateway t ≡ many (netRow gateway (side + getD t 0 0)) (getD t 1 0) (drop 2 t)
 
   pub group-good : isGot (groupRows side gateway t) ≡ true → Group
-  unfolding groupRows isGot
+  unfolding isGot
   group-good h =
       cond-elim (λ x. isGot x ≡ true → Group) (ltb (length t) 2) _ _ (λ a g. never g)
-      (λ a g. record { two = ltb-false (length t) 2 a; is = rw a }) h
+      (λ a g. record { two = ltb-false (length t) 2 a; is = group-rows side gateway t ∙ rw a }) (rw (group-rows side gateway t) at h)
 
   module _ (at : ℕ) (part : List ℕ) (r : Room (groupRows side gateway t) at part) where
     pub group-two : 2 ≤ length t
@@ -247,11 +248,11 @@ module _ (side net : ℕ) (t : List ℕ) where
     pub is : blockRows side net t ≡ many (groupRows side (gatewayOf net t)) (getD t (hostWidth net) 0) (drop (hostWidth net + 1) t)
 
   pub block-good : isGot (blockRows side net t) ≡ true → Block
-  unfolding blockRows isGot
+  unfolding isGot
   block-good h =
       let w = hostWidth net in
       cond-elim (λ x. isGot x ≡ true → Block) (leb (length t) w) _ _ (λ a g. never g)
-      (λ a g. record { some = leb-false (length t) w a; is = rw a }) h
+      (λ a g. record { some = leb-false (length t) w a; is = block-rows side net t ∙ rw a }) (rw (block-rows side net t) at h)
 
   module _ (at : ℕ) (part : List ℕ) (r : Room (blockRows side net t) at part) (host : ℕ) (w : host ≡ hostWidth net) where
     pub block-some : host < length t
@@ -295,8 +296,7 @@ pub record Halves (net internal external : ℕ) (t : List ℕ) (rs : List Row) :
   pub rows : rs ≡ inside ++ outside
 
 pub halves : (net internal external : ℕ) (t : List ℕ) (rs : List Row) → bothSides net internal external t ≡ got rs [] → Halves net internal external t rs
-unfolding bothSides
-halves net internal external t rs e = go (many (blockRows 0 net) internal t) refl e
+halves net internal external t rs e = go (many (blockRows 0 net) internal t) refl (rw (both-sides net internal external t) at e)
   where
     go : (g : Got (List Row)) → many (blockRows 0 net) internal t ≡ g → andThen g (λ xs rest. after xs (many (blockRows 256 net) external rest)) ≡ got rs []
         → Halves net internal external t rs

@@ -16,6 +16,7 @@ use Rattle.walk.specs.Walked.{skipOf, netStep, verdict, WithinEnd, taken
 use Rattle.walk.specs.declared.Skip.{Skip}
 use Rattle.walk.specs.declared.Skip.the-variants.{Past, Stop}
 use Rattle.walk.specs.declared.Walked.the-variants.{Rows, Broken, TooMany}
+use Rattle.walk.proofs.Flat.{group-rows, block-rows, both-sides}
 use Rattle.walk.proofs.Laws.{nonzero, width-small, Sound, Sounds, front-fits, front-rest, many-next, many-stop, many-none, many-sound, net-sound, block-sound, sides-sound}
 
 -- so many rows more
@@ -173,23 +174,21 @@ module _ (end : ℕ) (s : Skip) (left : ℕ) (e : s ≡ Stop left) where
 -- one group and one block, from what the walk of their parts came to
 module _ (t : List ℕ) where
   pub group-short : length t < 2 → (side gateway : ℕ) → Stop 0 ≡ skipOf (groupRows side gateway t)
-  unfolding groupRows skipOf
-  group-short h side gateway = rw (lt-ltb (length t) 2 h)
+  unfolding skipOf
+  group-short h side gateway = rw (group-rows side gateway t, lt-ltb (length t) 2 h)
 
   pub group-skips : (s : Skip) → 2 ≤ length t → ((gateway third : ℕ) → s ≡ skipOf (many (netRow gateway third) (getD t 1 0) (take (length t - 2) (drop 2 t))))
       → (side gateway : ℕ) → s ≡ skipOf (groupRows side gateway t)
-  unfolding groupRows
-  group-skips s h e side gateway = rw (le-ltb (length t) 2 h) (rw (part-from 2 t) at (e gateway (side + getD t 0 0)))
+  group-skips s h e side gateway = rw (group-rows side gateway t, le-ltb (length t) 2 h) (rw (part-from 2 t) at (e gateway (side + getD t 0 0)))
 
   pub block-short : (net host : ℕ) → host ≡ hostWidth net → length t ≤ host → (side : ℕ) → Stop 0 ≡ skipOf (blockRows side net t)
-  unfolding blockRows skipOf
-  block-short net host w h side = rw (← w, le-leb (length t) host h)
+  unfolding skipOf
+  block-short net host w h side = rw (block-rows side net t, ← w, le-leb (length t) host h)
 
   pub block-skips : (s : Skip) (net host : ℕ) → host ≡ hostWidth net → host < length t
       → ((side gateway : ℕ) → s ≡ skipOf (many (groupRows side gateway) (getD t host 0) (take (length t - (host + 1)) (drop (host + 1) t))))
       → (side : ℕ) → s ≡ skipOf (blockRows side net t)
-  unfolding blockRows
-  block-skips s net host w h e side = rw (← w, lt-leb (length t) host h) (rw (part-from (host + 1) t) at (e side (gatewayOf net t)))
+  block-skips s net host w h e side = rw (block-rows side net t, ← w, lt-leb (length t) host h) (rw (part-from (host + 1) t) at (e side (gatewayOf net t)))
 
 -- the nets of one group
 module _ (t : List ℕ) where
@@ -208,7 +207,7 @@ module _ (t : List ℕ) where
 
   -- a group that was passed has its distance and its number of nets
   pub past-two : (m left : ℕ) → skipOf (groupRows 0 0 t) ≡ Past m left → 2 + left ≤ length t
-  unfolding groupRows skipOf
+  unfolding skipOf
   past-two m left e =
       let f = netRow 0 (0 + getD t 0 0) in
       cond-elim (λ (g : Got (List Row)). skipOf g ≡ Past m left → 2 + left ≤ length t) (ltb (length t) 2) _ _
@@ -219,7 +218,7 @@ module _ (t : List ℕ) where
         length-drop 2 t,
         (passed (many f (getD t 1 0)) (drop 2 t) (many f (getD t 1 0) (drop 2 t)) m left (many-sound f (net-sound 0 (0 + getD t 0 0)) (getD t 1 0) (drop 2 t)) h) .fits,
       ))
-      e
+      (rw (group-rows 0 0 t) at e)
 
   module _ (s : Skip) (k : s ≡ skipOf (groupRows 0 0 t)) where
     module _ (m left : ℕ) (e : s ≡ Past m left) where
@@ -237,8 +236,8 @@ module _ (t : List ℕ) where
 -- both sides
 module _ (net internal external : ℕ) (t : List ℕ) where
   pub sides-stop : (left : ℕ) → skipOf (many (blockRows 0 net) internal t) ≡ Stop left → Stop left ≡ skipOf (bothSides net internal external t)
-  unfolding bothSides skipOf
-  sides-stop left e = rw (stopped (many (blockRows 0 net) internal t) left e)
+  unfolding skipOf
+  sides-stop left e = rw (both-sides net internal external t, stopped (many (blockRows 0 net) internal t) left e)
 
   module _ (m left : ℕ) (e : skipOf (many (blockRows 0 net) internal t) ≡ Past m left) where
     pub sides-room : m + left ≤ length t
@@ -246,12 +245,11 @@ module _ (net internal external : ℕ) (t : List ℕ) where
 
     sides-is : (y : Skip) → y ≡ skipOf (many (blockRows 256 net) external (take (length t - (length t - left)) (drop (length t - left) t)))
         → skipOf (bothSides net internal external t) ≡ plus m y
-    unfolding bothSides
     sides-is y h =
         let p = passed _ t _ m left (many-sound (blockRows 0 net) (block-sound 0 net) internal t) e in
         let g = many (blockRows 256 net) external (drop (length t - left) t) in
         let k : y ≡ skipOf (many (blockRows 256 net) external (drop (length t - left) t)) = rw (part-from (length t - left) t) at h in
-        rw (p .is) (plus-zero (skipOf (after (p .items) g)) ∙ plus-after 0 (p .items) g ∙ ap (λ (n : ℕ). plus n (skipOf g)) (zero-add (length (p .items)) ∙ p .count) ∙ ap (plus m) (sym k))
+        rw (both-sides net internal external t, p .is) (plus-zero (skipOf (after (p .items) g)) ∙ plus-after 0 (p .items) g ∙ ap (λ (n : ℕ). plus n (skipOf g)) (zero-add (length (p .items)) ∙ p .count) ∙ ap (plus m) (sym k))
 
     pub sides-stop-2 : (y : Skip) (left′ : ℕ) → y ≡ skipOf (many (blockRows 256 net) external (take (length t - (length t - left)) (drop (length t - left) t)))
         → y ≡ Stop left′ → y ≡ skipOf (bothSides net internal external t)

@@ -157,7 +157,7 @@ pub data UpdateRead : Type 0 where
   brokenAt : ℕ → UpdateRead
   tooMany : UpdateRead
 
--- 01: "such an Update, otherwise good, of more than 128 rows", room being 128
+-- 01: "such an Update, otherwise good, of more than 128 rows", room being the rows that may be accepted
 unfoldable pub judged : ℕ → Walk → UpdateRead
 judged room (whole rs) = cond (leb (length rs) room) (accepted rs) tooMany
 judged room (broken offset) = brokenAt offset

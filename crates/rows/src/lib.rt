@@ -11,9 +11,9 @@ ghost use Rattle.walk.specs.Body.{many, leftJustified, netRow, groupRows, block
 ghost use Rattle.rows.specs.Storing.{zeros, padded, Storable, Room, Stored, rowsIn};
 
 // Where the next number goes, and how many octets are left.
-pub struct Put {
-    pub at: usize,
-    pub left: usize,
+struct Put {
+    at: usize,
+    left: usize,
 }
 
 // The net of this width at the front, left justified.

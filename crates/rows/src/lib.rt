@@ -58,7 +58,7 @@ fn put_nets(part: &mut [u32], at: usize, t: &[u8], count: u8, gateway: u32, thir
     }
 }
 
-// The rows of one distance group, stored as its nets are met: the walk has looked at them once, and they are not looked at between.
+// The rows of one distance group, each stored as its net is met: its end is not looked for first.
 fn put_group(part: &mut [u32], at: usize, t: &[u8], side: u32, gateway: u32) -> Put
     requires { ⌜ Room (groupRows side gateway (now t)) at (now part) ⌝ }
     requires { ⌜ side ≤ 256 ⌝ }

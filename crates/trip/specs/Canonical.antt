@@ -1,4 +1,4 @@
--- Which Updates are grouped, by their blocks and groups as they were sent. Nothing here refers to what the writer writes.
+-- Which Updates are grouped, by their blocks and groups as sent. Nothing here refers to what the writer writes.
 use Prim.Native.Nat.{ℕ}
 use mathlib.Core.Bool.{Bool, true, false, not, _&&_}
 use mathlib.Core.List.{List, [], _∷_}

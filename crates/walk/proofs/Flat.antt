@@ -1,4 +1,4 @@
--- The rows of groups and blocks, read one after the other: what the flattening of the structured reading comes to. Assumes nothing.
+-- What the flattening of the structured reading comes to: rows read one after the other. Assumes nothing.
 use Prim.Native.Nat.{ℕ, zero, suc, _+_}
 use mathlib.Core.Path.{_≡_, refl, sym, ap, _∙_}
 use mathlib.Core.Bool.{Bool, true, false, cond}

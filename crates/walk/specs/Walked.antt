@@ -31,11 +31,12 @@ taken t (stop left) = 0
 unfoldable pub groupEnd : List ℕ → ℕ
 groupEnd t = taken t (groupRows 0 0 t)
 
--- 01: "The nets of one distance are handed back as a part of the received octets"; none where the group is bad, which `skipOf` of its reading tells
+-- 01: "The nets of one distance are handed back as a part of the received octets"; none where the group is bad,
+-- which `skipOf` of its reading tells
 unfoldable pub groupNets : List ℕ → List ℕ
 groupNets t = take (groupEnd t - 2) (drop 2 t)
 
--- the part is the nets and nothing else: read alone it gives the group's rows, and nothing is left. The proof is in proofs/Groups.antt
+-- the part is the nets and nothing else: read alone it gives the group's rows, and nothing is left (proofs/Groups)
 pub record NetsAlone : Type 0 where
   pub rows : (side gateway : ℕ) (t : List ℕ) (rs : List Row) (rest : List ℕ) → groupRows side gateway t ≡ got rs rest
       → many (netRow gateway (side + getD t 0 0)) (getD t 1 0) (groupNets t) ≡ got rs []

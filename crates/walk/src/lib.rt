@@ -2,7 +2,7 @@
 ghost use mathlib.Core.Path.{_≡_};
 ghost use Prim.Native.Nat.{ℕ, _^_, _≤_, _<_};
 ghost use lib.ListN.{length};
-ghost use Rattle.walk.specs.Body.{bigEndian, many, netRow, groupRows, hostWidth, blockRows, bothSides, updateOf, walkedOf};
+ghost use Rattle.walk.specs.Body.{bigEndian, many, netRow, groupRows, hostWidth, blockRows, bothSides, updateOf, walkedOf, walkedNumber};
 ghost use Rattle.walk.specs.Walked.{skipOf, netStep, groupNets, verdict, WithinEnd};
 
 // How far a part of the walk came: past so many rows, or to a stop; and how many octets are left there.
@@ -110,7 +110,8 @@ fn nets_of(t: &[u8], skip: Skip) -> &[u8]
     }
 }
 
-// The nets of the distance group at the front, uncopied, and whether it is good: a group of no nets is `Past` with 0 rows, a bad one a `Stop`.
+// The nets of the distance group at the front, uncopied, and whether it is good: a group of no nets is `Past` with
+// 0 rows, a bad one a `Stop`.
 fn group_nets<'a>(t: &'a [u8]) -> Nets<'a>
     ensures { λ r. ⌜ (now (r .octets) ≡ groupNets (now (t .entry))) × ((side gateway : ℕ) → r .skip ≡ skipOf (groupRows side gateway (now (t .entry)))) ⌝ }
 {
@@ -251,4 +252,15 @@ pub fn walk(net: u32, message: &[u8], room: usize) -> Walked
     }
     let s = skip_sides(net, message[10], message[11], &message[16..]);
     judge(end, room, s)
+}
+
+// 01's number for what the walk found.
+pub fn number_of(walked: Walked) -> u8
+    ensures { λ r. ⌜ r ≡ walkedNumber walked ⌝ }
+{
+    match walked {
+        Walked::Rows(_) => 0,
+        Walked::Broken(_) => 14,
+        Walked::TooMany => 15,
+    }
 }

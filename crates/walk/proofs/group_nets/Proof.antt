@@ -1,5 +1,6 @@
--- `walk::group_nets` meets its contract: a walk of its MIR, by hand, since its result holds a part of the octets. All that the proof knows of `read_group` and of `nets_of` is that each meets its contract.
--- A `&[u8]` and a `Skip` are Copy: what each owns is had twice, once for the call of `nets_of`, and once for the exit and inside the result.
+-- `walk::group_nets` meets its contract: a walk of its MIR, by hand, since its result holds a part of the octets.
+-- All that the proof knows of `read_group` and of `nets_of` is that each meets its contract.
+-- A `&[u8]` and a `Skip` are Copy: what each owns is had twice, for the call of `nets_of`, and for exit and result.
 -- Assumes nothing.
 use mathlib.Core.Path.{_≡_, refl}
 use Prim.Native.Nat.{ℕ}
@@ -178,7 +179,7 @@ module _ {M : Type 1} (𝓤 : URA M) (H : Heap 𝓤) (A : Atoms 𝓤) (W : Given
         calls-at ! fm (NetsOf 𝓤 H A mem run) known-nets (to-nets r u) (and-then ! (load ! (from ! (stop !)) (look ! 7 refl)) (and-then ! (load ! (from ! (stop !)) (look ! 5 refl)) (no-more !))) (λ w.
         use1 W (later (some (λ (p : RefT (List ℕ)). ((‵ (flft κ q) ⊛ ‵ ftrue) ⊛ ‵ (Held p w)) ⊛ raw (ensured 𝓤 H A nets-of.ended (nets-of.clauses 𝓤 H A mem run) (κ, tt) (s, (r, tt)) tt p)))) (id⊢ 𝓤 _) $ await ! tt $ pick ! (λ p.
         split ! $ move ! (1 ∷ []) $ use1 W (raw (fact 𝓤 (Part p))) (nets-said r p) $ heard ! (Part p) (λ e′. split ! $ move ! (1 ∷ []) $
-        -- [what the part owns; the token; what s owns; what the skip owns; room for _3; …; _2; …; _1; …; room for _0; …]
+        -- [what the part owns; the token; what s owns; what the skip owns; room for _3; …; _2; …; _1; …; _0; …]
         peeks ! (ShrSlice (named 0) κ u8) (Is (ShrSlice (named 0) κ u8)) (shows 𝓤 H A (ShrSlice (named 0) κ u8)) p (w ∷ []) (λ is′.
         land ! (from ! (stop !)) (init ! 4 refl (shr-slice-lawful 𝓤 H A W erased κ u8 .typed p (w ∷ []) is′ .0)) $
         move ! (0 ∷ 3 ∷ []) $ use2 W (‵ (Made p r w u)) (shut p r w u) $

@@ -1,5 +1,6 @@
--- `walk::reach` meets its contract: a walk of its MIR, by hand, since its parameter holds a part of the octets. The skip that the struct holds is handed back.
--- The struct is Copy: what it owns is had twice, one copy is kept whole for the exit, and of the other what the skip owns is taken, for the result.
+-- `walk::reach` meets its contract: a walk of its MIR, by hand, since its parameter holds a part of the octets.
+-- The skip that the struct holds is handed back. The struct is Copy: what it owns is had twice, one copy is kept whole
+-- for the exit, and of the other what the skip owns is taken, for the result.
 -- Assumes nothing.
 use mathlib.Core.Path.{_≡_, refl}
 use mathlib.Core.List.{[], _∷_}

@@ -10,10 +10,12 @@ use mathlib.Core.List.{List, [], _∷_, _++_}
 use lib.Dec.{ltb, leb, eqb}
 use lib.ListN.{length, take, drop, getD}
 use lib.Seq.{drop-cons, take-at}
-use Rattle.checks.proofs.Laws.{and-left, and-right, and-both}
+use Rattle.checks.specs.Checks.{check, ifOk}
+use Rattle.checks.proofs.Laws.{and-left, and-right, and-both, check-passed, check-holds, ifOk-new}
 use Rattle.checks.specs.Lists.{every}
 use Rattle.octets.specs.Numbers.{Octets, word16, word32}
 use Rattle.octets.specs.Checksum.{checksumOf, sealed, blanked}
+use Rattle.octets.specs.Buffer.{over}
 use Rattle.octets.proofs.Laws.{sealed-right, sealed-blanked}
 use Rattle.nets.specs.Classes.{goodNet}
 use Rattle.nets.specs.Rows.{Row, flat, rowsOf}
@@ -42,15 +44,15 @@ use Rattle.trip.specs.Trip.{octetsOnly, Read}
 use Rattle.trip.proofs.Readings.{every-all, all-every, all-map}
 use Rattle.trip.proofs.Trip as Trip
 use Rattle.codec.specs.Octets.{updateOctets, octetsOf}
-use Rattle.codec.specs.Writing.{rowsAllowed, writable}
+use Rattle.codec.specs.Writing.{rowsAllowed, writable, writeAnswer, writeOctets, writeOf}
 use Rattle.codec.specs.Reading.{mostNumbers, refusal, rowless, updateReading, meaningReading, kindReading, readOf}
 use Rattle.codec.specs.declared.Meaning.the-variants.{Good}
 use Rattle.codec.specs.declared.Reading.{Reading}
 use Rattle.codec.proofs.Laws.{writable-rows, rows-few, blocks-few, octets-short}
 use Rattle.codec.proofs.ReadLaws.{read-kind-good}
-use Rattle.roundtrip.specs.Fixed.{HeadFits, Fits, Allowed, ReservedZero}
-use Rattle.roundtrip.specs.Exchange.{handedBack, Common, MeaningsReadBack, Reads, ComesBack, OctetsComeBack, Bound}
-use Rattle.roundtrip.proofs.Fixed.{word-back, quad-back, sealed-passes, writes-read-back, reads-write-back, ReadAs, read-as, spell, high, low, first-of, second-of, third-of, fourth-of, kind-read}
+use Rattle.roundtrip.specs.Widths.{HeadFits, Fits}
+use Rattle.roundtrip.specs.Exchange.{handedBack, Common, MeaningsReadBack, Reads, ComesBack, OctetsComeBack, handedOver, CallsUndoEachOther, Bound}
+use Rattle.roundtrip.proofs.Fixed.{Allowed, ReservedZero, word-back, quad-back, sealed-passes, passes, decodes, ReadAs, read-as, spell, high, low, first-of, second-of, third-of, fourth-of, kind-read, read-allowed, fixed-back}
 
 -- ---- rows and their numbers
 
@@ -109,7 +111,7 @@ rowless-back : (net : ℕ) (m : Message) (numbers : List ℕ) → Fits m → All
 unfolding rowsOf
 rowless-back net m numbers f w z r =
     rw (none-of numbers (eqb-true (length numbers) 0 z))
-    (passed net (fixedOctets m) m (writes-read-back .passes m f w) (writes-read-back .same m f w) ∙ r ∙ rowless-is m)
+    (passed net (fixedOctets m) m (passes m) (decodes m f w) ∙ r ∙ rowless-is m)
 
 -- ---- an Update that was written
 
@@ -280,20 +282,20 @@ unfolding rowless handedBack
 rowless-none m rs e = none-of rs (sym (ap (λ (r : Reading). r .count) e))
 
 module _ (net : ℕ) (o : List ℕ) (m : Message) (rs : List Row) (oct : Octets o) (r : Reads net o m rs) where
-  fixed-back : (kindOf m ≡ K.Update → ⊥) → (fixedOctets m ≡ o) ↔ ReservedZero m o
-  fixed-back u = let f = reads-good net o m rs r in reads-write-back .back o m oct (f .header) (f .kind) u
+  reserved-back : (kindOf m ≡ K.Update → ⊥) → (fixedOctets m ≡ o) ↔ ReservedZero m o
+  reserved-back u = let f = reads-good net o m rs r in fixed-back o m oct (f .header) (f .kind) u
 
   other-back : 2 < typeOf (kindOf m) → (fixedOctets m ≡ o) ↔ Unit {0}
-  other-back h = let k = others (kindOf m) h in (λ e. tt, λ z. fixed-back (k .0) .1 (λ i. absurd (k .1 i)))
+  other-back h = let k = others (kindOf m) h in (λ e. tt, λ z. reserved-back (k .0) .1 (λ i. absurd (k .1 i)))
 
-  read-allowed : Fits m × Allowed m
-  read-allowed = reads-write-back .allowed o m oct (reads-good net o m rs r .kind)
+  good-allowed : Fits m × Allowed m
+  good-allowed = read-allowed o m oct (reads-good net o m rs r .kind)
 
   other-writes : meaningReading net o m ≡ rowless m → rowsAllowed m [] ≡ true → Common net m → Fits m × Common net m × (writable m (flat rs) ≡ true)
   unfolding writable flat
   other-writes n w c =
       let z : rs ≡ [] = rowless-none m rs (sym (reads-good net o m rs r .is ∙ n) ∙ r) in
-      (read-allowed .0, c, rw z (and-both (statusAllowed (kindOf m) (statusOf m)) (rowsAllowed m []) (read-allowed .1) w))
+      (good-allowed .0, c, rw z (and-both (statusAllowed (kindOf m) (statusOf m)) (rowsAllowed m []) (good-allowed .1) w))
 
 -- ---- an Update that was read
 
@@ -442,7 +444,7 @@ writes net o (IHeardYou a q s) rs oct r = other-writes net o (IHeardYou a q s) r
 writes net o (Poll a q s n) rs oct r = other-writes net o (Poll a q s n) rs oct r refl refl tt
 writes net o (Update a q s own) rs oct r =
     let f = update-found net o a q s own rs oct r in
-    let k = read-allowed net o (Update a q s own) rs oct r in
+    let k = good-allowed net o (Update a q s own) rs oct r in
     (k .0, sym (f .common), and-both (statusAllowed K.Update s) (goodNet own && writableNumbers own (flat rs)) (k .1) (update-writable net o a q s own rs oct f))
 writes net o (Error a q s n x y z) rs oct r = other-writes net o (Error a q s n x y z) rs oct r refl refl tt
 
@@ -457,7 +459,7 @@ back net o (Hello a q s) rs oct r = other-back net o (Hello a q s) rs oct r (ome
 back net o (IHeardYou a q s) rs oct r = other-back net o (IHeardYou a q s) rs oct r (omega arith)
 back net o (Poll a q s n) rs oct r =
     let u : K.Poll ≡ K.Update → ⊥ = λ e. omega (arith, ap typeOf e) in
-    let b = fixed-back net o (Poll a q s n) rs oct r u in
+    let b = reserved-back net o (Poll a q s n) rs oct r u in
     (λ e. b .0 e refl, λ z. b .1 (λ i. z))
 back net o (Update a q s own) rs oct r =
     let f = update-found net o a q s own rs oct r in
@@ -466,6 +468,50 @@ back net o (Error a q s n x y z) rs oct r = other-back net o (Error a q s n x y 
 
 pub octets-come-back : OctetsComeBack
 octets-come-back = record { rows = rows; writes = writes; back = back }
+
+-- ---- through the public calls
+
+-- 0 is answered where the buffer is long enough and the meaning may be written, and only there
+module _ (m : Message) (numbers buffer : List ℕ) where
+  answered-0 : writeAnswer m numbers buffer ≡ 0 → writable m numbers ≡ true
+  unfolding writeAnswer
+  answered-0 e =
+      check-passed (writable m numbers) 16 0 refl
+      (check-passed (leb 2048 (length buffer)) 3 (check (writable m numbers) 16 0) refl e .1) .0
+
+  answers-0 : 2048 ≤ length buffer → writable m numbers ≡ true → writeAnswer m numbers buffer ≡ 0
+  unfolding writeAnswer
+  answers-0 h w =
+      check-holds (leb 2048 (length buffer)) 3 (check (writable m numbers) 16 0) (le-leb 2048 (length buffer) h)
+      ∙ check-holds (writable m numbers) 16 0 w
+
+  handed-over : writeAnswer m numbers buffer ≡ 0 → handedOver m numbers buffer ≡ octetsOf m (rowsOf numbers)
+  unfolding writeOf over writeOctets
+  handed-over e =
+      rw (ifOk-new (writeAnswer m numbers buffer) (octetsOf m (rowsOf numbers)) [] e)
+      (take-at (octetsOf m (rowsOf numbers)) (drop (length (octetsOf m (rowsOf numbers))) buffer) (length (octetsOf m (rowsOf numbers))) refl)
+
+calls-written : (net : ℕ) (m : Message) (numbers buffer : List ℕ) → Fits m → Common net m → (writeOf m numbers buffer) .answer ≡ 0
+    → readOf net (handedOver m numbers buffer) ≡ handedBack m (length (rowsOf numbers)) numbers
+unfolding writeOf
+calls-written net m numbers buffer f c e =
+    ap (readOf net) (handed-over m numbers buffer e) ∙ meanings-read-back .same net m numbers f (answered-0 m numbers buffer e) c
+
+calls-taken : (net : ℕ) (o : List ℕ) (m : Message) (rs : List Row) (buffer : List ℕ) → Octets o → Reads net o m rs
+    → 2048 ≤ length buffer → (writeOf m (flat rs) buffer) .answer ≡ 0
+unfolding writeOf
+calls-taken net o m rs buffer oct r h = answers-0 m (flat rs) buffer h (writes net o m rs oct r .2)
+
+calls-read : (net : ℕ) (o : List ℕ) (m : Message) (rs : List Row) (buffer : List ℕ) → Octets o → Reads net o m rs
+    → 2048 ≤ length buffer → (handedOver m (flat rs) buffer ≡ o) ↔ ComesBack net o m
+calls-read net o m rs buffer oct r h =
+    let e : handedOver m (flat rs) buffer ≡ octetsOf m rs =
+    handed-over m (flat rs) buffer (answers-0 m (flat rs) buffer h (writes net o m rs oct r .2)) ∙ ap (octetsOf m) (rows-flat rs) in
+    let b = back net o m rs oct r in
+    (λ k. b .0 (sym e ∙ k), λ k. e ∙ b .1 k)
+
+pub calls-undo-each-other : CallsUndoEachOther
+calls-undo-each-other = record { written = calls-written; taken = calls-taken; read = calls-read }
 
 -- ---- how much an Update that may be written takes
 

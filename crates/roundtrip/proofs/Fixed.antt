@@ -1,9 +1,10 @@
--- Reading and writing undo each other. Assumes nothing.
+-- Reading and writing undo each other, an Update's blocks left out. Assumes nothing.
 use Prim.Native.Nat.{ℕ, zero, suc, _+_, _/_, _%_, _≤_, _<_}
 use native.Mathlib.Nat.{div-div-eq-div-mul, div-add-mod', mod-eq-of-lt}
 use native.Mathlib.Omega.{arith}
 use borrow.Author.Tests.{eqb-true}
 use mathlib.Core.Path.{_≡_, refl, sym, ap, _∙_}
+use mathlib.Core.Logic.{_↔_}
 use mathlib.Core.Bool.{Bool, true, false, cond}
 use mathlib.Core.List.{List, [], _∷_}
 use lib.ListN.{length, getD, drop, drop-of-length-le}
@@ -22,8 +23,16 @@ use Rattle.message.specs.declared.Message.the-variants.{Request, Confirm, Refus
 use Rattle.wire.specs.declared.Decoded.the-variants.{Good, BadStatus, BadLength}
 use Rattle.wire.specs.Reading.{statusAt, asnAt, sequenceAt, headerAnswer, meaningOf, decodeAs, decodeOf}
 use Rattle.fixed.specs.Writing.{headed, headOf, plainOctets, fixedOctets}
-use Rattle.roundtrip.specs.Fixed.{HeadFits, Fits, Allowed, ReservedZero, WritesReadBack, ReadsWriteBack}
+use Rattle.roundtrip.specs.Widths.{HeadFits, Fits}
 use Rattle.wire.proofs.Laws.{header-good, header-passed}
+
+-- the status is one that the reader lets through
+abbrev pub Allowed : Message → Type 0
+Allowed m = statusAllowed (kindOf m) (statusOf m) ≡ true
+
+-- 01: octets come back only "where a Poll's reserved octets are 0"
+abbrev pub ReservedZero : Message → List ℕ → Type 0
+ReservedZero m o = kindOf m ≡ K.Poll → (getD o 10 0 ≡ 0) × (getD o 11 0 ≡ 0)
 
 -- ---- numbers and their octets
 
@@ -45,7 +54,7 @@ sealed-passes l low high v =
     sym (header-good (sealed l) (rw (sealed-length l) low) (rw (sealed-length l) high) (getD (sealed l) 0 0) refl (sealed-first l six ∙ v)
     (word16 (sealed l) 4) (checksumOf (sealed l)) refl refl (field-sealed l six))
 
-passes : (m : Message) → headerAnswer (fixedOctets m) ≡ 0
+pub passes : (m : Message) → headerAnswer (fixedOctets m) ≡ 0
 unfolding fixedOctets plainOctets headOf
 passes (Request a q s h p) = sealed-passes _ (omega arith) (omega arith) refl
 passes (Confirm a q s h p) = sealed-passes _ (omega arith) (omega arith) refl
@@ -60,22 +69,19 @@ passes (Error a q s r x y z) = sealed-passes _ (omega arith) (omega arith) refl
 
 -- ---- and reads to the same meaning
 
-same : (m : Message) → Fits m → Allowed m → decodeOf (fixedOctets m) ≡ Good m
+pub decodes : (m : Message) → Fits m → Allowed m → decodeOf (fixedOctets m) ≡ Good m
 unfolding decodeOf decodeAs meaningOf kindAt fixedOctets plainOctets headOf sealed
-same (Request a q s h p) f e = rw (e, word-back a (f .0 .asn16), word-back q (f .0 .sequence16), word-back h (f .1), word-back p (f .2))
-same (Confirm a q s h p) f e = rw (e, word-back a (f .0 .asn16), word-back q (f .0 .sequence16), word-back h (f .1), word-back p (f .2))
-same (Refuse a q s) f e = rw (e, word-back a (f .asn16), word-back q (f .sequence16))
-same (Cease a q s) f e = rw (e, word-back a (f .asn16), word-back q (f .sequence16))
-same (CeaseAck a q s) f e = rw (e, word-back a (f .asn16), word-back q (f .sequence16))
-same (Hello a q s) f e = rw (e, word-back a (f .asn16), word-back q (f .sequence16))
-same (IHeardYou a q s) f e = rw (e, word-back a (f .asn16), word-back q (f .sequence16))
-same (Poll a q s n) f e = rw (e, word-back a (f .0 .asn16), word-back q (f .0 .sequence16), quad-back n (f .1))
-same (Update a q s n) f e = rw (e, word-back a (f .0 .asn16), word-back q (f .0 .sequence16), quad-back n (f .1))
-same (Error a q s r x y z) f e =
+decodes (Request a q s h p) f e = rw (e, word-back a (f .0 .asn16), word-back q (f .0 .sequence16), word-back h (f .1), word-back p (f .2))
+decodes (Confirm a q s h p) f e = rw (e, word-back a (f .0 .asn16), word-back q (f .0 .sequence16), word-back h (f .1), word-back p (f .2))
+decodes (Refuse a q s) f e = rw (e, word-back a (f .asn16), word-back q (f .sequence16))
+decodes (Cease a q s) f e = rw (e, word-back a (f .asn16), word-back q (f .sequence16))
+decodes (CeaseAck a q s) f e = rw (e, word-back a (f .asn16), word-back q (f .sequence16))
+decodes (Hello a q s) f e = rw (e, word-back a (f .asn16), word-back q (f .sequence16))
+decodes (IHeardYou a q s) f e = rw (e, word-back a (f .asn16), word-back q (f .sequence16))
+decodes (Poll a q s n) f e = rw (e, word-back a (f .0 .asn16), word-back q (f .0 .sequence16), quad-back n (f .1))
+decodes (Update a q s n) f e = rw (e, word-back a (f .0 .asn16), word-back q (f .0 .sequence16), quad-back n (f .1))
+decodes (Error a q s r x y z) f e =
     rw (e, word-back a (f .0 .asn16), word-back q (f .0 .sequence16), word-back r (f .1), quad-back x (f .2), quad-back y (f .3), quad-back z (f .4))
-
-pub writes-read-back : WritesReadBack
-writes-read-back = record { passes = λ m f e. passes m; same = same }
 
 -- ---- what a good reading says of the octets
 
@@ -256,12 +262,15 @@ read-fits K.Poll o oct = (head-fits o oct, quad-fits o oct 12)
 read-fits K.Update o oct = (head-fits o oct, quad-fits o oct 12)
 read-fits K.Error o oct = (head-fits o oct, word-fits o oct 10, quad-fits o oct 12, quad-fits o oct 16, quad-fits o oct 20)
 
-read-allowed : (o : List ℕ) (m : Message) (k : Kind) → Octets o → ReadAs o m k → Fits m × Allowed m
-read-allowed o m k oct r =
+as-allowed : (o : List ℕ) (m : Message) (k : Kind) → Octets o → ReadAs o m k → Fits m × Allowed m
+as-allowed o m k oct r =
     rw (r .meaning) (read-fits k o oct, rw (kind-read k o, status-read k o) (r .status))
 
-pub reads-write-back : ReadsWriteBack
-reads-write-back = record {
-  back = λ o m oct h e u. (poll-zero m o, λ z. come-back o m oct h (read-as o m e .0) (read-as o m e .1) u z);
-  allowed = λ o m oct e. read-allowed o m (read-as o m e .0) oct (read-as o m e .1);
-}
+-- whatever was read may be written
+pub read-allowed : (o : List ℕ) (m : Message) → Octets o → decodeOf o ≡ Good m → Fits m × Allowed m
+read-allowed o m oct e = as-allowed o m (read-as o m e .0) oct (read-as o m e .1)
+
+-- writing what was read gives the octets back, exactly where no reserved octet was lost
+pub fixed-back : (o : List ℕ) (m : Message) → Octets o → headerAnswer o ≡ 0 → decodeOf o ≡ Good m → (kindOf m ≡ K.Update → ⊥)
+    → (fixedOctets m ≡ o) ↔ ReservedZero m o
+fixed-back o m oct h e u = (poll-zero m o, λ z. come-back o m oct h (read-as o m e .0) (read-as o m e .1) u z)

@@ -9,14 +9,15 @@ use Rattle.nets.specs.Rows.{flat, rowsOf}
 use Rattle.message.specs.Kinds.{kindAt, plainStatus, refusalStatus, markedStatus}
 use Rattle.wire.specs.Reading.{headerAnswer, meaningOf, decodeAs, decodeOf}
 use Rattle.wire.specs.Reading as WireReading
-use Rattle.fixed.specs.Writing.{headOf, plainOctets, fixedOctets}
+use Rattle.fixed.specs.Writing.{headOf}
 use Rattle.walk.specs.Body.{digits, many, leftJustified, rowOfWidth, netRow, groupRows, hostWidth, gatewayOf, blockRows, bothSides, nothingLeft, bodyOf, further, netAt, updateOf, rowsRead}
 use Rattle.walk.specs.Body as WalkBody
 use Rattle.rows.specs.Storing.{zeros, padded, rowsIn}
 use Rattle.blocks.specs.Blocks.{sideRows, joined, each, addressOctets, netOctets, hostOctets, netsOctets, groupOctets, groupsOctets, blockOctets, sideOctets, internalBlocks, externalBlocks}
 use Rattle.blocks.specs.Blocks as BlocksBlocks
 use Rattle.blocks.specs.Writable.{writableRow, ordered, writableRows, writableNumbers}
-use Rattle.codec.specs.Octets.{updateOctets, octetsOf}
+use Rattle.writing.specs.Octets.{plainOctets, octetsOf}
+use Rattle.writing.specs.Room.{rowsFit}
 use Rattle.codec.specs.Reading.{refusal, rowless, updateReading, meaningReading, kindReading, readOf}
 use Rattle.codec.specs.Reading as CodecReading
 use Rattle.codec.specs.Writing.{rowsAllowed, writable}
@@ -40,5 +41,5 @@ use Rattle.bench.specs.Cases.{goodReading, badReading, zeroTable, zeroBu
 use Rattle.bench.specs.Sheet.{nine, seven, resting, asked, agreeing, reached, polling, vacant, holding, sheet, BenchSheet}
 
 pub bench-sheet : BenchSheet
-unfolding over onesAdd onesSum checksumOf sealed netWidth hostSpan goodNet onNet flat rowsOf kindAt plainStatus refusalStatus markedStatus headerAnswer meaningOf decodeAs decodeOf WireReading.numberOf headOf plainOctets fixedOctets digits many leftJustified rowOfWidth netRow groupRows hostWidth gatewayOf blockRows bothSides nothingLeft bodyOf further netAt updateOf rowsRead WalkBody.blocksOf WalkBody.judged WalkBody.numberOf zeros padded rowsIn sideRows joined each addressOctets netOctets hostOctets netsOctets groupOctets groupsOctets blockOctets sideOctets internalBlocks externalBlocks BlocksBlocks.runs BlocksBlocks.blocksOf writableRow ordered writableRows writableNumbers updateOctets octetsOf refusal rowless updateReading meaningReading kindReading readOf CodecReading.numberOf rowsAllowed writable check ifOk under withNumbers withTimers withReach idle leftIdle waiting initialised heardFrom shifted enterUp leaveUp polled inSequence commanded indicates noted helloInterval pollInterval unacceptable modeOf offerOf onesOf goesUp goesDown NeighbourRules.judged allZero idleFormed timersBelow timersRun t2Formed registerFormed agreed intervalsFormed causeFormed wellFormed onMessage stepOf followed quiet answers says helloIf doesA doesB ceases repeatsCease acquires stray onRequest settles onConfirm onRefuse onCease onCeaseAck onHello onIHeardYou answersPoll onPoll onUpdate onStart onStop expired repeats listens polls pollsOnEntry takesT2 pollsInUp onTick MachineTick.runs goodSettings goodPeer rowsFormed freeFormed usedFormed slotFormed stateFormed first distinct every refusedOf freeSlot slotAt withSlot addresses clash slotOf messageChecks noHead messageVerdict messageOutcome messageTable messageBuffer firstOctets secondOctets replyOctets withPart tableAfter countAfter slotAfter outcomeAfter bufferAfter homeRow ownFirst goodHome effectOf stepped refuses headAt errorTo refuseTo updateVerdict carriedOut phaseVerdict bodyVerdict kindVerdict receiveVerdict sameNumbers messageNumbers sameMessage sameMeaning sameReading phaseNumber modeNumber neighbourNumbers sameNeighbour sameReply sameEffect sameVerdict sameSlot sameSlots sameSettings sameState sameOutcome goodReading badReading zeroTable zeroBuffer leaves passes nine seven resting asked agreeing reached polling vacant holding sheet
+unfolding over onesAdd onesSum checksumOf sealed netWidth hostSpan goodNet onNet flat rowsOf kindAt plainStatus refusalStatus markedStatus headerAnswer meaningOf decodeAs decodeOf WireReading.numberOf headOf plainOctets digits many leftJustified rowOfWidth netRow groupRows hostWidth gatewayOf blockRows bothSides nothingLeft bodyOf further netAt updateOf rowsRead WalkBody.blocksOf WalkBody.judged WalkBody.numberOf zeros padded rowsIn sideRows joined each addressOctets netOctets hostOctets netsOctets groupOctets groupsOctets blockOctets sideOctets internalBlocks externalBlocks BlocksBlocks.runs BlocksBlocks.blocksOf writableRow ordered writableRows writableNumbers octetsOf refusal rowless updateReading meaningReading kindReading readOf CodecReading.numberOf rowsFit rowsAllowed writable check ifOk under withNumbers withTimers withReach idle leftIdle waiting initialised heardFrom shifted enterUp leaveUp polled inSequence commanded indicates noted helloInterval pollInterval unacceptable modeOf offerOf onesOf goesUp goesDown NeighbourRules.judged allZero idleFormed timersBelow timersRun t2Formed registerFormed agreed intervalsFormed causeFormed wellFormed onMessage stepOf followed quiet answers says helloIf doesA doesB ceases repeatsCease acquires stray onRequest settles onConfirm onRefuse onCease onCeaseAck onHello onIHeardYou answersPoll onPoll onUpdate onStart onStop expired repeats listens polls pollsOnEntry takesT2 pollsInUp onTick MachineTick.runs goodSettings goodPeer rowsFormed freeFormed usedFormed slotFormed stateFormed first distinct every refusedOf freeSlot slotAt withSlot addresses clash slotOf messageChecks noHead messageVerdict messageOutcome messageTable messageBuffer firstOctets secondOctets replyOctets withPart tableAfter countAfter slotAfter outcomeAfter bufferAfter homeRow ownFirst goodHome effectOf stepped refuses headAt errorTo refuseTo updateVerdict carriedOut phaseVerdict bodyVerdict kindVerdict receiveVerdict sameNumbers messageNumbers sameMessage sameMeaning sameReading phaseNumber modeNumber neighbourNumbers sameNeighbour sameReply sameEffect sameVerdict sameSlot sameSlots sameSettings sameState sameOutcome goodReading badReading zeroTable zeroBuffer leaves passes nine seven resting asked agreeing reached polling vacant holding sheet
 bench-sheet = refl

@@ -9,14 +9,15 @@ use Rattle.nets.specs.Rows.{flat, rowsOf}
 use Rattle.message.specs.Kinds.{kindAt, plainStatus, refusalStatus, markedStatus}
 use Rattle.wire.specs.Reading.{headerAnswer, meaningOf, decodeAs, decodeOf}
 use Rattle.wire.specs.Reading as WireReading
-use Rattle.fixed.specs.Writing.{headOf, plainOctets, fixedOctets}
+use Rattle.fixed.specs.Writing.{headOf}
 use Rattle.walk.specs.Body.{many, leftJustified, rowOfWidth, netRow, groupRows, hostWidth, gatewayOf, blockRows, bothSides, nothingLeft, bodyOf, further, netAt, updateOf, rowsRead}
 use Rattle.walk.specs.Body as WalkBody
 use Rattle.rows.specs.Storing.{zeros, padded}
 use Rattle.blocks.specs.Blocks.{sideRows, joined, each, addressOctets, netOctets, hostOctets, netsOctets, groupOctets, groupsOctets, blockOctets, sideOctets, internalBlocks, externalBlocks}
 use Rattle.blocks.specs.Writable.{writableRow, ordered, writableRows, writableNumbers}
 use Rattle.blocks.specs.Blocks as BlocksBlocks
-use Rattle.codec.specs.Octets.{updateOctets, octetsOf}
+use Rattle.writing.specs.Octets.{plainOctets, octetsOf}
+use Rattle.writing.specs.Room.{rowsFit}
 use Rattle.codec.specs.Reading.{refusal, rowless, updateReading, meaningReading, kindReading, readOf}
 use Rattle.codec.specs.Writing.{rowsAllowed, writable, writeAnswer, writeOctets, writeOf}
 use Rattle.codec.specs.Reading as CodecReading
@@ -60,7 +61,7 @@ use Rattle.check_sheet.specs.Indications as Indications
 use Rattle.check_sheet.specs.Sheet.{CheckSheet}
 
 pub check-sheet : CheckSheet
-unfolding check ifOk first every distinct join over onesAdd onesSum checksumOf sealed netWidth hostSpan goodNet onNet flat rowsOf kindAt plainStatus refusalStatus markedStatus headerAnswer meaningOf decodeAs decodeOf WireReading.numberOf headOf plainOctets fixedOctets WalkBody.digits many leftJustified rowOfWidth netRow groupRows hostWidth gatewayOf blockRows bothSides nothingLeft bodyOf further netAt WalkBody.blocksOf WalkBody.judged updateOf WalkBody.numberOf rowsRead zeros padded sideRows joined BlocksBlocks.runs each addressOctets netOctets hostOctets netsOctets groupOctets groupsOctets blockOctets sideOctets BlocksBlocks.blocksOf internalBlocks externalBlocks writableRow ordered writableRows writableNumbers updateOctets octetsOf CodecReading.numberOf refusal rowless updateReading meaningReading kindReading readOf rowsAllowed writable writeAnswer writeOctets writeOf under withNumbers withTimers withReach idle leftIdle waiting initialised heardFrom shifted enterUp leaveUp polled inSequence commanded indicates noted helloInterval pollInterval unacceptable modeOf offerOf onesOf goesUp goesDown NeighbourRules.judged allZero idleFormed timersBelow timersRun t2Formed registerFormed agreed intervalsFormed causeFormed wellFormed onMessage stepOf followed quiet answers says helloIf doesA doesB ceases repeatsCease acquires stray onRequest settles onConfirm onRefuse onCease onCeaseAck onHello onIHeardYou answersPoll onPoll onUpdate onStart onStop expired repeats listens polls pollsOnEntry takesT2 pollsInUp MachineTick.runs onTick goodSettings goodPeer rowsFormed freeFormed usedFormed slotFormed stateFormed refusedOf silentOf freeSlot slotAt withSlot addresses clash slotOf lowestFree freeSlots emptyState zeroState freshAnswer freshOf newcomer addAnswer addOf removeAnswer removeOf eventChecks messageChecks noHead eventVerdict messageVerdict eventOutcome eventTable eventBuffer messageOutcome messageTable messageBuffer firstOctets secondOctets replyOctets partAt withPart tableAfter countAfter slotAfter outcomeAfter bufferAfter homeRow ownFirst goodHome effectOf stepped refuses headAt errorTo refuseTo updateVerdict carriedOut phaseVerdict bodyVerdict kindVerdict receiveVerdict text digit TextText.digits decimal dotted line stateWord modeWord distanceIn sideWord headLines rowLines rowText entryText listingText usedRows entryOf entriesFrom entries markedRow listable listingChecks listingOutcome bodies formed unformed known beside forms hexDigit hex repeated ip common ours theirs others nobody set nine made resting asking falling reporting ceasing slot vacant state empty nothing at inIdle inAcquisition inDown inUp inCease unsound full good bad onA onC homes kinds heard afterRefusal refusedState front rowsOfTwo seen computed written listed table listings numbers orders replies sequences settings wrote unwritten news writings eights sevens carried kept zeroed atActive effects readOnC writtenOnC Effects.computed Effects.written Effects.hears passiveDown passiveUp activeDown activeUp indications Indications.computed Indications.written Indications.hearsUpdate
+unfolding check ifOk first every distinct join over onesAdd onesSum checksumOf sealed netWidth hostSpan goodNet onNet flat rowsOf kindAt plainStatus refusalStatus markedStatus headerAnswer meaningOf decodeAs decodeOf WireReading.numberOf headOf plainOctets WalkBody.digits many leftJustified rowOfWidth netRow groupRows hostWidth gatewayOf blockRows bothSides nothingLeft bodyOf further netAt WalkBody.blocksOf WalkBody.judged updateOf WalkBody.numberOf rowsRead zeros padded sideRows joined BlocksBlocks.runs each addressOctets netOctets hostOctets netsOctets groupOctets groupsOctets blockOctets sideOctets BlocksBlocks.blocksOf internalBlocks externalBlocks writableRow ordered writableRows writableNumbers octetsOf CodecReading.numberOf refusal rowless updateReading meaningReading kindReading readOf rowsFit rowsAllowed writable writeAnswer writeOctets writeOf under withNumbers withTimers withReach idle leftIdle waiting initialised heardFrom shifted enterUp leaveUp polled inSequence commanded indicates noted helloInterval pollInterval unacceptable modeOf offerOf onesOf goesUp goesDown NeighbourRules.judged allZero idleFormed timersBelow timersRun t2Formed registerFormed agreed intervalsFormed causeFormed wellFormed onMessage stepOf followed quiet answers says helloIf doesA doesB ceases repeatsCease acquires stray onRequest settles onConfirm onRefuse onCease onCeaseAck onHello onIHeardYou answersPoll onPoll onUpdate onStart onStop expired repeats listens polls pollsOnEntry takesT2 pollsInUp MachineTick.runs onTick goodSettings goodPeer rowsFormed freeFormed usedFormed slotFormed stateFormed refusedOf silentOf freeSlot slotAt withSlot addresses clash slotOf lowestFree freeSlots emptyState zeroState freshAnswer freshOf newcomer addAnswer addOf removeAnswer removeOf eventChecks messageChecks noHead eventVerdict messageVerdict eventOutcome eventTable eventBuffer messageOutcome messageTable messageBuffer firstOctets secondOctets replyOctets partAt withPart tableAfter countAfter slotAfter outcomeAfter bufferAfter homeRow ownFirst goodHome effectOf stepped refuses headAt errorTo refuseTo updateVerdict carriedOut phaseVerdict bodyVerdict kindVerdict receiveVerdict text digit TextText.digits decimal dotted line stateWord modeWord distanceIn sideWord headLines rowLines rowText entryText listingText usedRows entryOf entriesFrom entries markedRow listable listingChecks listingOutcome bodies formed unformed known beside forms hexDigit hex repeated ip common ours theirs others nobody set nine made resting asking falling reporting ceasing slot vacant state empty nothing at inIdle inAcquisition inDown inUp inCease unsound full good bad onA onC homes kinds heard afterRefusal refusedState front rowsOfTwo seen computed written listed table listings numbers orders replies sequences settings wrote unwritten news writings eights sevens carried kept zeroed atActive effects readOnC writtenOnC Effects.computed Effects.written Effects.hears passiveDown passiveUp activeDown activeUp indications Indications.computed Indications.written Indications.hearsUpdate
 check-sheet =
     record {
       numbers = refl;

@@ -19,8 +19,8 @@ use Rattle.message.specs.declared.Message.the-variants as M
 use Rattle.wire.specs.Reading.{statusAt}
 use Rattle.blocks.specs.Blocks.{sideOf}
 use Rattle.blocks.specs.Writable.{writableRow, ordered, writableRows, writableNumbers}
-use Rattle.codec.specs.Writing.{rowsFit, roomFor}
-use Rattle.codec.proofs.Laws.{octets-fit, room-most}
+use Rattle.writing.specs.Room.{rowsFit, roomFor}
+use Rattle.writing.proofs.Laws.{octets-fit, room-most}
 use Rattle.neighbour.specs.declared.Phase.{Phase}
 use Rattle.neighbour.specs.declared.Phase.the-variants as Phases
 use Rattle.neighbour.specs.declared.Mode.{Mode}

@@ -22,7 +22,9 @@ use Rattle.message.specs.declared.Message.{Message}
 use Rattle.message.specs.declared.Message.the-variants.{Request, Confirm, Refuse, Cease, CeaseAck, Hello, IHeardYou, Poll, Update, Error}
 use Rattle.wire.specs.declared.Decoded.the-variants.{Good, BadStatus, BadLength}
 use Rattle.wire.specs.Reading.{statusAt, asnAt, sequenceAt, headerAnswer, meaningOf, decodeAs, decodeOf}
-use Rattle.fixed.specs.Writing.{headed, headOf, plainOctets, fixedOctets}
+use Rattle.nets.specs.Rows.{Row}
+use Rattle.fixed.specs.Writing.{headed, headOf}
+use Rattle.writing.specs.Octets.{plainOctets, octetsOf}
 use Rattle.roundtrip.specs.Widths.{HeadFits, Fits}
 use Rattle.wire.proofs.Laws.{header-good, header-passed}
 
@@ -54,33 +56,33 @@ sealed-passes l low high v =
     sym (header-good (sealed l) (rw (sealed-length l) low) (rw (sealed-length l) high) (getD (sealed l) 0 0) refl (sealed-first l six ∙ v)
     (word16 (sealed l) 4) (checksumOf (sealed l)) refl refl (field-sealed l six))
 
-pub passes : (m : Message) → headerAnswer (fixedOctets m) ≡ 0
-unfolding fixedOctets plainOctets headOf
-passes (Request a q s h p) = sealed-passes _ (omega arith) (omega arith) refl
-passes (Confirm a q s h p) = sealed-passes _ (omega arith) (omega arith) refl
-passes (Refuse a q s) = sealed-passes _ (omega arith) (omega arith) refl
-passes (Cease a q s) = sealed-passes _ (omega arith) (omega arith) refl
-passes (CeaseAck a q s) = sealed-passes _ (omega arith) (omega arith) refl
-passes (Hello a q s) = sealed-passes _ (omega arith) (omega arith) refl
-passes (IHeardYou a q s) = sealed-passes _ (omega arith) (omega arith) refl
-passes (Poll a q s n) = sealed-passes _ (omega arith) (omega arith) refl
-passes (Update a q s n) = sealed-passes _ (omega arith) (omega arith) refl
-passes (Error a q s r x y z) = sealed-passes _ (omega arith) (omega arith) refl
+pub passes : (m : Message) (rows : List Row) → (kindOf m ≡ K.Update → ⊥) → headerAnswer (octetsOf m rows) ≡ 0
+unfolding octetsOf plainOctets
+passes (Request a q s h p) rows u = sealed-passes _ (omega arith) (omega arith) refl
+passes (Confirm a q s h p) rows u = sealed-passes _ (omega arith) (omega arith) refl
+passes (Refuse a q s) rows u = sealed-passes _ (omega arith) (omega arith) refl
+passes (Cease a q s) rows u = sealed-passes _ (omega arith) (omega arith) refl
+passes (CeaseAck a q s) rows u = sealed-passes _ (omega arith) (omega arith) refl
+passes (Hello a q s) rows u = sealed-passes _ (omega arith) (omega arith) refl
+passes (IHeardYou a q s) rows u = sealed-passes _ (omega arith) (omega arith) refl
+passes (Poll a q s n) rows u = sealed-passes _ (omega arith) (omega arith) refl
+passes (Update a q s n) rows u = absurd (u refl)
+passes (Error a q s r x y z) rows u = sealed-passes _ (omega arith) (omega arith) refl
 
 -- ---- and reads to the same meaning
 
-pub decodes : (m : Message) → Fits m → Allowed m → decodeOf (fixedOctets m) ≡ Good m
-unfolding decodeOf decodeAs meaningOf kindAt fixedOctets plainOctets headOf sealed
-decodes (Request a q s h p) f e = rw (e, word-back a (f .0 .asn16), word-back q (f .0 .sequence16), word-back h (f .1), word-back p (f .2))
-decodes (Confirm a q s h p) f e = rw (e, word-back a (f .0 .asn16), word-back q (f .0 .sequence16), word-back h (f .1), word-back p (f .2))
-decodes (Refuse a q s) f e = rw (e, word-back a (f .asn16), word-back q (f .sequence16))
-decodes (Cease a q s) f e = rw (e, word-back a (f .asn16), word-back q (f .sequence16))
-decodes (CeaseAck a q s) f e = rw (e, word-back a (f .asn16), word-back q (f .sequence16))
-decodes (Hello a q s) f e = rw (e, word-back a (f .asn16), word-back q (f .sequence16))
-decodes (IHeardYou a q s) f e = rw (e, word-back a (f .asn16), word-back q (f .sequence16))
-decodes (Poll a q s n) f e = rw (e, word-back a (f .0 .asn16), word-back q (f .0 .sequence16), quad-back n (f .1))
-decodes (Update a q s n) f e = rw (e, word-back a (f .0 .asn16), word-back q (f .0 .sequence16), quad-back n (f .1))
-decodes (Error a q s r x y z) f e =
+pub decodes : (m : Message) (rows : List Row) → (kindOf m ≡ K.Update → ⊥) → Fits m → Allowed m → decodeOf (octetsOf m rows) ≡ Good m
+unfolding decodeOf decodeAs meaningOf kindAt octetsOf plainOctets sealed
+decodes (Request a q s h p) rows u f e = rw (e, word-back a (f .0 .asn16), word-back q (f .0 .sequence16), word-back h (f .1), word-back p (f .2))
+decodes (Confirm a q s h p) rows u f e = rw (e, word-back a (f .0 .asn16), word-back q (f .0 .sequence16), word-back h (f .1), word-back p (f .2))
+decodes (Refuse a q s) rows u f e = rw (e, word-back a (f .asn16), word-back q (f .sequence16))
+decodes (Cease a q s) rows u f e = rw (e, word-back a (f .asn16), word-back q (f .sequence16))
+decodes (CeaseAck a q s) rows u f e = rw (e, word-back a (f .asn16), word-back q (f .sequence16))
+decodes (Hello a q s) rows u f e = rw (e, word-back a (f .asn16), word-back q (f .sequence16))
+decodes (IHeardYou a q s) rows u f e = rw (e, word-back a (f .asn16), word-back q (f .sequence16))
+decodes (Poll a q s n) rows u f e = rw (e, word-back a (f .0 .asn16), word-back q (f .0 .sequence16), quad-back n (f .1))
+decodes (Update a q s n) rows u f e = absurd (u refl)
+decodes (Error a q s r x y z) rows u f e =
     rw (e, word-back a (f .0 .asn16), word-back q (f .0 .sequence16), word-back r (f .1), quad-back x (f .2), quad-back y (f .3), quad-back z (f .4))
 
 -- ---- what a good reading says of the octets
@@ -171,18 +173,18 @@ module _ (o : List ℕ) (oct : Octets o) (k : Kind) (v : getD o 0 0 ≡ 2) (t : 
 -- the octets of what was read as kind k, but for the checksum's field; an Update's blocks are left out
 plain-back : (o : List ℕ) → Octets o → (k : Kind) → getD o 0 0 ≡ 2 → getD o 1 0 ≡ typeOf k → getD o 2 0 ≡ codeOf k
     → lengthAllowed k (length o) ≡ true → (k ≡ K.Update → ⊥) → (k ≡ K.Poll → (getD o 10 0 ≡ 0) × (getD o 11 0 ≡ 0))
-    → plainOctets (meaningOf k o) ≡ blanked o
+    → (rows : List Row) → plainOctets (meaningOf k o) rows ≡ blanked o
 unfolding plainOctets meaningOf
-plain-back o oct K.Request v t c n u z = intervals o oct K.Request v t c (eqb-true (length o) 14 n)
-plain-back o oct K.Confirm v t c n u z = intervals o oct K.Confirm v t c (eqb-true (length o) 14 n)
-plain-back o oct K.Refuse v t c n u z = short o oct K.Refuse v t c (eqb-true (length o) 10 n)
-plain-back o oct K.Cease v t c n u z = short o oct K.Cease v t c (eqb-true (length o) 10 n)
-plain-back o oct K.CeaseAck v t c n u z = short o oct K.CeaseAck v t c (eqb-true (length o) 10 n)
-plain-back o oct K.Hello v t c n u z = short o oct K.Hello v t c (eqb-true (length o) 10 n)
-plain-back o oct K.IHeardYou v t c n u z = short o oct K.IHeardYou v t c (eqb-true (length o) 10 n)
-plain-back o oct K.Poll v t c n u z = netted o oct K.Poll v t c (eqb-true (length o) 16 n) (z refl)
-plain-back o oct K.Update v t c n u z = absurd (u refl)
-plain-back o oct K.Error v t c n u z = errored o oct K.Error v t c (eqb-true (length o) 24 n)
+plain-back o oct K.Request v t c n u z rows = intervals o oct K.Request v t c (eqb-true (length o) 14 n)
+plain-back o oct K.Confirm v t c n u z rows = intervals o oct K.Confirm v t c (eqb-true (length o) 14 n)
+plain-back o oct K.Refuse v t c n u z rows = short o oct K.Refuse v t c (eqb-true (length o) 10 n)
+plain-back o oct K.Cease v t c n u z rows = short o oct K.Cease v t c (eqb-true (length o) 10 n)
+plain-back o oct K.CeaseAck v t c n u z rows = short o oct K.CeaseAck v t c (eqb-true (length o) 10 n)
+plain-back o oct K.Hello v t c n u z rows = short o oct K.Hello v t c (eqb-true (length o) 10 n)
+plain-back o oct K.IHeardYou v t c n u z rows = short o oct K.IHeardYou v t c (eqb-true (length o) 10 n)
+plain-back o oct K.Poll v t c n u z rows = netted o oct K.Poll v t c (eqb-true (length o) 16 n) (z refl)
+plain-back o oct K.Update v t c n u z rows = absurd (u refl)
+plain-back o oct K.Error v t c n u z rows = errored o oct K.Error v t c (eqb-true (length o) 24 n)
 
 -- reading keeps the kind
 pub kind-read : (k : Kind) (o : List ℕ) → kindOf (meaningOf k o) ≡ k
@@ -212,30 +214,30 @@ status-read K.Update o = refl
 status-read K.Error o = refl
 
 -- a Poll is written with reserved octets 0
-poll-zero : (m : Message) (o : List ℕ) → fixedOctets m ≡ o → ReservedZero m o
-unfolding fixedOctets plainOctets headOf sealed
-poll-zero (Request a q s h p) o e i = let z : _≡_ {A = ℕ} 0 1 = cc in absurd (omega arith)
-poll-zero (Confirm a q s h p) o e i = let z : _≡_ {A = ℕ} 0 1 = cc in absurd (omega arith)
-poll-zero (Refuse a q s) o e i = let z : _≡_ {A = ℕ} 0 1 = cc in absurd (omega arith)
-poll-zero (Cease a q s) o e i = let z : _≡_ {A = ℕ} 0 1 = cc in absurd (omega arith)
-poll-zero (CeaseAck a q s) o e i = let z : _≡_ {A = ℕ} 0 1 = cc in absurd (omega arith)
-poll-zero (Hello a q s) o e i = let z : _≡_ {A = ℕ} 0 1 = cc in absurd (omega arith)
-poll-zero (IHeardYou a q s) o e i = let z : _≡_ {A = ℕ} 0 1 = cc in absurd (omega arith)
-poll-zero (Update a q s n) o e i = let z : _≡_ {A = ℕ} 0 1 = cc in absurd (omega arith)
-poll-zero (Error a q s r x y z) o e i = let z : _≡_ {A = ℕ} 0 1 = cc in absurd (omega arith)
-poll-zero (Poll a q s n) o e i = (ap (λ (l : List ℕ). getD l 10 0) (sym e), ap (λ (l : List ℕ). getD l 11 0) (sym e))
+poll-zero : (m : Message) (rows : List Row) (o : List ℕ) → octetsOf m rows ≡ o → ReservedZero m o
+unfolding octetsOf plainOctets sealed
+poll-zero (Request a q s h p) rows o e i = let z : _≡_ {A = ℕ} 0 1 = cc in absurd (omega arith)
+poll-zero (Confirm a q s h p) rows o e i = let z : _≡_ {A = ℕ} 0 1 = cc in absurd (omega arith)
+poll-zero (Refuse a q s) rows o e i = let z : _≡_ {A = ℕ} 0 1 = cc in absurd (omega arith)
+poll-zero (Cease a q s) rows o e i = let z : _≡_ {A = ℕ} 0 1 = cc in absurd (omega arith)
+poll-zero (CeaseAck a q s) rows o e i = let z : _≡_ {A = ℕ} 0 1 = cc in absurd (omega arith)
+poll-zero (Hello a q s) rows o e i = let z : _≡_ {A = ℕ} 0 1 = cc in absurd (omega arith)
+poll-zero (IHeardYou a q s) rows o e i = let z : _≡_ {A = ℕ} 0 1 = cc in absurd (omega arith)
+poll-zero (Update a q s n) rows o e i = let z : _≡_ {A = ℕ} 0 1 = cc in absurd (omega arith)
+poll-zero (Error a q s r x y z) rows o e i = let z : _≡_ {A = ℕ} 0 1 = cc in absurd (omega arith)
+poll-zero (Poll a q s n) rows o e i = (ap (λ (l : List ℕ). getD l 10 0) (sym e), ap (λ (l : List ℕ). getD l 11 0) (sym e))
 
 -- octets that were read come back where no reserved octet was lost
 come-back : (o : List ℕ) (m : Message) → Octets o → headerAnswer o ≡ 0 → (k : Kind) → ReadAs o m k → (kindOf m ≡ K.Update → ⊥)
-    → ReservedZero m o → fixedOctets m ≡ o
-unfolding fixedOctets
-come-back o m oct h k r u z =
+    → (rows : List Row) → ReservedZero m o → octetsOf m rows ≡ o
+unfolding octetsOf
+come-back o m oct h k r u rows z =
     let g = header-passed o h in
     let six : 6 ≤ length o = omega (arith, g .low) in
     let same-kind : kindOf m ≡ k = ap kindOf (r .meaning) ∙ kind-read k o in
     let p = kind-pair (getD o 1 0) (getD o 2 0) k (r .is) in
-    ap (λ (x : Message). sealed (plainOctets x)) (r .meaning)
-    ∙ ap sealed (plain-back o oct k (g .version) (p .0) (p .1) (r .long) (λ e. u (same-kind ∙ e)) (λ e. z (same-kind ∙ e)))
+    ap (λ (x : Message). sealed (plainOctets x rows)) (r .meaning)
+    ∙ ap sealed (plain-back o oct k (g .version) (p .0) (p .1) (r .long) (λ e. u (same-kind ∙ e)) (λ e. z (same-kind ∙ e)) rows)
     ∙ sealed-blanked o six
     ∙ sealed-right o six (oct 4) (oct 5) (g .field)
 
@@ -272,5 +274,5 @@ read-allowed o m oct e = as-allowed o m (read-as o m e .0) oct (read-as o m e .1
 
 -- writing what was read gives the octets back, exactly where no reserved octet was lost
 pub fixed-back : (o : List ℕ) (m : Message) → Octets o → headerAnswer o ≡ 0 → decodeOf o ≡ Good m → (kindOf m ≡ K.Update → ⊥)
-    → (fixedOctets m ≡ o) ↔ ReservedZero m o
-fixed-back o m oct h e u = (poll-zero m o, λ z. come-back o m oct h (read-as o m e .0) (read-as o m e .1) u z)
+    → (rows : List Row) → (octetsOf m rows ≡ o) ↔ ReservedZero m o
+fixed-back o m oct h e u rows = (poll-zero m rows o, λ z. come-back o m oct h (read-as o m e .0) (read-as o m e .1) u rows z)

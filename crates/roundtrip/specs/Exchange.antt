@@ -15,7 +15,7 @@ use Rattle.message.specs.declared.Message.the-variants.{Request, Confirm, Refus
 use Rattle.rows.specs.Storing.{padded}
 use Rattle.blocks.specs.Blocks.{sideRows, gatewayRuns, distanceRuns, internalBlocks, externalBlocks}
 use Rattle.trip.specs.Canonical.{canonical}
-use Rattle.codec.specs.Octets.{octetsOf}
+use Rattle.writing.specs.Octets.{octetsOf}
 use Rattle.codec.specs.Writing.{writable, writeOf, writeOctets}
 use Rattle.codec.specs.Reading.{readOf, mostNumbers}
 use Rattle.codec.specs.declared.Meaning.the-variants.{Good}

@@ -16,7 +16,7 @@ use Rattle.walk.specs.Body.{Walk, whole, accepted, updateOf, blocksOf}
 use Rattle.walk.proofs.Accepted.{accepted-is}
 use Rattle.rows.specs.Storing.{rowsIn}
 use Rattle.blocks.specs.Writable.{writableNumbers}
-use Rattle.codec.specs.Writing.{rowsFit, roomFor}
+use Rattle.writing.specs.Room.{rowsFit, roomFor}
 use Rattle.neighbour.specs.declared.Settings.{Settings}
 use Rattle.machine.specs.declared.Reply.{Reply}
 use Rattle.machine.specs.Laws.{short, maySend}

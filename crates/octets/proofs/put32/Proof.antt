@@ -1,11 +1,11 @@
-use lib.ListN.{length-set}
-use mathlib.Core.Path.{_≡_}
-use native.Mathlib.Numerals.{add-one}
 use Prim.Native.Nat.{suc, _+_}
+use mathlib.Core.Path.{_≡_}
+use lib.ListN.{length-set}
+use native.Mathlib.Numerals.{add-one}
 use native.Mathlib.Omega.{arith}
 use borrow.Author.Needs.{needs}
-use Rattle.record.proofs.put_number.Statement.{statement}
-use Rattle.record.proofs.put_number.Tie as tie
+use Rattle.octets.proofs.put32.Statement.{statement}
+use Rattle.octets.proofs.put32.Tie as tie
 
 first-of-requires : tie.Need-first-of-requires
 first-of-requires c κs = search needs
@@ -44,10 +44,13 @@ same-length : tie.Need-same-length
 same-length c = search needs
 
 returns : tie.Need-returns
-returns c = let e : c .before .before .before .before .before .args .at + 2 ≡ suc (suc (c .before .before .before .before .before .args .at)) = omega arith in let f : c .before .before .before .before .before .args .at + 3 ≡ suc (suc (suc (c .before .before .before .before .before .args .at))) = omega arith in rw (c .before .before .before .first-of .ensures, c .before .before .second-of .ensures, c .before .third-of .ensures, c .fourth-of .ensures, add-one, e, f)
+returns c =
+    let e : c .before .before .before .before .before .args .at + 2 ≡ suc (suc (c .before .before .before .before .before .args .at)) = omega arith in
+    let f : c .before .before .before .before .before .args .at + 3 ≡ suc (suc (suc (c .before .before .before .before .before .args .at))) = omega arith in
+    rw (c .before .before .before .first-of .ensures, c .before .before .second-of .ensures, c .before .third-of .ensures, c .fourth-of .ensures, add-one, e, f)
 
-pub put-number-spec : {M : Type 1} → statement M
-put-number-spec =
+pub put32-spec : {M : Type 1} → statement M
+put32-spec =
     tie.close
     (tie.spec
     first-of-requires

@@ -20,8 +20,9 @@ use Rattle.neighbour.specs.declared.Phase.the-variants as Phases
 use Rattle.neighbour.specs.declared.Settings.{Settings}
 use Rattle.neighbour.specs.declared.Neighbour.{Neighbour}
 use Rattle.neighbour.specs.Record.{idle, isUp}
-use Rattle.machine.specs.declared.Event.{Event}
 use Rattle.machine.specs.declared.Event.the-variants.{Start, Stop, Tick}
+use Rattle.machine.specs.Intrinsics as I
+use Rattle.machine.specs.Intrinsics.{Intrinsic, asEvent}
 use Rattle.machine.specs.Step.{stepOf}
 use Rattle.state.specs.declared.Slot as Stored
 use Rattle.state.specs.Slots.{freeSlot}
@@ -30,7 +31,7 @@ use Rattle.calls.specs.Carried.{partAt}
 use Rattle.calls.specs.Home.{goodHome}
 use Rattle.claims.proofs.Others.{others-untouched}
 use Rattle.claims.proofs.Verdicts.{is-up}
-use Rattle.model.specs.Model.{Call, add, remove, start, stop, tick, receive, listing, Slot, free, used, Model, slotIn, placeOf, noOctets, messageMove, eventTurn, step, model, modelFrom}
+use Rattle.model.specs.Model.{Call, add, remove, happen, start, stop, tick, receive, listing, Slot, free, used, Model, slotIn, placeOf, noOctets, messageMove, eventTurn, step, model, modelFrom}
 use Rattle.model.specs.History.{isUpSlot, accepts, upAfter, told, lastFrom, lastAccepted, isAbout, isElsewhere}
 use Rattle.model.specs.Theorem.{Gateway, outcomeOf, gatewayStep, gatewayFrom, run, cell, stateOf, rowsHeld, part, tableOf, rowsAt, listsNothing, unused, Sensible, modelOf}
 use Rattle.model.specs.Corollaries.{Taken, slotOn, isUpOn, Used, Unmoved, Bare, Says, RunsAreSensible, OthersStayOn, OthersStay, OthersStayInRuns, reports, BothReport, OneClosedOn, OneClosed, WhateverCloses, ClosedWhateverBy, NoDeadRow, RestartsBare, EntersUpBare, acceptsNone, BareUntilUpdate, SaysRows, Stands, UpdateCounts, AfterLastNumber, StandsWhole, FullUpdateStands, EightFull}
@@ -139,9 +140,7 @@ about-elsewhere : (a b : ℕ) → (a ≡ b → ⊥) → (call : Call) → isAbou
 unfolding isAbout isElsewhere
 about-elsewhere a b n (add x asn) e = other x a b n e
 about-elsewhere a b n (remove x) e = other x a b n e
-about-elsewhere a b n (start x buffer) e = other x a b n e
-about-elsewhere a b n (stop x buffer) e = other x a b n e
-about-elsewhere a b n (tick x buffer) e = other x a b n e
+about-elsewhere a b n (happen event x buffer) e = other x a b n e
 about-elsewhere a b n (receive x o home buffer) e = other x a b n e
 about-elsewhere a b n (listing buffer) e = absurd (false≢true e)
 
@@ -218,9 +217,9 @@ module _ (m : Model) (ok : Good m) (j : ℕ) (j8 : j < 8) where
         used-slot (slotIn m j) (λ e. u (ap (λ (x : Stored.Slot). x .address) (slot-is m ok j) ∙ e))
         ∙ ap (λ (x : Stored.Slot). used (x .address) (x .asn) (x .neighbour) (rowsHeld (slotIn m j))) (sym (slot-is m ok j))
 
-    event-after : (event : Event) (buffer : List ℕ) → leb 2048 (length buffer) ≡ true → (call : Call)
+    event-after : (event : Intrinsic) (buffer : List ℕ) → leb 2048 (length buffer) ≡ true → (call : Call)
         → (step call m) .model ≡ (eventTurn event m (before .address) buffer) .model
-        → (slotOn (gatewayStep call (represent m)) j) .neighbour ≡ (stepOf (m .settings) (before .asn) (before .neighbour) event noOctets) .neighbour
+        → (slotOn (gatewayStep call (represent m)) j) .neighbour ≡ (stepOf (m .settings) (before .asn) (before .neighbour) (asEvent event) noOctets) .neighbour
     event-after event buffer r call e =
         ap (λ (x : Stored.Slot). x .neighbour) (after-is call)
         ∙ ap (λ (x : Model). (cell (slotIn x j)) .neighbour) e
@@ -232,17 +231,17 @@ module _ (m : Model) (ok : Good m) (j : ℕ) (j8 : j < 8) where
       stop-after : (slotOn (gatewayStep (stop (before .address) buffer) (represent m)) j) .neighbour
           ≡ (stepOf (m .settings) (before .asn) (before .neighbour) Stop noOctets) .neighbour
       unfolding step
-      stop-after = event-after Stop buffer r (stop (before .address) buffer) refl
+      stop-after = event-after I.Stop buffer r (stop (before .address) buffer) refl
 
       start-after : (slotOn (gatewayStep (start (before .address) buffer) (represent m)) j) .neighbour
           ≡ (stepOf (m .settings) (before .asn) (before .neighbour) Start noOctets) .neighbour
       unfolding step
-      start-after = event-after Start buffer r (start (before .address) buffer) refl
+      start-after = event-after I.Start buffer r (start (before .address) buffer) refl
 
       tick-after : (slotOn (gatewayStep (tick (before .address) buffer) (represent m)) j) .neighbour
           ≡ (stepOf (m .settings) (before .asn) (before .neighbour) Tick noOctets) .neighbour
       unfolding step
-      tick-after = event-after Tick buffer r (tick (before .address) buffer) refl
+      tick-after = event-after I.Tick buffer r (tick (before .address) buffer) refl
 
     module _ (o home buffer : List ℕ) (x : Message) (k : Says (represent m) j o home buffer x) where
       message-after : slotIn ((step (receive (before .address) o home buffer) m) .model) j
@@ -323,31 +322,19 @@ closed-whatever-by = from-model (λ b. (i j net : ℕ) → BothReport b i j net 
 
 -- ---- no dead row
 
--- Start and tick keep address and AS of every slot
-module _ (b : Gateway) (a : ℕ) (buffer : List ℕ) (j : ℕ) where
-  start-address : (slotOn (gatewayStep (start a buffer) b) j) .address ≡ (slotOn b j) .address
+-- Start, Stop and tick keep address and AS of every slot
+module _ (event : Intrinsic) (b : Gateway) (a : ℕ) (buffer : List ℕ) (j : ℕ) where
+  event-address : (slotOn (gatewayStep (happen event a buffer) b) j) .address ≡ (slotOn b j) .address
   unfolding gatewayStep outcomeOf
-  start-address = others-untouched .events Start (b .state) (b .table) buffer a .addresses j
+  event-address = others-untouched .events (asEvent event) (b .state) (b .table) buffer a .addresses j
 
-  start-asn : (slotOn (gatewayStep (start a buffer) b) j) .asn ≡ (slotOn b j) .asn
+  event-asn : (slotOn (gatewayStep (happen event a buffer) b) j) .asn ≡ (slotOn b j) .asn
   unfolding gatewayStep outcomeOf
-  start-asn = others-untouched .events Start (b .state) (b .table) buffer a .asns j
+  event-asn = others-untouched .events (asEvent event) (b .state) (b .table) buffer a .asns j
 
-  start-settings : (gatewayStep (start a buffer) b) .state .settings ≡ b .state .settings
+  event-settings : (gatewayStep (happen event a buffer) b) .state .settings ≡ b .state .settings
   unfolding gatewayStep outcomeOf
-  start-settings = others-untouched .events Start (b .state) (b .table) buffer a .settings
-
-  tick-address : (slotOn (gatewayStep (tick a buffer) b) j) .address ≡ (slotOn b j) .address
-  unfolding gatewayStep outcomeOf
-  tick-address = others-untouched .events Tick (b .state) (b .table) buffer a .addresses j
-
-  tick-asn : (slotOn (gatewayStep (tick a buffer) b) j) .asn ≡ (slotOn b j) .asn
-  unfolding gatewayStep outcomeOf
-  tick-asn = others-untouched .events Tick (b .state) (b .table) buffer a .asns j
-
-  tick-settings : (gatewayStep (tick a buffer) b) .state .settings ≡ b .state .settings
-  unfolding gatewayStep outcomeOf
-  tick-settings = others-untouched .events Tick (b .state) (b .table) buffer a .settings
+  event-settings = others-untouched .events (asEvent event) (b .state) (b .table) buffer a .settings
 
 -- what a message says to a slot is told by the settings and the slot's AS alone
 says-on : (b c : Gateway) (j : ℕ) (o home buffer : List ℕ) (x : Message) → c .state .settings ≡ b .state .settings → (slotOn c j) .asn ≡ (slotOn b j) .asn
@@ -386,10 +373,10 @@ restarts-bare b s j j8 u =
       started =
           λ lent o home buffer x q t hello poll k.
           let c = gatewayStep (start a lent) b in
-          let same = start-address b a lent j in
+          let same = event-address I.Start b a lent j in
           subst (λ (y : ℕ). Bare (gatewayStep (receive y o home buffer) c) j) same
           (request-bare c (step-sensible (start a lent) b s) j j8 (λ e. u (sym same ∙ e)) o home buffer x q t hello poll
-          (says-on b c j o home buffer _ (start-settings b a lent j) (start-asn b a lent j) k));
+          (says-on b c j o home buffer _ (event-settings I.Start b a lent j) (event-asn I.Start b a lent j) k));
     }
 
 -- the history of a list that goes on
@@ -444,9 +431,7 @@ accepts-none : (m : Model) (j : ℕ) (call : Call) → isUpSlot (slotIn m j) ≡
 unfolding accepts
 accepts-none m j (add address asn) e = refl
 accepts-none m j (remove address) e = refl
-accepts-none m j (start a buffer) e = refl
-accepts-none m j (stop a buffer) e = refl
-accepts-none m j (tick a buffer) e = refl
+accepts-none m j (happen event a buffer) e = refl
 accepts-none m j (receive a o home buffer) e =
     rw e (go (eqb ((step (receive a o home buffer) m) .said .answer) 0) (eqb (placeOf m a) j))
   where
@@ -546,7 +531,7 @@ after-last-number b w lent j j8 r s t up still =
     record {
       again = zero-s;
       counts =
-          λ o home buffer rows k. subst (λ (y : ℕ). Stands c (receive y o home buffer) j rows) (tick-address b a lent j)
+          λ o home buffer rows k. subst (λ (y : ℕ). Stands c (receive y o home buffer) j rows) (event-address I.Tick b a lent j)
           (update-counts c (step-sensible (tick a lent) b w) j j8 still o home buffer rows
           (record {
             asn = k .asn;
@@ -554,8 +539,8 @@ after-last-number b w lent j j8 r s t up still =
             net = k .net;
             says =
                 subst (λ (n : ℕ). Says c j o home buffer (M.Update (k .asn) n (k .status) (k .net))) (sym zero-s)
-                (says-on b c j o home buffer _ (tick-settings b a lent j) (tick-asn b a lent j) (k .says));
-            body = ap (λ (g : Settings). updateOf 128 (g .net) o) (tick-settings b a lent j) ∙ k .body;
+                (says-on b c j o home buffer _ (event-settings I.Tick b a lent j) (event-asn I.Tick b a lent j) (k .says));
+            body = ap (λ (g : Settings). updateOf 128 (g .net) o) (event-settings I.Tick b a lent j) ∙ k .body;
           }));
     }
 

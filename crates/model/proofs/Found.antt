@@ -21,7 +21,7 @@ use Rattle.neighbour.specs.declared.Settings.{Settings}
 use Rattle.neighbour.specs.declared.Neighbour.{Neighbour}
 use Rattle.neighbour.specs.Record.{isIdle, isUp}
 use Rattle.neighbour.specs.Rules.{inSequence}
-use Rattle.machine.specs.declared.Event.{Event}
+use Rattle.machine.specs.Intrinsics.{Intrinsic, asEvent}
 use Rattle.machine.specs.declared.Event.the-variants.{Received}
 use Rattle.machine.specs.Step.{stepOf}
 use Rattle.machine.proofs.Theorems.{update-stays-up}
@@ -72,7 +72,7 @@ module _ (m : Model) (ok : Good m) (j : ℕ) (j8 : j < 8) where
     unfolding turnAt whenOk
     turn-answer k move home z = rw (z, place-here, here) (spoken-answer ((move (used address asn n rows)) .answer) ((move (used address asn n rows)) .reply) home)
 
-    pub event-slot : (event : Event) (buffer : List ℕ) → leb 2048 (length buffer) ≡ true
+    pub event-slot : (event : Intrinsic) (buffer : List ℕ) → leb 2048 (length buffer) ≡ true
         → slotIn ((eventTurn event m address buffer) .model) j ≡ (eventMove (m .settings) event (used address asn n rows)) .slot
     unfolding eventTurn eventAnswer check
     event-slot event buffer r = turn-slot (eventAnswer m address buffer) (eventMove (m .settings) event) [] (rw (r, present-here))
@@ -88,8 +88,8 @@ module _ (m : Model) (ok : Good m) (j : ℕ) (j8 : j < 8) where
 
 -- ---- the move itself
 
-pub event-phase : (g : Settings) (event : Event) (address asn : ℕ) (n : Neighbour) (rows : List Row)
-    → (cell ((eventMove g event (used address asn n rows)) .slot)) .neighbour ≡ (stepOf g asn n event noOctets) .neighbour
+pub event-phase : (g : Settings) (event : Intrinsic) (address asn : ℕ) (n : Neighbour) (rows : List Row)
+    → (cell ((eventMove g event (used address asn n rows)) .slot)) .neighbour ≡ (stepOf g asn n (asEvent event) noOctets) .neighbour
 unfolding eventMove moved cell
 event-phase g event address asn n rows = refl
 

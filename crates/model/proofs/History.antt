@@ -18,12 +18,11 @@ use Rattle.walk.specs.Body.{updateOf, rowsRead}
 use Rattle.neighbour.specs.declared.Settings.{Settings}
 use Rattle.neighbour.specs.declared.Neighbour.{Neighbour}
 use Rattle.neighbour.specs.Record.{idle, isUp}
-use Rattle.machine.specs.declared.Event.{Event}
-use Rattle.machine.specs.declared.Event.the-variants.{Start, Stop, Tick}
+use Rattle.machine.specs.Intrinsics.{Intrinsic, asEvent}
 use Rattle.machine.specs.Step.{stepOf}
 use Rattle.state.specs.Slots.{freeSlot}
 use Rattle.state.specs.Claims.{SlotGood}
-use Rattle.model.specs.Model.{isFree, hasAddress, noOctets, Said, Call, add, remove, start, stop, tick, receive, listing, Slot, free, used, Model, slotIn, put, placeOf, vacancy, silent, whenOk, addAnswer, removeAnswer, addTurn, removeTurn, noMove, rowsIn, moved, eventMove, isUpdate, answerTo, refusalReply, afterMessage, rowsAfter, messageMove, eventAnswer, messageAnswer, turnAt, eventTurn, messageTurn, listingTurn, step, model, modelFrom, empty}
+use Rattle.model.specs.Model.{isFree, hasAddress, noOctets, Said, Call, add, remove, happen, receive, listing, Slot, free, used, Model, slotIn, put, placeOf, vacancy, silent, whenOk, addAnswer, removeAnswer, addTurn, removeTurn, noMove, rowsIn, moved, eventMove, isUpdate, answerTo, refusalReply, afterMessage, rowsAfter, messageMove, eventAnswer, messageAnswer, turnAt, eventTurn, messageTurn, listingTurn, step, model, modelFrom, empty}
 use Rattle.model.specs.History.{isUpSlot, saysUpdate, accepts, rowsSaid, upAfter, told, lastFrom, lastAccepted, isAbout, isElsewhere, takesNoSlot}
 use Rattle.model.specs.Theorem.{cell, rowsHeld}
 use Rattle.model.proofs.Represent.{sound, Good, good-at}
@@ -52,11 +51,11 @@ cond-held false rows c h = refl
 cond-held true rows true h = refl
 cond-held true rows false h = h refl
 
-event-tells : (g : Settings) (event : Event) (slot : Slot) (read : List Row) → SlotGood (cell slot) → Tells slot ((eventMove g event slot) .slot) false read
+event-tells : (g : Settings) (event : Intrinsic) (slot : Slot) (read : List Row) → SlotGood (cell slot) → Tells slot ((eventMove g event slot) .slot) false read
 unfolding eventMove noMove moved isUpSlot rowsHeld rowsIn
 event-tells g event free read good = refl
 event-tells g event (used address asn n rows) read good =
-    cond-held (isUp ((stepOf g asn n event noOctets) .neighbour .phase)) rows (isUp (n .phase)) (λ e. none-held (used address asn n rows) good e)
+    cond-held (isUp ((stepOf g asn n (asEvent event) noOctets) .neighbour .phase)) rows (isUp (n .phase)) (λ e. none-held (used address asn n rows) good e)
 
 -- a message carried out: the rows by the kind of what was read
 kind-tells : (g : Settings) (n : Neighbour) (o : List ℕ) (d : Decoded) (rows : List Row) (b : Bool) → (isUp (n .phase) ≡ false → rows ≡ [])
@@ -142,7 +141,7 @@ module _ (m : Model) (ok : Good m) (j : ℕ) (j8 : j < 8) where
       go true e true f = rw (e, eqb-true i j f, getD-set-same (m .slots) j new free (omega (arith, ok .eight))) (r (eqb-true k 0 e) (eqb-true i j f))
       go true e false f = rw (e, getD-set-other (m .slots) i j new free (λ x. eqb-false i j f (sym x))) (still (q (eqb-false i j f)))
 
-  event-told : (event : Event) (a : ℕ) (buffer : List ℕ) (read : List Row) → Tells (slotIn m j) (slotIn ((eventTurn event m a buffer) .model) j) false read
+  event-told : (event : Intrinsic) (a : ℕ) (buffer : List ℕ) (read : List Row) → Tells (slotIn m j) (slotIn ((eventTurn event m a buffer) .model) j) false read
   unfolding eventTurn turnAt
   event-told event a buffer read =
       put-tells (eventAnswer m a buffer) (placeOf m a) _ false read (λ _. refl) (λ _. refl)
@@ -166,9 +165,7 @@ module _ (m : Model) (ok : Good m) (j : ℕ) (j8 : j < 8) where
   unfolding step accepts rowsSaid addTurn removeTurn listingTurn isUpSlot rowsHeld idle
   step-told (add address asn) = put-tells (addAnswer m address asn) (vacancy m) (used address asn idle []) false [] (λ _. refl) (λ _. refl) (λ _ _. refl)
   step-told (remove address) = put-tells (removeAnswer m address) (placeOf m address) free false [] (λ _. refl) (λ _. refl) (λ _ _. refl)
-  step-told (start a buffer) = event-told Start a buffer []
-  step-told (stop a buffer) = event-told Stop a buffer []
-  step-told (tick a buffer) = event-told Tick a buffer []
+  step-told (happen event a buffer) = event-told event a buffer []
   step-told (receive a o home buffer) = message-told a o home buffer
   step-told (listing buffer) = still-tells (slotIn m j) [] (good-at m ok j)
 
@@ -199,9 +196,7 @@ pub step-settings : (call : Call) (m : Model) → ((step call m) .model) .settin
 unfolding step addTurn removeTurn eventTurn messageTurn listingTurn turnAt
 step-settings (add address asn) m = when-settings _ _ _ m
 step-settings (remove address) m = when-settings _ _ _ m
-step-settings (start a buffer) m = when-settings _ _ _ m
-step-settings (stop a buffer) m = when-settings _ _ _ m
-step-settings (tick a buffer) m = when-settings _ _ _ m
+step-settings (happen event a buffer) m = when-settings _ _ _ m
 step-settings (receive a o home buffer) m = when-settings _ _ _ m
 step-settings (listing buffer) m = refl
 
@@ -265,9 +260,7 @@ module _ (m : Model) (ok : Good m) (j : ℕ) where
     unfolding isElsewhere isAbout step addTurn removeTurn eventTurn messageTurn listingTurn turnAt
     step-others (add a as₀) e = put-others (addAnswer m a as₀) (vacancy m) _ (λ z. free-other (add-free m ok a as₀ z))
     step-others (remove a) e = put-others (removeAnswer m a) (placeOf m a) _ (λ z. found-other a e (remove-below m ok a z))
-    step-others (start a buffer) e = put-others (eventAnswer m a buffer) (placeOf m a) _ (λ z. found-other a e (event-below m ok a buffer z))
-    step-others (stop a buffer) e = put-others (eventAnswer m a buffer) (placeOf m a) _ (λ z. found-other a e (event-below m ok a buffer z))
-    step-others (tick a buffer) e = put-others (eventAnswer m a buffer) (placeOf m a) _ (λ z. found-other a e (event-below m ok a buffer z))
+    step-others (happen event a buffer) e = put-others (eventAnswer m a buffer) (placeOf m a) _ (λ z. found-other a e (event-below m ok a buffer z))
     step-others (receive a o home buffer) e = put-others (messageAnswer m a home buffer) (placeOf m a) _ (λ z. found-other a e (message-below m ok a home buffer z))
     step-others (listing buffer) e = refl
 
@@ -300,9 +293,7 @@ module _ (m : Model) (ok : Good m) (j : ℕ) (here : slotIn m j ≡ free) where
   unfolding takesNoSlot step removeTurn eventTurn messageTurn listingTurn turnAt
   step-free (add a as₀) e = absurd (false≢true e)
   step-free (remove a) e = put-others m ok j (removeAnswer m a) (placeOf m a) _ (λ z. found-elsewhere a (remove-below m ok a z))
-  step-free (start a buffer) e = put-others m ok j (eventAnswer m a buffer) (placeOf m a) _ (λ z. found-elsewhere a (event-below m ok a buffer z))
-  step-free (stop a buffer) e = put-others m ok j (eventAnswer m a buffer) (placeOf m a) _ (λ z. found-elsewhere a (event-below m ok a buffer z))
-  step-free (tick a buffer) e = put-others m ok j (eventAnswer m a buffer) (placeOf m a) _ (λ z. found-elsewhere a (event-below m ok a buffer z))
+  step-free (happen event a buffer) e = put-others m ok j (eventAnswer m a buffer) (placeOf m a) _ (λ z. found-elsewhere a (event-below m ok a buffer z))
   step-free (receive a o home buffer) e = put-others m ok j (messageAnswer m a home buffer) (placeOf m a) _ (λ z. found-elsewhere a (message-below m ok a home buffer z))
   step-free (listing buffer) e = refl
 

@@ -19,7 +19,7 @@ use Rattle.neighbour.specs.declared.Phase.{Phase}
 use Rattle.neighbour.specs.declared.Settings.{Settings}
 use Rattle.neighbour.specs.declared.Neighbour.{Neighbour}
 use Rattle.neighbour.specs.Record.{idle, isUp}
-use Rattle.machine.specs.declared.Event.{Event}
+use Rattle.machine.specs.Intrinsics.{Intrinsic, asEvent}
 use Rattle.machine.specs.Step.{stepOf}
 use Rattle.state.specs.Slots.{freeSlot}
 use Rattle.state.specs.Formed.{stateFormed}
@@ -28,7 +28,7 @@ use Rattle.calls.specs.Carried.{partAt}
 use Rattle.calls.specs.Calls.{tableFits}
 use Rattle.lines.specs.Lines.{Entry}
 use Rattle.lines.specs.Listing.{usedRows, entryOf, entriesFrom, entries, markedRow, listable, listingChecks}
-use Rattle.model.specs.Model.{Call, add, remove, start, stop, tick, receive, listing, Slot, free, used, Model, slotIn, put, whenOk, addTurn, removeTurn, noOctets, noMove, rowsIn, moved, eventMove, isUpdate, answerTo, afterMessage, rowsAfter, refusalReply, messageMove, turnAt, eventTurn, messageTurn, listedFrom, listed, listingAnswer, listingTurn, step, placeOf}
+use Rattle.model.specs.Model.{Call, add, remove, happen, receive, listing, Slot, free, used, Model, slotIn, put, whenOk, addTurn, removeTurn, noOctets, noMove, rowsIn, moved, eventMove, isUpdate, answerTo, afterMessage, rowsAfter, refusalReply, messageMove, turnAt, eventTurn, messageTurn, listedFrom, listed, listingAnswer, listingTurn, step, placeOf}
 use Rattle.model.specs.Theorem.{isOctet, carriesOctets, cell, stateOf, rowsHeld, tableOf}
 use Rattle.model.proofs.Represent.{sound, Good, table-length, part-of, read-back}
 use Rattle.model.proofs.Marked.{update-marks}
@@ -111,10 +111,10 @@ rows-marks : (phase : Phase) (rows : List Row) → every markedRow rows ≡ true
 unfolding rowsIn every
 rows-marks phase rows e = cond-elim (λ l. every markedRow l ≡ true) (isUp phase) rows [] (λ _. e) (λ _. refl)
 
-event-marks : (g : Settings) (event : Event) (slot : Slot) → marked slot ≡ true → marked ((eventMove g event slot) .slot) ≡ true
+event-marks : (g : Settings) (event : Intrinsic) (slot : Slot) → marked slot ≡ true → marked ((eventMove g event slot) .slot) ≡ true
 unfolding marked rowsHeld eventMove moved noMove every
 event-marks g event free e = refl
-event-marks g event (used address asn n rows) e = rows-marks ((stepOf g asn n event noOctets) .neighbour .phase) rows e
+event-marks g event (used address asn n rows) e = rows-marks ((stepOf g asn n (asEvent event) noOctets) .neighbour .phase) rows e
 
 after-marks : (g : Settings) (n : Neighbour) (o : List ℕ) (d : Decoded) (rows : List Row) → every isOctet o ≡ true → every markedRow rows ≡ true
     → every markedRow (rowsAfter g n o d rows) ≡ true
@@ -146,7 +146,7 @@ module _ (m : Model) (k : Marked m) where
   put-marked a i slot s =
       cond-elim (λ (x : Model). Marked x) (eqb a 0) _ m (λ _. every-set marked (m .slots) i slot k s) (λ _. k)
 
-  event-marked : (event : Event) (a : ℕ) (buffer : List ℕ) → Marked ((eventTurn event m a buffer) .model)
+  event-marked : (event : Intrinsic) (a : ℕ) (buffer : List ℕ) → Marked ((eventTurn event m a buffer) .model)
   unfolding eventTurn turnAt
   event-marked event a buffer = put-marked _ (placeOf m a) _ (event-marks (m .settings) event (slotIn m (placeOf m a)) (marked-at (placeOf m a)))
 
@@ -154,8 +154,6 @@ module _ (m : Model) (k : Marked m) where
   unfolding carriesOctets step addTurn removeTurn messageTurn listingTurn turnAt marked rowsHeld every
   marked-step (add address asn) h = put-marked _ _ (used address asn idle []) refl
   marked-step (remove address) h = put-marked _ _ free refl
-  marked-step (start a buffer) h = event-marked _ a buffer
-  marked-step (stop a buffer) h = event-marked _ a buffer
-  marked-step (tick a buffer) h = event-marked _ a buffer
+  marked-step (happen event a buffer) h = event-marked _ a buffer
   marked-step (receive a o home buffer) h = put-marked _ (placeOf m a) _ (message-marks (m .settings) o (slotIn m (placeOf m a)) h (marked-at (placeOf m a)))
   marked-step (listing buffer) h = k

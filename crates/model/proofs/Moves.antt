@@ -27,8 +27,8 @@ use Rattle.neighbour.specs.declared.Phase.the-variants as Phases
 use Rattle.neighbour.specs.declared.Settings.{Settings}
 use Rattle.neighbour.specs.declared.Neighbour.{Neighbour}
 use Rattle.neighbour.specs.Rules.{inSequence}
-use Rattle.machine.specs.declared.Event.{Event}
 use Rattle.machine.specs.declared.Event.the-variants.{Received}
+use Rattle.machine.specs.Intrinsics.{Intrinsic, asEvent}
 use Rattle.machine.specs.declared.Reply.{Reply}
 use Rattle.machine.specs.declared.Reply.the-variants.{Nothing}
 use Rattle.machine.specs.declared.After.{After}
@@ -123,9 +123,9 @@ module _ (address asn : ℕ) (n : Neighbour) (rows : List Row) (good : SlotGood 
       (ap (λ (l : List Row). used address asn (after .neighbour) l) (rows-step (n .phase) (after .neighbour .phase) rows read none-unless-up))
       (count-step (n .phase) (after .neighbour .phase) rows read)
 
-  pub event-agrees : (g : Settings) (event : Event) → Agrees (used address asn n rows) (stepped n (stepOf g asn n event noHead)) [] (eventMove g event (used address asn n rows))
+  pub event-agrees : (g : Settings) (event : Intrinsic) → Agrees (used address asn n rows) (stepped n (stepOf g asn n (asEvent event) noHead)) [] (eventMove g event (used address asn n rows))
   unfolding eventMove noHead noOctets
-  event-agrees g event = stepped-agrees (stepOf g asn n event noOctets) []
+  event-agrees g event = stepped-agrees (stepOf g asn n (asEvent event) noOctets) []
 
   -- ---- a message
 

@@ -19,8 +19,7 @@ use Rattle.neighbour.specs.declared.Phase.the-variants as Phases
 use Rattle.neighbour.specs.declared.Settings.{Settings}
 use Rattle.neighbour.specs.declared.Neighbour.{Neighbour}
 use Rattle.neighbour.specs.Record.{idle, isIdle, isUp}
-use Rattle.machine.specs.declared.Event.{Event}
-use Rattle.machine.specs.declared.Event.the-variants.{Start, Stop, Tick}
+use Rattle.machine.specs.Intrinsics.{Intrinsic, asEvent}
 use Rattle.machine.specs.declared.Reply.{Reply}
 use Rattle.machine.specs.declared.Reply.the-variants.{Nothing, One, Two}
 use Rattle.machine.specs.Step.{stepOf}
@@ -44,7 +43,7 @@ use Rattle.calls.specs.Calls.{tableFits, eventChecks, messageChecks, noHead, ev
 use Rattle.claims.proofs.Formed.{well-formed-kept}
 use Rattle.lines.specs.Lines.{listingText}
 use Rattle.lines.specs.Listing.{entries, listingChecks, listingOutcome, listingBuffer}
-use Rattle.model.specs.Model.{isFree, noMove, moved, answerTo, afterMessage, rowsAfter, refusalReply, Call, add, remove, start, stop, tick, receive, listing, Slot, free, used, Model, slotIn, put, hasAddress, placeOf, isPresent, vacancy, Said, silent, spoken, whenOk, addable, addAnswer, isIdleSlot, removeAnswer, addTurn, removeTurn, Move, eventMove, messageMove, eventAnswer, messageAnswer, turnAt, eventTurn, messageTurn, listed, listingAnswer, listingSaid, listingTurn, step}
+use Rattle.model.specs.Model.{isFree, noMove, moved, answerTo, afterMessage, rowsAfter, refusalReply, Call, add, remove, happen, receive, listing, Slot, free, used, Model, slotIn, put, hasAddress, placeOf, isPresent, vacancy, Said, silent, spoken, whenOk, addable, addAnswer, isIdleSlot, removeAnswer, addTurn, removeTurn, Move, eventMove, messageMove, eventAnswer, messageAnswer, turnAt, eventTurn, messageTurn, listed, listingAnswer, listingSaid, listingTurn, step}
 use Rattle.model.specs.Theorem.{Gateway, outcomeOf, tableAfter, bufferOf, bufferAfter, listsNothing, cell, stateOf, rowsHeld, part, tableOf}
 use Rattle.model.proofs.Lists.{index-found}
 use Rattle.model.proofs.Represent.{sound, Good, used-at, slot-of, lowest-of, at-of, state-ok, good-at, sound-at, state-with, table-length, table-with, table-same}
@@ -110,7 +109,7 @@ idle-used : (address asn : ℕ) (n : Neighbour) (rows : List Row) → isIdle ((c
 unfolding cell isIdleSlot
 idle-used address asn n rows = refl
 
-event-sound : (g : Settings) (event : Event) (slot : Slot) → sound slot ≡ true → sound ((eventMove g event slot) .slot) ≡ true
+event-sound : (g : Settings) (event : Intrinsic) (slot : Slot) → sound slot ≡ true → sound ((eventMove g event slot) .slot) ≡ true
 unfolding sound eventMove moved noMove
 event-sound g event free e = refl
 event-sound g event (used address asn n rows) e = e
@@ -206,12 +205,12 @@ module _ (m : Model) (ok : Good m) where
   unfolding stateOf
   settings-of = refl
 
-  event-move : (event : Event) (slot : Slot) → SlotGood (cell slot) → (a : ℕ) → hasAddress a slot ≡ true
-      → Agrees slot (stepped ((cell slot) .neighbour) (stepOf (m .settings) ((cell slot) .asn) ((cell slot) .neighbour) event noHead)) [] (eventMove (m .settings) event slot)
+  event-move : (event : Intrinsic) (slot : Slot) → SlotGood (cell slot) → (a : ℕ) → hasAddress a slot ≡ true
+      → Agrees slot (stepped ((cell slot) .neighbour) (stepOf (m .settings) ((cell slot) .asn) ((cell slot) .neighbour) (asEvent event) noHead)) [] (eventMove (m .settings) event slot)
   unfolding cell
   event-move event slot good a e =
       used-at
-      (λ s. SlotGood (cell s) → Agrees s (stepped ((cell s) .neighbour) (stepOf (m .settings) ((cell s) .asn) ((cell s) .neighbour) event noHead)) [] (eventMove (m .settings) event s))
+      (λ s. SlotGood (cell s) → Agrees s (stepped ((cell s) .neighbour) (stepOf (m .settings) ((cell s) .asn) ((cell s) .neighbour) (asEvent event) noHead)) [] (eventMove (m .settings) event s))
       a (λ address asn n rows k. event-agrees address asn n rows k (m .settings) event) slot e good
 
   message-move : (o : List ℕ) (slot : Slot) → SlotGood (cell slot) → (a : ℕ) → hasAddress a slot ≡ true
@@ -222,8 +221,8 @@ module _ (m : Model) (ok : Good m) where
       (λ s. SlotGood (cell s) → Agrees s (receiveVerdict (m .settings) ((cell s) .asn) ((cell s) .neighbour) o) (rowsRead (updateOf 128 (m .settings .net) o)) (messageMove (m .settings) o s))
       a (λ address asn n rows k. message-agrees address asn n rows k (m .settings) o) slot e good
 
-  event-verdict : (event : Event) (a : ℕ) → placeOf m a < 8
-      → Agrees (slotIn m (placeOf m a)) (eventVerdict (stateOf m) a event) [] (eventMove (m .settings) event (slotIn m (placeOf m a)))
+  event-verdict : (event : Intrinsic) (a : ℕ) → placeOf m a < 8
+      → Agrees (slotIn m (placeOf m a)) (eventVerdict (stateOf m) a (asEvent event)) [] (eventMove (m .settings) event (slotIn m (placeOf m a)))
   unfolding eventVerdict
   event-verdict event a h =
       rw (slot-of m ok a, at-of m ok (placeOf m a), settings-of)
@@ -236,14 +235,14 @@ module _ (m : Model) (ok : Good m) where
       rw (slot-of m ok a, at-of m ok (placeOf m a), settings-of)
       (message-move o (slotIn m (placeOf m a)) (good-at m ok (placeOf m a)) a (found-used a h))
 
-  pub event-shown : (event : Event) (a : ℕ) (buffer : List ℕ)
-      → Shown (eventOutcome event (stateOf m) (tableOf m) buffer a) (eventTable event (stateOf m) (tableOf m) buffer a) (eventBuffer event (stateOf m) (tableOf m) buffer a)
+  pub event-shown : (event : Intrinsic) (a : ℕ) (buffer : List ℕ)
+      → Shown (eventOutcome (asEvent event) (stateOf m) (tableOf m) buffer a) (eventTable (asEvent event) (stateOf m) (tableOf m) buffer a) (eventBuffer (asEvent event) (stateOf m) (tableOf m) buffer a)
       ((eventTurn event m a buffer) .model) ((eventTurn event m a buffer) .said) buffer
   unfolding eventOutcome eventTable eventBuffer eventTurn turnAt
   event-shown event a buffer =
       shown-call (eventAnswer m a buffer) (eventChecks (stateOf m) (tableOf m) buffer a) _ _ _ _ _ _ _ _ _ _ buffer (event-answer a buffer)
       (λ z. rw (slot-of m ok a)
-      (moved-shown (placeOf m a) (eventVerdict (stateOf m) a event) [] [] (eventMove (m .settings) event (slotIn m (placeOf m a))) buffer
+      (moved-shown (placeOf m a) (eventVerdict (stateOf m) a (asEvent event)) [] [] (eventMove (m .settings) event (slotIn m (placeOf m a))) buffer
       (event-below a buffer z) (event-verdict event a (event-below a buffer z))))
       (refused-shown (eventAnswer m a buffer) (eventChecks (stateOf m) (tableOf m) buffer a) buffer (event-answer a buffer))
 
@@ -396,9 +395,7 @@ module _ (m : Model) (ok : Good m) where
   unfolding outcomeOf tableAfter bufferAfter step bufferOf represent listsNothing
   simulates (add address asn) h = add-shown address asn
   simulates (remove address) h = remove-shown address
-  simulates (start a buffer) h = event-shown Start a buffer
-  simulates (stop a buffer) h = event-shown Stop a buffer
-  simulates (tick a buffer) h = event-shown Tick a buffer
+  simulates (happen event a buffer) h = event-shown event a buffer
   simulates (receive a o home buffer) h = message-shown a o home buffer
   simulates (listing buffer) h = listing-shown (h refl) buffer
 
@@ -414,9 +411,7 @@ module _ (m : Model) (ok : Good m) where
   unfolding outcomeOf tableAfter step represent listingTurn listsNothing
   leaves (add address asn) = simulated (add address asn) refl
   leaves (remove address) = simulated (remove address) refl
-  leaves (start a buffer) = simulated (start a buffer) refl
-  leaves (stop a buffer) = simulated (stop a buffer) refl
-  leaves (tick a buffer) = simulated (tick a buffer) refl
+  leaves (happen event a buffer) = simulated (happen event a buffer) refl
   leaves (receive a o home buffer) = simulated (receive a o home buffer) refl
   leaves (listing buffer) = record { state = listing-keeps buffer; table = refl }
 
@@ -440,7 +435,7 @@ module _ (m : Model) (ok : Good m) where
       let p : addable m address asn ≡ true = check-passed (addable m address asn) 16 _ refl z .0 in
       search (and-left, and-right)
 
-  event-rest : (event : Event) (a : ℕ) (buffer : List ℕ) → Rest ((eventTurn event m a buffer) .model)
+  event-rest : (event : Intrinsic) (a : ℕ) (buffer : List ℕ) → Rest ((eventTurn event m a buffer) .model)
   unfolding eventTurn turnAt
   event-rest event a buffer = kept-rest _ (placeOf m a) _ (λ _. event-sound (m .settings) event (slotIn m (placeOf m a)) (sound-at m ok (placeOf m a)))
 
@@ -452,9 +447,7 @@ module _ (m : Model) (ok : Good m) where
   unfolding step addTurn removeTurn listingTurn sound
   rest-step (add address asn) = kept-rest (addAnswer m address asn) (vacancy m) (used address asn idle []) (add-sound address asn)
   rest-step (remove address) = kept-rest (removeAnswer m address) (placeOf m address) free (λ _. refl)
-  rest-step (start a buffer) = event-rest Start a buffer
-  rest-step (stop a buffer) = event-rest Stop a buffer
-  rest-step (tick a buffer) = event-rest Tick a buffer
+  rest-step (happen event a buffer) = event-rest event a buffer
   rest-step (receive a o home buffer) = message-rest a o home buffer
   rest-step (listing buffer) = record { eight = ok .eight; each = ok .each }
 
@@ -463,9 +456,7 @@ module _ (m : Model) (ok : Good m) where
   unfolding outcomeOf represent
   formed-step (add address asn) = well-formed-kept .add (stateOf m) address asn (state-ok m ok) .formed
   formed-step (remove address) = well-formed-kept .remove (stateOf m) address (state-ok m ok) .formed
-  formed-step (start a buffer) = well-formed-kept .events Start (stateOf m) (tableOf m) buffer a (state-ok m ok) .formed
-  formed-step (stop a buffer) = well-formed-kept .events Stop (stateOf m) (tableOf m) buffer a (state-ok m ok) .formed
-  formed-step (tick a buffer) = well-formed-kept .events Tick (stateOf m) (tableOf m) buffer a (state-ok m ok) .formed
+  formed-step (happen event a buffer) = well-formed-kept .events (asEvent event) (stateOf m) (tableOf m) buffer a (state-ok m ok) .formed
   formed-step (receive a o home buffer) = well-formed-kept .messages (stateOf m) (tableOf m) buffer home a o (state-ok m ok) .formed
   formed-step (listing buffer) = ap stateFormed (listing-keeps buffer) ∙ ok .formed
 

@@ -22,15 +22,14 @@ use Rattle.walk.specs.Body.{UpdateRead, accepted, brokenAt, tooMany, updateOf}
 use Rattle.neighbour.specs.declared.Settings.{Settings}
 use Rattle.neighbour.specs.declared.Neighbour.{Neighbour}
 use Rattle.neighbour.specs.Rules.{inSequence}
-use Rattle.machine.specs.declared.Event.{Event}
-use Rattle.machine.specs.declared.Event.the-variants.{Start, Stop, Tick}
+use Rattle.machine.specs.Intrinsics.{Intrinsic}
 use Rattle.state.specs.Formed.{stateFormed}
 use Rattle.state.specs.Outcomes.{refusedOf}
 use Rattle.slots.specs.Calls.{freshOf}
 use Rattle.calls.specs.Home.{goodHome}
 use Rattle.calls.specs.Calls.{tableFits}
 use Rattle.lines.specs.Listing.{entries, listable, listingChecks, listingOutcome}
-use Rattle.model.specs.Model.{Call, add, remove, start, stop, tick, receive, listing, Slot, free, used, Model, slotIn, put, placeOf, isPresent, vacancy, Said, silent, spoken, whenOk, addable, addAnswer, isIdleSlot, removeAnswer, addTurn, removeTurn, Move, noMove, moved, eventMove, bodyAnswer, isUpdate, kindAnswer, answerTo, messageMove, eventAnswer, messageAnswer, turnAt, eventTurn, messageTurn, listingAnswer, listingSaid, listingTurn, step, model, modelFrom, empty}
+use Rattle.model.specs.Model.{Call, add, remove, happen, receive, listing, Slot, free, used, Model, slotIn, put, placeOf, isPresent, vacancy, Said, silent, spoken, whenOk, addable, addAnswer, isIdleSlot, removeAnswer, addTurn, removeTurn, Move, noMove, moved, eventMove, bodyAnswer, isUpdate, kindAnswer, answerTo, messageMove, eventAnswer, messageAnswer, turnAt, eventTurn, messageTurn, listingAnswer, listingSaid, listingTurn, step, model, modelFrom, empty}
 use Rattle.model.specs.Theorem.{Gateway, outcomeOf, gatewayStep, run, stateOf, tableOf, carriesOctets, listsNothing, Steady, NeverOneOrTwo}
 use Rattle.model.proofs.Represent.{Good}
 use Rattle.model.proofs.Listed.{Marked, marked-step}
@@ -84,7 +83,7 @@ answer-high g asn n o =
     cond-elim High (eqb (headerAnswer o) 0) _ (headerAnswer o)
     (λ _. check-high (eqb (asnAt o) asn) 9 _ refl (kind-high g n o (decodeOf o))) (λ _. header-high o)
 
-event-answers : (g : Settings) (event : Event) (slot : Slot) → (eventMove g event slot) .answer ≡ 0
+event-answers : (g : Settings) (event : Intrinsic) (slot : Slot) → (eventMove g event slot) .answer ≡ 0
 unfolding eventMove noMove moved
 event-answers g event free = refl
 event-answers g event (used address asn n rows) = refl
@@ -100,7 +99,7 @@ module _ (m : Model) where
   unfolding turnAt
   turn-high k place move home h r = when-high k (spoken (move .answer) (move .reply) home) h (rw spoken-answer r)
 
-  event-high : (event : Event) (a : ℕ) (buffer : List ℕ) → High ((eventTurn event m a buffer) .said .answer)
+  event-high : (event : Intrinsic) (a : ℕ) (buffer : List ℕ) → High ((eventTurn event m a buffer) .said .answer)
   unfolding eventTurn eventAnswer
   event-high event a buffer =
       turn-high _ (placeOf m a) _ [] (check-high (leb 2048 (length buffer)) 3 _ refl (check-high (isPresent m a) 5 0 refl refl))
@@ -111,9 +110,7 @@ module _ (m : Model) where
   unfolding step addTurn removeTurn addAnswer removeAnswer messageTurn messageAnswer listingTurn listingAnswer listingSaid silent
   said-high (add address asn) = check-high (addable m address asn) 16 _ refl (check-high (ltb (vacancy m) 8) 17 0 refl refl)
   said-high (remove address) = check-high (isPresent m address) 5 _ refl (check-high (isIdleSlot (slotIn m (placeOf m address))) 18 0 refl refl)
-  said-high (start a buffer) = event-high Start a buffer
-  said-high (stop a buffer) = event-high Stop a buffer
-  said-high (tick a buffer) = event-high Tick a buffer
+  said-high (happen event a buffer) = event-high event a buffer
   said-high (receive a o home buffer) =
       turn-high _ (placeOf m a) _ (rowsOf home)
       (check-high (leb 2048 (length buffer)) 3 _ refl (check-high (goodHome (m .settings) home) 4 _ refl (check-high (isPresent m a) 5 0 refl refl)))
@@ -157,7 +154,7 @@ module _ (m : Model) where
           when-zero k _ _ z ∙ ap (put m place) (s n) ∙ put-same m place
       go false e = when-not k _ _ (eqb-false k 0 e)
 
-  event-keeps : (event : Event) (a : ℕ) (buffer : List ℕ) → ((eventTurn event m a buffer) .said .answer ≡ 0 → ⊥) → (eventTurn event m a buffer) .model ≡ m
+  event-keeps : (event : Intrinsic) (a : ℕ) (buffer : List ℕ) → ((eventTurn event m a buffer) .said .answer ≡ 0 → ⊥) → (eventTurn event m a buffer) .model ≡ m
   unfolding eventTurn
   event-keeps event a buffer h =
       turn-keeps _ (placeOf m a) (eventMove (m .settings) event (slotIn m (placeOf m a))) [] (λ n. absurd (n (event-answers (m .settings) event (slotIn m (placeOf m a))))) h
@@ -167,9 +164,7 @@ module _ (m : Model) where
   unfolding step addTurn removeTurn messageTurn listingTurn silent
   refused-keeps (add address asn) h = when-not (addAnswer m address asn) _ _ h
   refused-keeps (remove address) h = when-not (removeAnswer m address) _ _ h
-  refused-keeps (start a buffer) h = event-keeps Start a buffer h
-  refused-keeps (stop a buffer) h = event-keeps Stop a buffer h
-  refused-keeps (tick a buffer) h = event-keeps Tick a buffer h
+  refused-keeps (happen event a buffer) h = event-keeps event a buffer h
   refused-keeps (receive a o home buffer) h =
       turn-keeps _ (placeOf m a) (messageMove (m .settings) o (slotIn m (placeOf m a))) (rowsOf home)
       (message-keeps (m .settings) o (slotIn m (placeOf m a))) h
@@ -215,9 +210,7 @@ module _ (m : Model) (ok : Good m) where
   unfolding listsNothing
   one-of (add address asn) e = not-one _ (plain-high (add address asn) refl) e
   one-of (remove address) e = not-one _ (plain-high (remove address) refl) e
-  one-of (start a buffer) e = not-one _ (plain-high (start a buffer) refl) e
-  one-of (stop a buffer) e = not-one _ (plain-high (stop a buffer) refl) e
-  one-of (tick a buffer) e = not-one _ (plain-high (tick a buffer) refl) e
+  one-of (happen event a buffer) e = not-one _ (plain-high (happen event a buffer) refl) e
   one-of (receive a o home buffer) e = not-one _ (plain-high (receive a o home buffer) refl) e
   one-of (listing buffer) e = listing-one buffer (sym (listing-says buffer) ∙ e)
 
@@ -232,9 +225,7 @@ module _ (m : Model) (ok : Good m) where
   unfolding listsNothing
   refused-stays (add address asn) h = stays-by (add address asn) refl h
   refused-stays (remove address) h = stays-by (remove address) refl h
-  refused-stays (start a buffer) h = stays-by (start a buffer) refl h
-  refused-stays (stop a buffer) h = stays-by (stop a buffer) refl h
-  refused-stays (tick a buffer) h = stays-by (tick a buffer) refl h
+  refused-stays (happen event a buffer) h = stays-by (happen event a buffer) refl h
   refused-stays (receive a o home buffer) h = stays-by (receive a o home buffer) refl h
   refused-stays (listing buffer) h = listing-stays buffer
 

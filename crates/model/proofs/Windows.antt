@@ -23,11 +23,12 @@ use Rattle.neighbour.specs.Record.{idle, isIdle, isUp}
 use Rattle.wellformed.specs.Formed.{wellFormed}
 use Rattle.sent.specs.declared.Head.{Head}
 use Rattle.machine.specs.declared.Event.{Event}
-use Rattle.machine.specs.declared.Event.the-variants.{Received, Start, Stop, Tick}
+use Rattle.machine.specs.declared.Event.the-variants.{Received}
+use Rattle.machine.specs.Intrinsics.{Intrinsic, asEvent}
 use Rattle.machine.specs.Step.{stepOf}
 use Rattle.state.specs.Slots.{freeSlot}
 use Rattle.model.specs.Model as Calls
-use Rattle.model.specs.Model.{Call, add, remove, start, stop, tick, receive, listing, Slot, free, used, Model, slotIn, put, isFree, hasAddress, placeOf, isPresent, vacancy, spoken, whenOk, Turn, isIdleSlot, addAnswer, removeAnswer, addTurn, removeTurn, Move, noMove, moved, noOctets, eventMove, kindAnswer, answerTo, firstTwelve, afterMessage, rowsAfter, messageMove, eventAnswer, messageAnswer, turnAt, eventTurn, messageTurn, listingTurn, step, modelFrom}
+use Rattle.model.specs.Model.{Call, add, remove, happen, receive, listing, Slot, free, used, Model, slotIn, put, isFree, hasAddress, placeOf, isPresent, vacancy, spoken, whenOk, Turn, isIdleSlot, addAnswer, removeAnswer, addTurn, removeTurn, Move, noMove, moved, noOctets, eventMove, kindAnswer, answerTo, firstTwelve, afterMessage, rowsAfter, messageMove, eventAnswer, messageAnswer, turnAt, eventTurn, messageTurn, listingTurn, step, modelFrom}
 use Rattle.model.specs.History.{isUpSlot, accepts, rowsSaid}
 use Rattle.model.specs.Theorem.{cell, rowsHeld}
 use Rattle.model.specs.Windows.{isIndication, isEvaluation, isRestart, recordIn, saidEvent, doneFor, eventFor, holdsOf, brings, restartsNone, windows, anyOf, firstFour, oneInFour, latest}
@@ -47,7 +48,7 @@ turn-zero m k place move home = go (eqb k 0) refl
     go true e = ap (λ (x : ℕ). eqb x 0) (spoken-answer (move .answer) (move .reply) home)
     go false e = e
 
-event-zero : (g : Settings) (event : Event) (slot : Slot) → (eventMove g event slot) .answer ≡ 0
+event-zero : (g : Settings) (event : Intrinsic) (slot : Slot) → (eventMove g event slot) .answer ≡ 0
 unfolding eventMove noMove moved
 event-zero g event free = refl
 event-zero g event (used address asn n rows) = refl
@@ -98,7 +99,7 @@ module _ (m : Model) (ok : Good m) (j : ℕ) (j8 : j < 8) where
         (ap (λ (i : ℕ). hasAddress a (slotIn m i)) (sym e) ∙ found-used m ok a (omega (arith, e, j8))) refl
 
     -- Start, Stop and tick
-    module _ (event : Event) (a : ℕ) (buffer : List ℕ) (s : step call m ≡ eventTurn event m a buffer) (c : eventFor m j call ≡ doneFor m j a call (some event)) where
+    module _ (event : Intrinsic) (a : ℕ) (buffer : List ℕ) (s : step call m ≡ eventTurn event m a buffer) (c : eventFor m j call ≡ doneFor m j a call (some (asEvent event))) where
       event-answer : eqb ((step call m) .said .answer) 0 ≡ (eqb (eventAnswer m a buffer) 0 && true)
       unfolding eventTurn
       event-answer =
@@ -106,7 +107,7 @@ module _ (m : Model) (ok : Good m) (j : ℕ) (j8 : j < 8) where
           ∙ turn-zero m (eventAnswer m a buffer) (placeOf m a) (eventMove (m .settings) event (slotIn m (placeOf m a))) []
           ∙ ap (λ (x : ℕ). eqb (eventAnswer m a buffer) 0 && eqb x 0) (event-zero (m .settings) event (slotIn m (placeOf m a)))
 
-      event-done : eventAnswer m a buffer ≡ 0 → placeOf m a ≡ j → eventFor m j call ≡ some event
+      event-done : eventAnswer m a buffer ≡ 0 → placeOf m a ≡ j → eventFor m j call ≡ some (asEvent event)
       unfolding doneFor
       event-done z e = c ∙ rw (event-answer, z, e, eq-eqb j j refl)
 
@@ -116,7 +117,7 @@ module _ (m : Model) (ok : Good m) (j : ℕ) (j8 : j < 8) where
 
       event-moved : eventAnswer m a buffer ≡ 0 → placeOf m a ≡ j → P ((eventMove (m .settings) event (slotIn m (placeOf m a))) .slot)
       unfolding eventMove moved
-      event-moved z e = found a _ e (λ address asn n rows here. rw (e, here) (goes address asn n rows here event (event-done z e) noOctets _))
+      event-moved z e = found a _ e (λ address asn n rows here. rw (e, here) (goes address asn n rows here (asEvent event) (event-done z e) noOctets _))
 
       event-elim : P (slotIn ((step call m) .model) j)
       unfolding eventTurn turnAt
@@ -193,9 +194,7 @@ module _ (m : Model) (ok : Good m) (j : ℕ) (j8 : j < 8) where
   step-elim P (remove a) stays goes taken freed =
       put-elim P (removeAnswer m a) (placeOf m a) free
       (λ z e. freed (ap (λ (i : ℕ). isIdleSlot (slotIn m i)) (sym e) ∙ removed-idle m a z)) (λ _. stays refl)
-  step-elim P (start a buffer) stays goes taken freed = event-elim P (start a buffer) stays goes Start a buffer refl refl
-  step-elim P (stop a buffer) stays goes taken freed = event-elim P (stop a buffer) stays goes Stop a buffer refl refl
-  step-elim P (tick a buffer) stays goes taken freed = event-elim P (tick a buffer) stays goes Tick a buffer refl refl
+  step-elim P (happen event a buffer) stays goes taken freed = event-elim P (happen event a buffer) stays goes event a buffer refl refl
   step-elim P (receive a o home buffer) stays goes taken freed = message-elim P (receive a o home buffer) stays goes a o home buffer refl refl
   step-elim P (listing buffer) stays goes taken freed = stays refl
 

@@ -22,8 +22,8 @@ use Rattle.neighbour.specs.Record.{idle, isIdle, acquired, isUp}
 use Rattle.neighbour.specs.Rules.{same, inSequence}
 use Rattle.sent.specs.declared.Head.{Head}
 use Rattle.sent.specs.Sent.{refuseMessage, errorMessage}
-use Rattle.machine.specs.declared.Event.{Event}
-use Rattle.machine.specs.declared.Event.the-variants.{Received, Start, Stop, Tick}
+use Rattle.machine.specs.declared.Event.the-variants.{Received}
+use Rattle.machine.specs.Intrinsics.{Intrinsic, Start, Stop, Tick, asEvent}
 use Rattle.machine.specs.declared.Reply.{Reply}
 use Rattle.machine.specs.declared.Reply.the-variants.{Nothing, One, Two}
 use Rattle.machine.specs.declared.After.{After}
@@ -40,14 +40,21 @@ pub data Call : Type 0 where
   add : ℕ → ℕ → Call
   -- address
   remove : ℕ → Call
-  -- Start, Stop, tick: address and reply buffer
-  start : ℕ → List ℕ → Call
-  stop : ℕ → List ℕ → Call
-  tick : ℕ → List ℕ → Call
+  -- Start, Stop or tick: which, address and reply buffer
+  happen : Intrinsic → ℕ → List ℕ → Call
   -- message: address, octets, home list, reply buffer
   receive : ℕ → List ℕ → List ℕ → List ℕ → Call
   -- listing: the lent buffer
   listing : List ℕ → Call
+
+abbrev pub start : ℕ → List ℕ → Call
+start a buffer = happen Start a buffer
+
+abbrev pub stop : ℕ → List ℕ → Call
+stop a buffer = happen Stop a buffer
+
+abbrev pub tick : ℕ → List ℕ → Call
+tick a buffer = happen Tick a buffer
 
 -- ---- slots
 
@@ -177,9 +184,9 @@ moved address asn after rows =
 unfoldable pub noOctets : Head
 noOctets = record { first = 0; second = 0; third = 0 }
 
-unfoldable pub eventMove : Settings → Event → Slot → Move
+unfoldable pub eventMove : Settings → Intrinsic → Slot → Move
 eventMove g event free = noMove
-eventMove g event (used address asn n rows) = moved address asn (stepOf g asn n event noOctets) rows
+eventMove g event (used address asn n rows) = moved address asn (stepOf g asn n (asEvent event) noOctets) rows
 
 -- ---- a message: checks 6 to 15
 
@@ -267,7 +274,7 @@ turnAt m answer place move home =
       model = whenOk answer (put m place (move .slot)) m;
     }
 
-unfoldable pub eventTurn : Event → Model → ℕ → List ℕ → Turn
+unfoldable pub eventTurn : Intrinsic → Model → ℕ → List ℕ → Turn
 eventTurn event m a buffer =
     turnAt m (eventAnswer m a buffer) (placeOf m a) (eventMove (m .settings) event (slotIn m (placeOf m a))) []
 
@@ -305,9 +312,7 @@ listingTurn m buffer = record { said = whenOk (listingAnswer buffer) (listingSai
 unfoldable pub step : Call → Model → Turn
 step (add address asn) m = addTurn m address asn
 step (remove address) m = removeTurn m address
-step (start a buffer) m = eventTurn Start m a buffer
-step (stop a buffer) m = eventTurn Stop m a buffer
-step (tick a buffer) m = eventTurn Tick m a buffer
+step (happen event a buffer) m = eventTurn event m a buffer
 step (receive a o home buffer) m = messageTurn m a o home buffer
 step (listing buffer) m = listingTurn m buffer
 

@@ -3,7 +3,7 @@ use Prim.Native.Nat.{ℕ, _+_, _%_}
 use mathlib.Core.Path.{_≡_, refl}
 use mathlib.Core.Bool.{true, false}
 use mathlib.Core.List.{[], _∷_, _++_}
-use Rattle.checks.specs.Checks.{check}
+use Rattle.checks.specs.Checks.{check, ifOk}
 use Rattle.octets.specs.Checksum as Checksum
 use Rattle.nets.specs.Classes as Classes
 use Rattle.nets.specs.Rows as Rows
@@ -50,9 +50,13 @@ atRest s register heard t1 t2 t3 =
       cause = 0;
     }
 
+-- with this address and record, it has reported 128 nets
+abbrev reporter : ℕ → Neighbour → Model.Peer
+reporter a n = record { address = a; asn = 7; neighbour = n; rows = classA 0 128 }
+
 -- a model with it in slot 0 alone
 unfoldable pub alone : Neighbour → Model.Model
-alone n = record { settings = someSettings; slots = used 1 7 n (classA 0 128) ∷ free ∷ free ∷ free ∷ free ∷ free ∷ free ∷ free ∷ [] }
+alone n = record { settings = someSettings; slots = used (reporter 1 n) ∷ free ∷ free ∷ free ∷ free ∷ free ∷ free ∷ free ∷ [] }
 
 -- eight of them, the first as given
 unfoldable pub eightSlots : Neighbour → Model.Model
@@ -60,14 +64,14 @@ eightSlots n =
     record {
       settings = someSettings;
       slots =
-          used 1 7 n (classA 0 128)
-          ∷ used 2 7 (atRest 1 1 1 122 122 3600) (classA 0 128)
-          ∷ used 3 7 (atRest 1 1 1 122 122 3600) (classA 0 128)
-          ∷ used 4 7 (atRest 1 1 1 122 122 3600) (classA 0 128)
-          ∷ used 5 7 (atRest 1 1 1 122 122 3600) (classA 0 128)
-          ∷ used 6 7 (atRest 1 1 1 122 122 3600) (classA 0 128)
-          ∷ used 7 7 (atRest 1 1 1 122 122 3600) (classA 0 128)
-          ∷ used 8 7 (atRest 1 1 1 122 122 3600) (classA 0 128)
+          used (reporter 1 n)
+          ∷ used (reporter 2 (atRest 1 1 1 122 122 3600))
+          ∷ used (reporter 3 (atRest 1 1 1 122 122 3600))
+          ∷ used (reporter 4 (atRest 1 1 1 122 122 3600))
+          ∷ used (reporter 5 (atRest 1 1 1 122 122 3600))
+          ∷ used (reporter 6 (atRest 1 1 1 122 122 3600))
+          ∷ used (reporter 7 (atRest 1 1 1 122 122 3600))
+          ∷ used (reporter 8 (atRest 1 1 1 122 122 3600))
           ∷ [];
     }
 
@@ -77,7 +81,7 @@ justUp =
     record {
       settings = someSettings;
       slots =
-          used 1 7
+          used (Model.peerWith (Model.newPeer 1 7)
           (record {
             s = 1;
             r = 0;
@@ -92,7 +96,7 @@ justUp =
             heard = 0;
             cause = 0;
           })
-          []
+          [])
           ∷ free ∷ free ∷ free ∷ free ∷ free ∷ free ∷ free ∷ [];
     }
 
@@ -114,7 +118,7 @@ pub record Computed : Type 0 where
   pub lost : History.isUpSlot (Model.slotIn (modelFrom justUp (slow 2 2)) 0) ≡ false
 
 pub computed : Computed
-unfolding someSettings lent classA ticks saysHello reporting eight polled almostUp slow justUp History.isUpSlot History.saysUpdate History.accepts History.rowsSaid Theorem.cell Windows.isIndication Windows.isEvaluation Windows.isRestart Windows.recordIn Windows.saidEvent Windows.doneFor Windows.eventFor Windows.holdsOf Windows.brings restartsNone windows latest atRest alone eightSlots Model.empty Model.slotIn Model.put Model.isFree Model.hasAddress Model.index Model.placeOf Model.isPresent Model.vacancy Model.silent Model.spoken Model.whenOk Model.addable Model.addAnswer Model.addTurn Model.noMove Model.rowsIn Model.moved Model.noOctets Model.eventMove Model.bodyAnswer Model.isUpdate Model.kindAnswer Model.answerTo Model.firstTwelve Model.errorReply Model.refuseReply Model.refusalReply Model.afterMessage Model.rowsAfter Model.messageMove Model.eventAnswer Model.messageAnswer Model.turnAt Model.eventTurn Model.messageTurn Model.step Model.modelFrom Model.model check Wire.headerAnswer Wire.meaningOf Wire.decodeAs Wire.decodeOf Wire.numberOf Writing.headOf Writing.plainOctets Writing.fixedOctets Body.digits Body.many Body.leftJustified Body.rowOfWidth Body.netRow Body.groupRows Body.hostWidth Body.gatewayOf Body.blockRows Body.bothSides Body.nothingLeft Body.bodyOf Body.further Body.netAt Body.blocksOf Body.judged Body.updateOf Body.numberOf Body.rowsRead Blocks.sideRows Blocks.joined Blocks.runs Blocks.each Blocks.addressOctets Blocks.netOctets Blocks.hostOctets Blocks.netsOctets Blocks.groupOctets Blocks.groupsOctets Blocks.blockOctets Blocks.sideOctets Blocks.blocksOf Blocks.internalBlocks Blocks.externalBlocks Record.under Record.withNumbers Record.withTimers Record.withReach Record.idle Record.leftIdle Record.waiting Record.initialised Record.heardFrom Record.shifted Record.enterUp Record.leaveUp Record.polled Rules.inSequence Rules.commanded Rules.indicates Rules.noted Rules.helloInterval Rules.pollInterval Rules.unacceptable Rules.modeOf Rules.offerOf Rules.onesOf Rules.goesUp Rules.goesDown Rules.judged Table.followed Table.quiet Table.answers Table.says Table.helloIf Table.doesA Table.doesB Table.ceases Table.repeatsCease Table.acquires Table.stray Table.onRequest Table.settles Table.onConfirm Table.onRefuse Table.onCease Table.onCeaseAck Table.onHello Table.onIHeardYou Table.answersPoll Table.onPoll Table.onUpdate Table.onStart Table.onStop Tick.expired Tick.repeats Tick.listens Tick.polls Tick.pollsOnEntry Tick.takesT2 Tick.pollsInUp Tick.runs Tick.onTick Step.onMessage Step.stepOf Kinds.kindAt Kinds.plainStatus Kinds.refusalStatus Kinds.markedStatus Checksum.onesAdd Checksum.onesSum Checksum.checksumOf Checksum.sealed Checksum.wordTotal Checksum.folded Classes.netWidth Classes.hostSpan Classes.goodNet Classes.onNet Home.homeRow Home.ownFirst Home.goodHome Octets.updateOctets Octets.octetsOf Rows.flat Rows.rowsOf Storing.zeros Storing.padded Storing.isWhole Storing.rowsIn Storing.isGot Storing.gotRows Storing.gotRest Lists.first Lists.every Lists.distinct
+unfolding someSettings lent classA ticks saysHello reporting eight polled almostUp slow justUp History.isUpSlot History.saysUpdate History.accepts History.rowsSaid Theorem.cell Windows.isIndication Windows.isEvaluation Windows.isRestart Windows.recordIn Windows.saidEvent Windows.doneFor Windows.eventFor Windows.holdsOf Windows.brings restartsNone windows latest atRest alone eightSlots Model.empty Model.slotIn Model.put Model.isFree Model.hasAddress Model.placeOf Model.isPresent Model.vacancy Model.silent Model.spoken Model.addable Model.addAnswer Model.addTurn Model.noMove Model.rowsIn Model.moved Model.noOctets Model.eventMove Model.bodyAnswer Model.isUpdate Model.kindAnswer Model.answerTo Model.firstTwelve Model.errorReply Model.refuseReply Model.refusalReply Model.afterMessage Model.rowsAfter Model.messageMove Model.eventAnswer Model.messageAnswer Model.turnAt Model.eventTurn Model.messageTurn Model.step Model.modelFrom Model.model check ifOk Wire.headerAnswer Wire.meaningOf Wire.decodeAs Wire.decodeOf Wire.numberOf Writing.headOf Writing.plainOctets Writing.fixedOctets Body.digits Body.many Body.leftJustified Body.rowOfWidth Body.netRow Body.groupRows Body.hostWidth Body.gatewayOf Body.blockRows Body.bothSides Body.nothingLeft Body.bodyOf Body.further Body.netAt Body.blocksOf Body.judged Body.updateOf Body.numberOf Body.rowsRead Blocks.sideRows Blocks.joined Blocks.runs Blocks.each Blocks.addressOctets Blocks.netOctets Blocks.hostOctets Blocks.netsOctets Blocks.groupOctets Blocks.groupsOctets Blocks.blockOctets Blocks.sideOctets Blocks.blocksOf Blocks.internalBlocks Blocks.externalBlocks Record.under Record.withNumbers Record.withTimers Record.withReach Record.idle Record.leftIdle Record.waiting Record.initialised Record.heardFrom Record.shifted Record.enterUp Record.leaveUp Record.polled Rules.inSequence Rules.commanded Rules.indicates Rules.noted Rules.helloInterval Rules.pollInterval Rules.unacceptable Rules.modeOf Rules.offerOf Rules.onesOf Rules.goesUp Rules.goesDown Rules.judged Table.followed Table.quiet Table.answers Table.says Table.helloIf Table.doesA Table.doesB Table.ceases Table.repeatsCease Table.acquires Table.stray Table.onRequest Table.settles Table.onConfirm Table.onRefuse Table.onCease Table.onCeaseAck Table.onHello Table.onIHeardYou Table.answersPoll Table.onPoll Table.onUpdate Table.onStart Table.onStop Tick.expired Tick.repeats Tick.listens Tick.polls Tick.pollsOnEntry Tick.takesT2 Tick.pollsInUp Tick.runs Tick.onTick Step.onMessage Step.stepOf Kinds.kindAt Kinds.plainStatus Kinds.refusalStatus Kinds.markedStatus Checksum.onesAdd Checksum.onesSum Checksum.checksumOf Checksum.sealed Checksum.wordTotal Checksum.folded Classes.netWidth Classes.hostSpan Classes.goodNet Classes.onNet Home.homeRow Home.ownFirst Home.goodHome Octets.updateOctets Octets.octetsOf Rows.flat Rows.rowsOf Storing.zeros Storing.padded Storing.isWhole Storing.rowsIn Storing.isGot Storing.gotRows Storing.gotRest Lists.first Lists.every Lists.distinct
 computed =
     record {
       all-up = refl;

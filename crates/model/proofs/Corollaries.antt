@@ -31,9 +31,9 @@ use Rattle.calls.specs.Carried.{partAt}
 use Rattle.calls.specs.Home.{goodHome}
 use Rattle.claims.proofs.Others.{others-untouched}
 use Rattle.claims.proofs.Verdicts.{is-up}
-use Rattle.model.specs.Model.{Call, add, remove, happen, start, stop, tick, receive, listing, Slot, free, used, Model, slotIn, placeOf, noOctets, messageMove, eventTurn, step, model, modelFrom}
+use Rattle.model.specs.Model.{Call, add, remove, happen, start, stop, tick, receive, listing, Slot, free, used, Model, slotIn, placeOf, noOctets, messageMove, eventTurn, step, model, modelFrom, Peer}
 use Rattle.model.specs.History.{isUpSlot, accepts, upAfter, told, lastFrom, lastAccepted, isAbout, isElsewhere}
-use Rattle.model.specs.Theorem.{Gateway, outcomeOf, gatewayStep, gatewayFrom, run, cell, stateOf, rowsHeld, part, tableOf, rowsAt, listsNothing, unused, Sensible, modelOf}
+use Rattle.model.specs.Theorem.{Gateway, outcomeOf, gatewayStep, gatewayFrom, run, cell, stateOf, rowsHeld, part, tableOf, rowsAt, listsNothing, unused, Sensible, peerFrom, modelOf}
 use Rattle.model.specs.Corollaries.{Taken, slotOn, isUpOn, Used, Unmoved, Bare, Says, RunsAreSensible, OthersStayOn, OthersStay, OthersStayInRuns, reports, BothReport, OneClosedOn, OneClosed, WhateverCloses, ClosedWhateverBy, NoDeadRow, RestartsBare, EntersUpBare, acceptsNone, BareUntilUpdate, SaysRows, Stands, UpdateCounts, AfterLastNumber, StandsWhole, FullUpdateStands, EightFull}
 use Rattle.model.proofs.Represent.{sound, Good, at-of, eight-of, good-at, sound-at, table-length, part-of}
 use Rattle.model.proofs.Simulation.{represent, simulates, good-step}
@@ -52,13 +52,13 @@ from-model P h b s = subst P (model-back b s) (h (modelOf b) (good-back b s))
 pub up-shown : (slot : Slot) → isUpSlot slot ≡ isUp ((cell slot) .neighbour .phase)
 unfolding isUpSlot cell freeSlot idle
 up-shown free = refl
-up-shown (used address asn n rows) = refl
+up-shown (used peer) = refl
 
 -- a free slot is not Up
 up-address : (slot : Slot) → isUp ((cell slot) .neighbour .phase) ≡ true → sound slot ≡ true → (cell slot) .address ≡ 0 → ⊥
 unfolding cell freeSlot idle sound
 up-address free u s e = false≢true u
-up-address (used address asn n rows) u s e = false≢true (sym (ap not (ap (λ (a : ℕ). eqb a 0) e)) ∙ s)
+up-address (used peer) u s e = false≢true (sym (ap not (ap (λ (a : ℕ). eqb a 0) e)) ∙ s)
 
 module _ (m : Model) (ok : Good m) where
   pub slot-is : (j : ℕ) → slotOn (represent m) j ≡ cell (slotIn m j)
@@ -212,10 +212,13 @@ module _ (m : Model) (ok : Good m) (j : ℕ) (j8 : j < 8) where
     abbrev before : Stored.Slot
     before = slotOn (represent m) j
 
-    here : slotIn m j ≡ used (before .address) (before .asn) (before .neighbour) (rowsHeld (slotIn m j))
+    abbrev mine : Peer
+    mine = peerFrom before (rowsHeld (slotIn m j))
+
+    here : slotIn m j ≡ used mine
     here =
         used-slot (slotIn m j) (λ e. u (ap (λ (x : Stored.Slot). x .address) (slot-is m ok j) ∙ e))
-        ∙ ap (λ (x : Stored.Slot). used (x .address) (x .asn) (x .neighbour) (rowsHeld (slotIn m j))) (sym (slot-is m ok j))
+        ∙ ap (λ (x : Stored.Slot). used (peerFrom x (rowsHeld (slotIn m j)))) (sym (slot-is m ok j))
 
     event-after : (event : Intrinsic) (buffer : List ℕ) → leb 2048 (length buffer) ≡ true → (call : Call)
         → (step call m) .model ≡ (eventTurn event m (before .address) buffer) .model
@@ -224,8 +227,8 @@ module _ (m : Model) (ok : Good m) (j : ℕ) (j8 : j < 8) where
         ap (λ (x : Stored.Slot). x .neighbour) (after-is call)
         ∙ ap (λ (x : Model). (cell (slotIn x j)) .neighbour) e
         ∙ ap (λ (x : Slot). (cell x) .neighbour)
-        (event-slot m ok j j8 (before .address) (before .asn) (before .neighbour) (rowsHeld (slotIn m j)) here event buffer r)
-        ∙ event-phase (m .settings) event (before .address) (before .asn) (before .neighbour) (rowsHeld (slotIn m j))
+        (event-slot m ok j j8 mine here event buffer r)
+        ∙ event-phase (m .settings) event mine
 
     module _ (buffer : List ℕ) (r : leb 2048 (length buffer) ≡ true) where
       stop-after : (slotOn (gatewayStep (stop (before .address) buffer) (represent m)) j) .neighbour
@@ -245,17 +248,17 @@ module _ (m : Model) (ok : Good m) (j : ℕ) (j8 : j < 8) where
 
     module _ (o home buffer : List ℕ) (x : Message) (k : Says (represent m) j o home buffer x) where
       message-after : slotIn ((step (receive (before .address) o home buffer) m) .model) j
-          ≡ (messageMove (m .settings) o (used (before .address) (before .asn) (before .neighbour) (rowsHeld (slotIn m j)))) .slot
+          ≡ (messageMove (m .settings) o (used mine)) .slot
       unfolding step represent stateOf
-      message-after = message-slot m ok j j8 _ _ _ _ here o home buffer (k .room) (k .good-home)
+      message-after = message-slot m ok j j8 mine here o home buffer (k .room) (k .good-home)
 
       message-answer : (step (receive (before .address) o home buffer) m) .said .answer
-          ≡ (messageMove (m .settings) o (used (before .address) (before .asn) (before .neighbour) (rowsHeld (slotIn m j)))) .answer
+          ≡ (messageMove (m .settings) o (used mine)) .answer
       unfolding step represent stateOf
-      message-answer = message-says m ok j j8 _ _ _ _ here o home buffer (k .room) (k .good-home)
+      message-answer = message-says m ok j j8 mine here o home buffer (k .room) (k .good-home)
 
       message-shown : slotOn (gatewayStep (receive (before .address) o home buffer) (represent m)) j
-          ≡ cell ((messageMove (m .settings) o (used (before .address) (before .asn) (before .neighbour) (rowsHeld (slotIn m j)))) .slot)
+          ≡ cell ((messageMove (m .settings) o (used mine)) .slot)
       message-shown = after-is (receive (before .address) o home buffer) ∙ ap cell message-after
 
     -- a Cease or a Request leaves it not Up
@@ -263,13 +266,13 @@ module _ (m : Model) (ok : Good m) (j : ℕ) (j8 : j < 8) where
         → isUpOn (gatewayStep (receive (before .address) o home buffer) (represent m)) j ≡ false
     cease-after o home buffer a q s k =
         not-up (ap (λ (x : Stored.Slot). x .neighbour) (message-shown o home buffer (M.Cease a q s) k))
-        (cease-move (m .settings) (before .asn) (before .neighbour) o (k .header) (k .from) _ _ a q s (k .meaning))
+        (cease-move (m .settings) mine o (k .header) (k .from) a q s (k .meaning))
 
     request-after : (o home buffer : List ℕ) (a q s hello poll : ℕ) → Says (represent m) j o home buffer (M.Request a q s hello poll)
         → isUpOn (gatewayStep (receive (before .address) o home buffer) (represent m)) j ≡ false
     request-after o home buffer a q s hello poll k =
         not-up (ap (λ (x : Stored.Slot). x .neighbour) (message-shown o home buffer (M.Request a q s hello poll) k))
-        (request-move (m .settings) (before .asn) (before .neighbour) o (k .header) (k .from) _ _ a q s hello poll (k .meaning))
+        (request-move (m .settings) mine o (k .header) (k .from) a q s hello poll (k .meaning))
 
 -- ---- one is closed
 
@@ -477,8 +480,8 @@ module _ (m : Model) (ok : Good m) (j : ℕ) (j8 : j < 8) (up : isUpOn (represen
   new-rows =
       let s = slotOn (represent m) j in
       ap rowsHeld (message-after m ok j j8 used-here o home buffer theUpdate (k .says))
-      ∙ update-rows (m .settings) (s .asn) (s .neighbour) o (k .says .header) (k .says .from) (k .asn) (s .neighbour .s) (k .status) (k .net) (k .says .meaning)
-      (is-up (s .neighbour .phase) up) refl rows good-body (s .address) (rowsHeld (slotIn m j))
+      ∙ update-rows (m .settings) (mine m ok j j8 used-here) o (k .says .header) (k .says .from) (k .asn) (s .neighbour .s) (k .status) (k .net) (k .says .meaning)
+      (is-up (s .neighbour .phase) up) refl rows good-body
 
   answered : (outcomeOf theCall (represent m)) .answer ≡ 0
   unfolding listsNothing
@@ -486,8 +489,8 @@ module _ (m : Model) (ok : Good m) (j : ℕ) (j8 : j < 8) (up : isUpOn (represen
       let s = slotOn (represent m) j in
       simulates m ok theCall (λ f. absurd (true≢false f)) .answer
       ∙ message-answer m ok j j8 used-here o home buffer theUpdate (k .says)
-      ∙ update-answer (m .settings) (s .asn) (s .neighbour) o (k .says .header) (k .says .from) (k .asn) (s .neighbour .s) (k .status) (k .net) (k .says .meaning)
-      (is-up (s .neighbour .phase) up) refl rows good-body (s .address) (rowsHeld (slotIn m j))
+      ∙ update-answer (m .settings) (mine m ok j j8 used-here) o (k .says .header) (k .says .from) (k .asn) (s .neighbour .s) (k .status) (k .net) (k .says .meaning)
+      (is-up (s .neighbour .phase) up) refl rows good-body
 
   stands : Stands (represent m) theCall j rows
   stands =

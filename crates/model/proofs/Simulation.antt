@@ -17,8 +17,7 @@ use Rattle.walk.specs.Body.{updateOf, rowsRead}
 use Rattle.neighbour.specs.declared.Phase.{Phase}
 use Rattle.neighbour.specs.declared.Phase.the-variants as Phases
 use Rattle.neighbour.specs.declared.Settings.{Settings}
-use Rattle.neighbour.specs.declared.Neighbour.{Neighbour}
-use Rattle.neighbour.specs.Record.{idle, isIdle, isUp}
+use Rattle.neighbour.specs.Record.{isIdle, isUp}
 use Rattle.machine.specs.Intrinsics.{Intrinsic, asEvent}
 use Rattle.machine.specs.declared.Reply.{Reply}
 use Rattle.machine.specs.declared.Reply.the-variants.{Nothing, One, Two}
@@ -43,9 +42,9 @@ use Rattle.calls.specs.Calls.{tableFits, eventChecks, messageChecks, noHead, ev
 use Rattle.claims.proofs.Formed.{well-formed-kept}
 use Rattle.lines.specs.Lines.{listingText}
 use Rattle.lines.specs.Listing.{entries, listingChecks, listingOutcome, listingBuffer}
-use Rattle.model.specs.Model.{isFree, noMove, moved, answerTo, afterMessage, rowsAfter, refusalReply, Call, add, remove, happen, receive, listing, Slot, free, used, Model, slotIn, put, hasAddress, placeOf, isPresent, vacancy, Said, silent, spoken, whenOk, addable, addAnswer, isIdleSlot, removeAnswer, addTurn, removeTurn, Move, eventMove, messageMove, eventAnswer, messageAnswer, turnAt, eventTurn, messageTurn, listed, listingAnswer, listingSaid, listingTurn, step}
+use Rattle.model.specs.Model.{isFree, noMove, moved, answerTo, afterMessage, rowsAfter, Call, add, remove, happen, receive, listing, Slot, free, used, Model, slotIn, put, hasAddress, placeOf, isPresent, vacancy, Said, silent, spoken, addable, addAnswer, isIdleSlot, removeAnswer, addTurn, removeTurn, Move, eventMove, messageMove, eventAnswer, messageAnswer, turnAt, eventTurn, messageTurn, listed, listingAnswer, listingSaid, listingTurn, step, Peer, newPeer, refusedMove}
 use Rattle.model.specs.Theorem.{Gateway, outcomeOf, tableAfter, bufferOf, bufferAfter, listsNothing, cell, stateOf, rowsHeld, part, tableOf}
-use Rattle.model.proofs.Lists.{index-found}
+use Rattle.model.proofs.Lists.{first-found}
 use Rattle.model.proofs.Represent.{sound, Good, used-at, slot-of, lowest-of, at-of, state-ok, good-at, sound-at, state-with, table-length, table-with, table-same}
 use Rattle.model.proofs.Listed.{Marked, entries-of, listing-answer}
 use Rattle.model.proofs.Moves.{no-rows, partFrom, Agrees, event-agrees, message-agrees}
@@ -62,8 +61,8 @@ pub record Shown (r : Outcome) (t b : List ℕ) (m : Model) (said : Said) (buffe
 -- both sides go by one answer
 shown-call : (c c′ : ℕ) (new old : Outcome) (t t₀ b b₀ : List ℕ) (m′ m : Model) (s′ s : Said) (buffer : List ℕ) → c′ ≡ c
     → (c ≡ 0 → Shown new t b m′ s′ buffer) → Shown old t₀ b₀ m s buffer
-    → Shown (ifOk c′ new old) (ifOk c′ t t₀) (ifOk c′ b b₀) (whenOk c m′ m) (whenOk c s′ s) buffer
-unfolding ifOk whenOk
+    → Shown (ifOk c′ new old) (ifOk c′ t t₀) (ifOk c′ b b₀) (ifOk c m′ m) (ifOk c s′ s) buffer
+unfolding ifOk
 shown-call c c′ new old t t₀ b b₀ m′ m s′ s buffer q p r = go (eqb c 0) refl (ap (λ (k : ℕ). eqb k 0) q)
   where
     go : (k : Bool) → eqb c 0 ≡ k → eqb c′ 0 ≡ eqb c 0
@@ -105,23 +104,23 @@ idle-not-up Phases.Down e = refl
 idle-not-up Phases.Up e = absurd (false≢true e)
 idle-not-up Phases.Cease e = refl
 
-idle-used : (address asn : ℕ) (n : Neighbour) (rows : List Row) → isIdle ((cell (used address asn n rows)) .neighbour .phase) ≡ isIdleSlot (used address asn n rows)
+idle-used : (peer : Peer) → isIdle ((cell (used peer)) .neighbour .phase) ≡ isIdleSlot (used peer)
 unfolding cell isIdleSlot
-idle-used address asn n rows = refl
+idle-used peer = refl
 
 event-sound : (g : Settings) (event : Intrinsic) (slot : Slot) → sound slot ≡ true → sound ((eventMove g event slot) .slot) ≡ true
 unfolding sound eventMove moved noMove
 event-sound g event free e = refl
-event-sound g event (used address asn n rows) e = e
+event-sound g event (used peer) e = e
 
 message-sound : (g : Settings) (o : List ℕ) (slot : Slot) → sound slot ≡ true → sound ((messageMove g o slot) .slot) ≡ true
-unfolding sound messageMove moved noMove whenOk
+unfolding sound messageMove moved noMove ifOk
 message-sound g o free e = refl
-message-sound g o (used address asn n rows) e = go (eqb (answerTo g asn n o) 0)
+message-sound g o (used peer) e = go (eqb (answerTo g (peer .asn) (peer .neighbour) o) 0)
   where
     go : (b : Bool)
-        → sound ((cond b (moved address asn (afterMessage g asn n o (decodeOf o)) (rowsAfter g n o (decodeOf o) rows))
-        (record { answer = answerTo g asn n o; reply = refusalReply g n o (answerTo g asn n o); slot = used address asn n rows })) .slot) ≡ true
+        → sound ((cond b (moved peer (afterMessage g (peer .asn) (peer .neighbour) o (decodeOf o)) (rowsAfter g (peer .neighbour) o (decodeOf o) (peer .rows)))
+        (refusedMove g o peer (answerTo g (peer .asn) (peer .neighbour) o))) .slot) ≡ true
     go true = e
     go false = e
 
@@ -133,8 +132,8 @@ module _ (m : Model) (ok : Good m) where
   refused-shown k k′ buffer e = record { state = refl; table = refl; answer = e; first = refl; second = refl; written = refl }
 
   silent-shown : (k k′ : ℕ) (new : State) (m′ : Model) → k′ ≡ k → (k ≡ 0 → new ≡ stateOf m′) → (k ≡ 0 → tableOf m ≡ tableOf m′)
-      → Shown (silentOf k′ new (stateOf m)) (tableOf m) [] (whenOk k m′ m) (silent k) []
-  unfolding silentOf silent over ifOk whenOk
+      → Shown (silentOf k′ new (stateOf m)) (tableOf m) [] (ifOk k m′ m) (silent k) []
+  unfolding silentOf silent over ifOk
   silent-shown k k′ new m′ q s t = go (eqb k 0) refl (ap (λ (x : ℕ). eqb x 0) q)
     where
       go : (b : Bool) → eqb k 0 ≡ b → eqb k′ 0 ≡ eqb k 0 → Shown (silentOf k′ new (stateOf m)) (tableOf m) [] (cond (eqb k 0) m′ m) (silent k) []
@@ -172,7 +171,7 @@ module _ (m : Model) (ok : Good m) where
 
   pub found-used : (a : ℕ) → placeOf m a < 8 → hasAddress a (slotIn m (placeOf m a)) ≡ true
   unfolding placeOf slotIn
-  found-used a h = index-found (hasAddress a) (m .slots) free (omega (arith, ok .eight))
+  found-used a h = first-found (hasAddress a) (m .slots) free (omega (arith, ok .eight))
 
   present-of : (a : ℕ) → present (stateOf m) a ≡ isPresent m a
   unfolding isPresent
@@ -211,7 +210,7 @@ module _ (m : Model) (ok : Good m) where
   event-move event slot good a e =
       used-at
       (λ s. SlotGood (cell s) → Agrees s (stepped ((cell s) .neighbour) (stepOf (m .settings) ((cell s) .asn) ((cell s) .neighbour) (asEvent event) noHead)) [] (eventMove (m .settings) event s))
-      a (λ address asn n rows k. event-agrees address asn n rows k (m .settings) event) slot e good
+      a (λ peer k. event-agrees peer k (m .settings) event) slot e good
 
   message-move : (o : List ℕ) (slot : Slot) → SlotGood (cell slot) → (a : ℕ) → hasAddress a slot ≡ true
       → Agrees slot (receiveVerdict (m .settings) ((cell slot) .asn) ((cell slot) .neighbour) o) (rowsRead (updateOf 128 (m .settings .net) o)) (messageMove (m .settings) o slot)
@@ -219,7 +218,7 @@ module _ (m : Model) (ok : Good m) where
   message-move o slot good a e =
       used-at
       (λ s. SlotGood (cell s) → Agrees s (receiveVerdict (m .settings) ((cell s) .asn) ((cell s) .neighbour) o) (rowsRead (updateOf 128 (m .settings .net) o)) (messageMove (m .settings) o s))
-      a (λ address asn n rows k. message-agrees address asn n rows k (m .settings) o) slot e good
+      a (λ peer k. message-agrees peer k (m .settings) o) slot e good
 
   event-verdict : (event : Intrinsic) (a : ℕ) → placeOf m a < 8
       → Agrees (slotIn m (placeOf m a)) (eventVerdict (stateOf m) a (asEvent event)) [] (eventMove (m .settings) event (slotIn m (placeOf m a)))
@@ -279,11 +278,11 @@ module _ (m : Model) (ok : Good m) where
   free-none : (slot : Slot) → isFree slot ≡ true → rowsHeld slot ≡ []
   unfolding isFree rowsHeld
   free-none free e = refl
-  free-none (used address asn n rows) e = absurd (false≢true e)
+  free-none (used peer) e = absurd (false≢true e)
 
   pub found-free : vacancy m < 8 → isFree (slotIn m (vacancy m)) ≡ true
   unfolding vacancy slotIn
-  found-free h = index-found isFree (m .slots) free (omega (arith, ok .eight))
+  found-free h = first-found isFree (m .slots) free (omega (arith, ok .eight))
 
   vacant-none : vacancy m < 8 → rowsHeld (slotIn m (vacancy m)) ≡ []
   vacant-none h = free-none (slotIn m (vacancy m)) (found-free h)
@@ -291,9 +290,9 @@ module _ (m : Model) (ok : Good m) where
   idle-none : (slot : Slot) → SlotGood (cell slot) → isIdleSlot slot ≡ true → rowsHeld slot ≡ []
   unfolding isIdleSlot rowsHeld cell
   idle-none free good e = refl
-  idle-none (used address asn n rows) good e = no-rows rows (good .none (idle-not-up (n .phase) e))
+  idle-none (used peer) good e = no-rows (peer .rows) (good .none (idle-not-up (peer .neighbour .phase) e))
 
-  newcomer-cell : (address asn : ℕ) → cell (used address asn idle []) ≡ newcomer address asn
+  newcomer-cell : (address asn : ℕ) → cell (used (newPeer address asn)) ≡ newcomer address asn
   unfolding cell newcomer
   newcomer-cell address asn = refl
 
@@ -301,7 +300,7 @@ module _ (m : Model) (ok : Good m) where
   unfolding cell
   free-cell = refl
 
-  no-rows-new : (address asn : ℕ) → rowsHeld (used address asn idle []) ≡ []
+  no-rows-new : (address asn : ℕ) → rowsHeld (used (newPeer address asn)) ≡ []
   unfolding rowsHeld
   no-rows-new address asn = refl
 
@@ -312,9 +311,9 @@ module _ (m : Model) (ok : Good m) where
   pub add-shown : (address asn : ℕ) → Shown (addOf (stateOf m) address asn) (tableOf m) [] ((addTurn m address asn) .model) ((addTurn m address asn) .said) []
   unfolding addOf addTurn
   add-shown address asn =
-      silent-shown (addAnswer m address asn) (Slots.addAnswer (stateOf m) address asn) _ (put m (vacancy m) (used address asn idle [])) (add-answer address asn)
-      (λ z. rw (lowest-of m ok, ← (newcomer-cell address asn)) (sym (state-with m ok (vacancy m) (used address asn idle []))))
-      (λ z. same-part (vacancy m) (used address asn idle []) (no-rows-new address asn) (vacant-none (add-free address asn z)))
+      silent-shown (addAnswer m address asn) (Slots.addAnswer (stateOf m) address asn) _ (put m (vacancy m) (used (newPeer address asn))) (add-answer address asn)
+      (λ z. rw (lowest-of m ok, ← (newcomer-cell address asn)) (sym (state-with m ok (vacancy m) (used (newPeer address asn)))))
+      (λ z. same-part (vacancy m) (used (newPeer address asn)) (no-rows-new address asn) (vacant-none (add-free address asn z)))
 
   idle-same : (a : ℕ) → placeOf m a < 8 → isIdle ((slotAt (stateOf m) (slotOf (stateOf m) a)) .neighbour .phase) ≡ isIdleSlot (slotIn m (placeOf m a))
   idle-same a h =
@@ -353,8 +352,8 @@ module _ (m : Model) (ok : Good m) where
 
   listing-by : (k : ℕ) (buffer : List ℕ)
       → Shown (ifOk k (record { answer = 0; first = length (listingText (listed m)); second = 0; state = stateOf m }) (refusedOf (stateOf m) k))
-      (tableOf m) (ifOk k (over (listingText (listed m)) buffer) buffer) m (whenOk k (listingSaid m) (silent k)) buffer
-  unfolding ifOk whenOk listingSaid
+      (tableOf m) (ifOk k (over (listingText (listed m)) buffer) buffer) m (ifOk k (listingSaid m) (silent k)) buffer
+  unfolding ifOk listingSaid
   listing-by k buffer = go (eqb k 0) refl
     where
       go : (b : Bool) → eqb k 0 ≡ b
@@ -421,15 +420,15 @@ module _ (m : Model) (ok : Good m) where
   unfolding put
   put-rest i slot s = record { eight = length-set (m .slots) i slot ∙ ok .eight; each = every-set sound (m .slots) i slot (ok .each) s }
 
-  kept-rest : (k i : ℕ) (slot : Slot) → (k ≡ 0 → sound slot ≡ true) → Rest (whenOk k (put m i slot) m)
-  unfolding whenOk
+  kept-rest : (k i : ℕ) (slot : Slot) → (k ≡ 0 → sound slot ≡ true) → Rest (ifOk k (put m i slot) m)
+  unfolding ifOk
   kept-rest k i slot s = go (eqb k 0) refl
     where
       go : (b : Bool) → eqb k 0 ≡ b → Rest (cond (eqb k 0) (put m i slot) m)
       go true e = rw e (put-rest i slot (s (eqb-true k 0 e)))
       go false e = rw e (record { eight = ok .eight; each = ok .each })
 
-  add-sound : (address asn : ℕ) → addAnswer m address asn ≡ 0 → sound (used address asn idle []) ≡ true
+  add-sound : (address asn : ℕ) → addAnswer m address asn ≡ 0 → sound (used (newPeer address asn)) ≡ true
   unfolding addAnswer addable sound
   add-sound address asn z =
       let p : addable m address asn ≡ true = check-passed (addable m address asn) 16 _ refl z .0 in
@@ -445,7 +444,7 @@ module _ (m : Model) (ok : Good m) where
 
   rest-step : (call : Call) → Rest ((step call m) .model)
   unfolding step addTurn removeTurn listingTurn sound
-  rest-step (add address asn) = kept-rest (addAnswer m address asn) (vacancy m) (used address asn idle []) (add-sound address asn)
+  rest-step (add address asn) = kept-rest (addAnswer m address asn) (vacancy m) (used (newPeer address asn)) (add-sound address asn)
   rest-step (remove address) = kept-rest (removeAnswer m address) (placeOf m address) free (λ _. refl)
   rest-step (happen event a buffer) = event-rest event a buffer
   rest-step (receive a o home buffer) = message-rest a o home buffer

@@ -14,7 +14,6 @@ use Rattle.checks.proofs.Laws.{cond-elim, and-left, and-right, check-holds}
 use Rattle.octets.specs.Numbers.{word16}
 use Rattle.octets.specs.Checksum.{checksumOf}
 use Rattle.nets.specs.Rows.{Row, rowsOf}
-use Rattle.wire.specs.Reading as Wire
 use Rattle.wire.specs.Reading.{headerAnswer, asnAt, decodeOf}
 use Rattle.wire.specs.declared.Decoded.{Decoded}
 use Rattle.wire.specs.declared.Decoded.the-variants as D
@@ -29,7 +28,7 @@ use Rattle.slots.specs.Calls.{freshOf}
 use Rattle.calls.specs.Home.{goodHome}
 use Rattle.calls.specs.Calls.{tableFits}
 use Rattle.lines.specs.Listing.{entries, listable, listingChecks, listingOutcome}
-use Rattle.model.specs.Model.{Call, add, remove, happen, receive, listing, Slot, free, used, Model, slotIn, put, placeOf, isPresent, vacancy, Said, silent, spoken, whenOk, addable, addAnswer, isIdleSlot, removeAnswer, addTurn, removeTurn, Move, noMove, moved, eventMove, bodyAnswer, isUpdate, kindAnswer, answerTo, messageMove, eventAnswer, messageAnswer, turnAt, eventTurn, messageTurn, listingAnswer, listingSaid, listingTurn, step, model, modelFrom, empty}
+use Rattle.model.specs.Model.{Call, add, remove, happen, receive, listing, Slot, free, used, Model, slotIn, put, placeOf, isPresent, vacancy, Said, silent, spoken, addable, addAnswer, isIdleSlot, removeAnswer, addTurn, removeTurn, Move, noMove, moved, eventMove, bodyAnswer, isUpdate, kindAnswer, answerTo, messageMove, eventAnswer, messageAnswer, turnAt, eventTurn, messageTurn, listingAnswer, listingSaid, listingTurn, step, model, modelFrom, empty}
 use Rattle.model.specs.Theorem.{Gateway, outcomeOf, gatewayStep, run, stateOf, tableOf, carriesOctets, listsNothing, Steady, NeverOneOrTwo}
 use Rattle.model.proofs.Represent.{Good}
 use Rattle.model.proofs.Listed.{Marked, marked-step}
@@ -53,8 +52,8 @@ unfolding check
 check-high true k rest h r = r
 check-high false k rest h r = h
 
-when-high : (k : ℕ) (s : Said) → High k → High (s .answer) → High ((whenOk k s (silent k)) .answer)
-unfolding whenOk silent
+when-high : (k : ℕ) (s : Said) → High k → High (s .answer) → High ((ifOk k s (silent k)) .answer)
+unfolding ifOk silent
 when-high k s h r = cond-elim (λ (x : Said). High (x .answer)) (eqb k 0) s _ (λ _. r) (λ _. h)
 
 header-high : (o : List ℕ) → High (headerAnswer o)
@@ -78,7 +77,7 @@ kind-high g n o D.BadStatus = refl
 kind-high g n o D.BadLength = refl
 
 answer-high : (g : Settings) (asn : ℕ) (n : Neighbour) (o : List ℕ) → High (answerTo g asn n o)
-unfolding answerTo whenOk
+unfolding answerTo ifOk
 answer-high g asn n o =
     cond-elim High (eqb (headerAnswer o) 0) _ (headerAnswer o)
     (λ _. check-high (eqb (asnAt o) asn) 9 _ refl (kind-high g n o (decodeOf o))) (λ _. header-high o)
@@ -86,13 +85,13 @@ answer-high g asn n o =
 event-answers : (g : Settings) (event : Intrinsic) (slot : Slot) → (eventMove g event slot) .answer ≡ 0
 unfolding eventMove noMove moved
 event-answers g event free = refl
-event-answers g event (used address asn n rows) = refl
+event-answers g event (used peer) = refl
 
 message-high : (g : Settings) (o : List ℕ) (slot : Slot) → High ((messageMove g o slot) .answer)
-unfolding messageMove noMove moved whenOk
+unfolding messageMove noMove moved ifOk
 message-high g o free = refl
-message-high g o (used address asn n rows) =
-    cond-elim (λ (x : Move). High (x .answer)) (eqb (answerTo g asn n o) 0) _ _ (λ _. refl) (λ _. answer-high g asn n o)
+message-high g o (used peer) =
+    cond-elim (λ (x : Move). High (x .answer)) (eqb (answerTo g (peer .asn) (peer .neighbour) o) 0) _ _ (λ _. refl) (λ _. answer-high g (peer .asn) (peer .neighbour) o)
 
 module _ (m : Model) where
   turn-high : (k place : ℕ) (move : Move) (home : List Row) → High k → High (move .answer) → High ((turnAt m k place move home) .said .answer)
@@ -120,12 +119,12 @@ module _ (m : Model) where
 
 -- ---- refused
 
-when-not : {A : Type 0} (k : ℕ) (new old : A) → (k ≡ 0 → ⊥) → whenOk k new old ≡ old
-unfolding whenOk
+when-not : {A : Type 0} (k : ℕ) (new old : A) → (k ≡ 0 → ⊥) → ifOk k new old ≡ old
+unfolding ifOk
 when-not k new old h = rw (ne-eqb k 0 h)
 
-when-zero : {A : Type 0} (k : ℕ) (new old : A) → k ≡ 0 → whenOk k new old ≡ new
-unfolding whenOk
+when-zero : {A : Type 0} (k : ℕ) (new old : A) → k ≡ 0 → ifOk k new old ≡ new
+unfolding ifOk
 when-zero k new old h = rw h
 
 put-same : (m : Model) (i : ℕ) → put m i (slotIn m i) ≡ m
@@ -135,11 +134,11 @@ put-same m i = let e = set-getD (m .slots) i free in λ k. record { settings = m
 message-keeps : (g : Settings) (o : List ℕ) (slot : Slot) → ((messageMove g o slot) .answer ≡ 0 → ⊥) → (messageMove g o slot) .slot ≡ slot
 unfolding messageMove noMove moved
 message-keeps g o free h = refl
-message-keeps g o (used address asn n rows) h = go (eqb (answerTo g asn n o) 0) refl
+message-keeps g o (used peer) h = go (eqb (answerTo g (peer .asn) (peer .neighbour) o) 0) refl
   where
-    go : (b : Bool) → eqb (answerTo g asn n o) 0 ≡ b → (messageMove g o (used address asn n rows)) .slot ≡ used address asn n rows
-    go true e = absurd (h (ap (λ (x : Move). x .answer) (when-zero (answerTo g asn n o) _ _ (eqb-true (answerTo g asn n o) 0 e))))
-    go false e = ap (λ (x : Move). x .slot) (message-stays g o address asn n rows e)
+    go : (b : Bool) → eqb (answerTo g (peer .asn) (peer .neighbour) o) 0 ≡ b → (messageMove g o (used peer)) .slot ≡ used peer
+    go true e = absurd (h (ap (λ (x : Move). x .answer) (when-zero (answerTo g (peer .asn) (peer .neighbour) o) _ _ (eqb-true (answerTo g (peer .asn) (peer .neighbour) o) 0 e))))
+    go false e = ap (λ (x : Move). x .slot) (message-stays g o peer e)
 
 module _ (m : Model) where
   turn-keeps : (k place : ℕ) (move : Move) (home : List Row) → ((move .answer ≡ 0 → ⊥) → move .slot ≡ slotIn m place)
@@ -147,7 +146,7 @@ module _ (m : Model) where
   unfolding turnAt
   turn-keeps k place move home s h = go (eqb k 0) refl
     where
-      go : (b : Bool) → eqb k 0 ≡ b → whenOk k (put m place (move .slot)) m ≡ m
+      go : (b : Bool) → eqb k 0 ≡ b → ifOk k (put m place (move .slot)) m ≡ m
       go true e =
           let z = eqb-true k 0 e in
           let n : move .answer ≡ 0 → ⊥ = λ q. h (ap (λ (x : Said). x .answer) (when-zero k _ _ z) ∙ spoken-answer (move .answer) (move .reply) home ∙ q) in

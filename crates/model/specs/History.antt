@@ -14,7 +14,7 @@ use Rattle.model.specs.Model.{Call, add, remove, happen, receive, listin
 
 unfoldable pub isUpSlot : Slot → Bool
 isUpSlot free = false
-isUpSlot (used address asn n rows) = isUp (n .phase)
+isUpSlot (used p) = isUp (p .neighbour .phase)
 
 unfoldable pub saysUpdate : Decoded → Bool
 saysUpdate (D.Good m) = isUpdate m

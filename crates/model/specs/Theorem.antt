@@ -22,7 +22,7 @@ use Rattle.calls.specs.Carried.{partAt}
 use Rattle.slots.specs.Calls.{freshOf, addOf, removeOf}
 use Rattle.calls.specs.Calls.{eventOutcome, eventTable, eventBuffer, messageOutcome, messageTable, messageBuffer}
 use Rattle.lines.specs.Listing.{markedRow, listingOutcome, listingBuffer}
-use Rattle.model.specs.Model.{Call, add, remove, happen, receive, listing, Slot, free, used, Model, Said, model, modelFrom, empty, saidFrom, step}
+use Rattle.model.specs.Model.{Call, add, remove, happen, receive, listing, Peer, Slot, free, used, Model, Said, model, modelFrom, empty, saidFrom, step}
 use Rattle.model.specs.History.{lastAccepted, isElsewhere, takesNoSlot}
 
 -- ---- the gateway's own definitions, over a list
@@ -108,14 +108,14 @@ seenBy g calls = seenFrom (begun g) calls
 -- 01: "The count is their number"
 unfoldable pub cell : Slot → Stored.Slot
 cell free = freeSlot
-cell (used address asn n rows) = record { address = address; asn = asn; neighbour = n; rows = length rows }
+cell (used p) = record { address = p .address; asn = p .asn; neighbour = p .neighbour; rows = length (p .rows) }
 
 unfoldable pub stateOf : Model → State
 stateOf m = record { settings = m .settings; slots = map cell (m .slots) }
 
 unfoldable pub rowsHeld : Slot → List Row
 rowsHeld free = []
-rowsHeld (used address asn n rows) = rows
+rowsHeld (used p) = p .rows
 
 -- 01: "the table has them as under Numbers": "slot by slot, three a row .. Unused rows are zero"
 unfoldable pub part : Slot → List ℕ
@@ -231,10 +231,13 @@ pub record Sensible (b : Gateway) : Type 0 where
 abbrev pub Listable : Gateway → Type 0
 Listable b = (j : ℕ) → j < 8 → every markedRow (rowsAt b j) ≡ true
 
+-- a stored record, with these rows
+abbrev pub peerFrom : Stored.Slot → List Row → Peer
+peerFrom slot rows = record { address = slot .address; asn = slot .asn; neighbour = slot .neighbour; rows = rows }
+
 -- one slot of the model, from its record and its part of the table
 unfoldable pub slotFrom : Stored.Slot → List ℕ → Slot
-slotFrom slot numbers =
-    cond (eqb (slot .address) 0) free (used (slot .address) (slot .asn) (slot .neighbour) (rowsOf (take (3 * slot .rows) numbers)))
+slotFrom slot numbers = cond (eqb (slot .address) 0) free (used (peerFrom slot (rowsOf (take (3 * slot .rows) numbers))))
 
 unfoldable pub slotsFrom : List Stored.Slot → List ℕ → List Slot
 slotsFrom [] table = []

@@ -108,7 +108,7 @@ unfolding padded
 zeros-behind rows =
     drop-at (flat rows) (zeros (384 - length (flat rows))) (3 * length rows) (flat-length rows) ∙ ap (λ (k : ℕ). zeros (384 - k)) (flat-length rows)
 
-good-sensible : (m : Model) → Good m → Sensible (represent m)
+pub good-sensible : (m : Model) → Good m → Sensible (represent m)
 unfolding represent unused
 good-sensible m ok =
     record {

@@ -14,10 +14,10 @@ use Rattle.state.specs.Outcomes.{refusedOf}
 use Rattle.calls.specs.Carried.{partAt}
 use Rattle.lines.specs.Lines.{stateWord, modeWord, distanceIn, sideWord, headLines, rowLines, rowText, entryText, listingText}
 use Rattle.lines.specs.Listing.{usedRows, entryOf, entriesFrom, entries, markedRow, listable, listingChecks, listingOutcome, listingBuffer}
-use Rattle.lines.specs.Cases.{settings, acquired, waiting, slot, stateU, tableU, stateMixed, tableMixed, Cases}
+use Rattle.lines.specs.Cases.{settings, acquiredNeighbour, slot, stateU, tableU, stateMixed, tableMixed, Cases}
 
 pub cases : Cases
-unfolding text digit digits decimal dotted line join stateWord modeWord distanceIn sideWord headLines rowLines rowText entryText listingText usedRows entryOf entriesFrom entries markedRow listable listingChecks listingOutcome listingBuffer check ifOk refusedOf partAt rowsOf zeros every distinct freeSlot addresses clash netWidth hostSpan goodNet onNet goodSettings goodPeer rowsFormed freeFormed usedFormed slotFormed stateFormed allZero idleFormed timersBelow timersRun t2Formed registerFormed agreed intervalsFormed causeFormed wellFormed Record.idle Record.under settings acquired waiting slot stateU tableU stateMixed tableMixed
+unfolding text digit digits decimal dotted line join stateWord modeWord distanceIn sideWord headLines rowLines rowText entryText listingText usedRows entryOf entriesFrom entries markedRow listable listingChecks listingOutcome listingBuffer check ifOk refusedOf partAt rowsOf zeros every distinct freeSlot addresses clash netWidth hostSpan goodNet onNet goodSettings goodPeer rowsFormed freeFormed usedFormed slotFormed stateFormed allZero idleFormed timersBelow timersRun t2Formed registerFormed agreed intervalsFormed causeFormed wellFormed Record.idle Record.under Record.withNumbers Record.withTimers Record.withReach Record.initialised Record.waiting settings acquiredNeighbour slot stateU tableU stateMixed tableMixed
 cases =
     record {
       formed-u = refl;

@@ -3,7 +3,7 @@ use Prim.Native.Nat.{ℕ, zero, suc, _+_, _*_, _<_}
 use native.Mathlib.Nat.{le-of-suc-le-suc, not-suc-le-zero}
 use native.Mathlib.Omega.{arith}
 use mathlib.Core.Path.{_≡_, refl, _∙_, ap}
-use mathlib.Core.Bool.{Bool, true, false, cond}
+use mathlib.Core.Bool.{Bool, true, cond}
 use mathlib.Core.List.{List, [], _∷_, _++_, map, append-assoc}
 use lib.Dec.{eqb}
 use lib.ListN.{length, getD, set, length-append}
@@ -22,16 +22,6 @@ first-map p q f r h [] e = refl
 first-map p q f r h (x ∷ xs) e =
     rw (h x (and-left (r x) (every r xs) e))
     (ap (λ (k : ℕ). cond (q x) 0 (suc k)) (first-map p q f r h xs (and-right (r x) (every r xs) e)))
-
-pub first-found : (p : Slot → Bool) (l : List Slot) (d : Slot) → first p l < length l → p (getD l (first p l) d) ≡ true
-unfolding first
-first-found p [] d h = absurd (not-suc-le-zero h)
-first-found p (x ∷ xs) d h = go (p x) refl (first-found p xs d) h
-  where
-    go : (b : Bool) → p x ≡ b → (first p xs < length xs → p (getD xs (first p xs) d) ≡ true)
-        → cond b 0 (suc (first p xs)) < suc (length xs) → p (getD (x ∷ xs) (cond b 0 (suc (first p xs))) d) ≡ true
-    go true e r k = e
-    go false e r k = r (le-of-suc-le-suc k)
 
 pub map-map : {A B C : Type 0} (f : A → B) (h : B → C) (l : List A) → map h (map f l) ≡ map (λ x. h (f x)) l
 map-map f h [] = refl

@@ -28,7 +28,7 @@ use Rattle.state.specs.Slots.{freeSlot, slotAt, slotOf, present}
 use Rattle.state.specs.Formed.{goodPeer, stateFormed}
 use Rattle.state.specs.Claims.{SlotGood}
 use Rattle.state.specs.Outcomes.{refusedOf, silentOf}
-use Rattle.state.proofs.ListLaws.{every-set}
+use Rattle.state.proofs.ListLaws.{first-in, every-set}
 use Rattle.slots.specs.Calls as Slots
 use Rattle.slots.specs.Calls.{newcomer, addOf, removeOf}
 use Rattle.calls.specs.declared.Effect.{Effect}
@@ -44,7 +44,6 @@ use Rattle.lines.specs.Lines.{listingText}
 use Rattle.lines.specs.Listing.{entries, listingChecks, listingOutcome, listingBuffer}
 use Rattle.model.specs.Model.{isFree, noMove, moved, answerTo, afterMessage, rowsAfter, Call, add, remove, happen, receive, listing, Slot, free, used, Model, slotIn, put, hasAddress, placeOf, isPresent, vacancy, Said, silent, spoken, addable, addAnswer, isIdleSlot, removeAnswer, addTurn, removeTurn, Move, eventMove, messageMove, eventAnswer, messageAnswer, turnAt, eventTurn, messageTurn, listed, listingAnswer, listingSaid, listingTurn, step, Peer, newPeer, refusedMove}
 use Rattle.model.specs.Theorem.{Gateway, outcomeOf, tableAfter, bufferOf, bufferAfter, listsNothing, cell, stateOf, rowsHeld, part, tableOf}
-use Rattle.model.proofs.Lists.{first-found}
 use Rattle.model.proofs.Represent.{sound, Good, used-at, slot-of, lowest-of, at-of, state-ok, good-at, sound-at, state-with, table-length, table-with, table-same}
 use Rattle.model.proofs.Listed.{Marked, entries-of, listing-answer}
 use Rattle.model.proofs.Moves.{no-rows, partFrom, Agrees, event-agrees, message-agrees}
@@ -171,7 +170,7 @@ module _ (m : Model) (ok : Good m) where
 
   pub found-used : (a : ℕ) → placeOf m a < 8 → hasAddress a (slotIn m (placeOf m a)) ≡ true
   unfolding placeOf slotIn
-  found-used a h = first-found (hasAddress a) (m .slots) free (omega (arith, ok .eight))
+  found-used a h = first-in (hasAddress a) (m .slots) free (omega (arith, ok .eight))
 
   present-of : (a : ℕ) → present (stateOf m) a ≡ isPresent m a
   unfolding isPresent
@@ -282,7 +281,7 @@ module _ (m : Model) (ok : Good m) where
 
   pub found-free : vacancy m < 8 → isFree (slotIn m (vacancy m)) ≡ true
   unfolding vacancy slotIn
-  found-free h = first-found isFree (m .slots) free (omega (arith, ok .eight))
+  found-free h = first-in isFree (m .slots) free (omega (arith, ok .eight))
 
   vacant-none : vacancy m < 8 → rowsHeld (slotIn m (vacancy m)) ≡ []
   vacant-none h = free-none (slotIn m (vacancy m)) (found-free h)

@@ -6,11 +6,11 @@ use mathlib.Core.List.{List, [], _∷_}
 use lib.Dec.{ltb, leb, eqb}
 use lib.ListN.{length, getD}
 use lib.Seq.{set-getD}
-use borrow.Author.Tests.{eqb-true, eqb-false, ne-eqb}
+use borrow.Author.Tests.{eqb-true, eqb-false}
 use Rattle.checks.specs.Checks.{check, ifOk}
 use Rattle.checks.specs.Lists.{every}
 use Rattle.neighbour.specs.Record.{isUp}
-use Rattle.checks.proofs.Laws.{cond-elim, and-left, and-right, check-holds}
+use Rattle.checks.proofs.Laws.{cond-elim, and-left, and-right, check-holds, ifOk-new, ifOk-old}
 use Rattle.octets.specs.Numbers.{word16}
 use Rattle.octets.specs.Checksum.{checksumOf}
 use Rattle.nets.specs.Rows.{Row, rowsOf}
@@ -119,14 +119,6 @@ module _ (m : Model) where
 
 -- ---- refused
 
-when-not : {A : Type 0} (k : ℕ) (new old : A) → (k ≡ 0 → ⊥) → ifOk k new old ≡ old
-unfolding ifOk
-when-not k new old h = rw (ne-eqb k 0 h)
-
-when-zero : {A : Type 0} (k : ℕ) (new old : A) → k ≡ 0 → ifOk k new old ≡ new
-unfolding ifOk
-when-zero k new old h = rw h
-
 put-same : (m : Model) (i : ℕ) → put m i (slotIn m i) ≡ m
 unfolding put slotIn
 put-same m i = let e = set-getD (m .slots) i free in λ k. record { settings = m .settings; slots = e k }
@@ -137,7 +129,7 @@ message-keeps g o free h = refl
 message-keeps g o (used peer) h = go (eqb (answerTo g (peer .asn) (peer .neighbour) o) 0) refl
   where
     go : (b : Bool) → eqb (answerTo g (peer .asn) (peer .neighbour) o) 0 ≡ b → (messageMove g o (used peer)) .slot ≡ used peer
-    go true e = absurd (h (ap (λ (x : Move). x .answer) (when-zero (answerTo g (peer .asn) (peer .neighbour) o) _ _ (eqb-true (answerTo g (peer .asn) (peer .neighbour) o) 0 e))))
+    go true e = absurd (h (ap (λ (x : Move). x .answer) (ifOk-new (answerTo g (peer .asn) (peer .neighbour) o) _ _ (eqb-true (answerTo g (peer .asn) (peer .neighbour) o) 0 e))))
     go false e = ap (λ (x : Move). x .slot) (message-stays g o peer e)
 
 module _ (m : Model) where
@@ -149,9 +141,9 @@ module _ (m : Model) where
       go : (b : Bool) → eqb k 0 ≡ b → ifOk k (put m place (move .slot)) m ≡ m
       go true e =
           let z = eqb-true k 0 e in
-          let n : move .answer ≡ 0 → ⊥ = λ q. h (ap (λ (x : Said). x .answer) (when-zero k _ _ z) ∙ spoken-answer (move .answer) (move .reply) home ∙ q) in
-          when-zero k _ _ z ∙ ap (put m place) (s n) ∙ put-same m place
-      go false e = when-not k _ _ (eqb-false k 0 e)
+          let n : move .answer ≡ 0 → ⊥ = λ q. h (ap (λ (x : Said). x .answer) (ifOk-new k _ _ z) ∙ spoken-answer (move .answer) (move .reply) home ∙ q) in
+          ifOk-new k _ _ z ∙ ap (put m place) (s n) ∙ put-same m place
+      go false e = ifOk-old k _ _ (eqb-false k 0 e)
 
   event-keeps : (event : Intrinsic) (a : ℕ) (buffer : List ℕ) → ((eventTurn event m a buffer) .said .answer ≡ 0 → ⊥) → (eventTurn event m a buffer) .model ≡ m
   unfolding eventTurn
@@ -161,8 +153,8 @@ module _ (m : Model) where
   -- 01: "refused calls and listings change nothing"
   pub refused-keeps : (call : Call) → ((step call m) .said .answer ≡ 0 → ⊥) → (step call m) .model ≡ m
   unfolding step addTurn removeTurn messageTurn listingTurn silent
-  refused-keeps (add address asn) h = when-not (addAnswer m address asn) _ _ h
-  refused-keeps (remove address) h = when-not (removeAnswer m address) _ _ h
+  refused-keeps (add address asn) h = ifOk-old (addAnswer m address asn) _ _ h
+  refused-keeps (remove address) h = ifOk-old (removeAnswer m address) _ _ h
   refused-keeps (happen event a buffer) h = event-keeps event a buffer h
   refused-keeps (receive a o home buffer) h =
       turn-keeps _ (placeOf m a) (messageMove (m .settings) o (slotIn m (placeOf m a))) (rowsOf home)

@@ -62,6 +62,16 @@ allReport m =
 unfoldable pub fallsSilent : Neighbour → Bool
 fallsSilent n = eqb (n .t1) 1 && goesDown (n .mode) (onesOf ((n .register * 2 + n .heard) % 16))
 
+-- in one test, so that the run is computed once: S is 1; and with t3 of the first at 1 all is as well formed
+unfoldable pub eightFacts : Model → Bool
+eightFacts m =
+    allReport m
+    && (eqb ((recordIn m 0) .s) 1
+    && (allReport (lateFirst m) && (stateFormed (stateOf (lateFirst m)) && eqb ((recordIn (lateFirst m) 0) .t3) 1)))
+
+unfoldable pub silentFacts : Model → Bool
+silentFacts m = allReport m && fallsSilent (recordIn m 0)
+
 -- a passive neighbour in Up with T1 and T2 122 and these numbers; all else as in n
 unfoldable pub atRest : Neighbour → (s register heard t1 t2 t3 : ℕ) → Neighbour
 atRest n s register heard t1 t2 t3 =
@@ -85,14 +95,8 @@ unfoldable pub entered : List Call
 entered = almostUp ++ (tick 1 lent ∷ [])
 
 pub record Computed : Type 0 where
-  pub all-up : allReport (modelFrom (empty someSettings) eight) ≡ true
-  pub number : (recordIn (modelFrom (empty someSettings) eight) 0) .s ≡ 1
-  pub still : allReport (modelFrom (empty someSettings) (eight ++ ticks 1 609)) ≡ true
-  pub silent : fallsSilent (recordIn (modelFrom (empty someSettings) (eight ++ ticks 1 609)) 0) ≡ true
-  -- t3 of the first at 1
-  pub late-up : allReport (lateFirst (modelFrom (empty someSettings) eight)) ≡ true
-  pub late-formed : stateFormed (stateOf (lateFirst (modelFrom (empty someSettings) eight))) ≡ true
-  pub late-due : (recordIn (lateFirst (modelFrom (empty someSettings) eight)) 0) .t3 ≡ 1
+  pub all-up : eightFacts (modelFrom (empty someSettings) eight) ≡ true
+  pub silent : silentFacts (modelFrom (empty someSettings) (eight ++ ticks 1 609)) ≡ true
   -- polled three times, the register is full; from then on each poll moves S alone
   pub one-up : Rests (modelFrom (empty someSettings) (reporting 1)) 1 1 1 122 122 3600
   pub full : (n : Neighbour) → Rests (modelFrom (alone (atRest n 1 1 1 122 122 3600)) (polled 3)) 4 15 0 122 122 3478
@@ -112,16 +116,11 @@ pub record Computed : Type 0 where
   pub taken : accepts (modelFrom (empty someSettings) entered) 0 (receive 1 (octetsOf (Update 7 1 129 2148073472) (classA 10 1)) [] lent) ≡ true
 
 pub computed : Computed
-unfolding someSettings lent classA ticks saysHello reporting eight polled almostUp slow late lateFirst entered isFull allReport fallsSilent reports rowsHeld stateOf stateFormed goodSettings goodPeer rowsFormed freeFormed usedFormed slotFormed addresses clash allZero idleFormed timersBelow timersRun t2Formed registerFormed agreed intervalsFormed causeFormed wellFormed History.isUpSlot History.saysUpdate History.accepts History.rowsSaid Theorem.cell Windows.isIndication Windows.isEvaluation Windows.isRestart Windows.recordIn Windows.saidEvent Windows.doneFor Windows.eventFor Windows.holdsOf Windows.brings restartsNone windows latest atRest alone Calls.empty Calls.slotIn Calls.put Calls.isFree Calls.hasAddress Calls.placeOf Calls.isPresent Calls.vacancy Calls.silent Calls.spoken Calls.addable Calls.addAnswer Calls.addTurn Calls.noMove Calls.rowsIn Calls.moved Calls.noOctets Calls.eventMove Calls.bodyAnswer Calls.isUpdate Calls.kindAnswer Calls.answerTo Calls.firstTwelve Calls.errorReply Calls.refuseReply Calls.refusalReply Calls.afterMessage Calls.rowsAfter Calls.messageMove Calls.eventAnswer Calls.messageAnswer Calls.turnAt Calls.eventTurn Calls.messageTurn Calls.step Calls.modelFrom Calls.model check ifOk Wire.headerAnswer Wire.meaningOf Wire.decodeAs Wire.decodeOf Wire.numberOf Writing.headOf Writing.plainOctets Writing.fixedOctets Body.digits Body.many Body.leftJustified Body.rowOfWidth Body.netRow Body.groupRows Body.hostWidth Body.gatewayOf Body.blockRows Body.bothSides Body.nothingLeft Body.bodyOf Body.further Body.netAt Body.blocksOf Body.judged Body.updateOf Body.numberOf Body.rowsRead Blocks.sideRows Blocks.joined Blocks.runs Blocks.each Blocks.addressOctets Blocks.netOctets Blocks.hostOctets Blocks.netsOctets Blocks.groupOctets Blocks.groupsOctets Blocks.blockOctets Blocks.sideOctets Blocks.blocksOf Blocks.internalBlocks Blocks.externalBlocks Record.under Record.withNumbers Record.withTimers Record.withReach Record.idle Record.leftIdle Record.waiting Record.initialised Record.heardFrom Record.shifted Record.enterUp Record.leaveUp Record.polled Rules.inSequence Rules.commanded Rules.indicates Rules.noted Rules.helloInterval Rules.pollInterval Rules.unacceptable Rules.modeOf Rules.offerOf Rules.onesOf Rules.goesUp Rules.goesDown Rules.judged Table.followed Table.quiet Table.answers Table.says Table.helloIf Table.doesA Table.doesB Table.ceases Table.repeatsCease Table.acquires Table.stray Table.onRequest Table.settles Table.onConfirm Table.onRefuse Table.onCease Table.onCeaseAck Table.onHello Table.onIHeardYou Table.answersPoll Table.onPoll Table.onUpdate Table.onStart Table.onStop Tick.expired Tick.repeats Tick.listens Tick.polls Tick.pollsOnEntry Tick.takesT2 Tick.pollsInUp Tick.runs Tick.onTick Step.onMessage Step.stepOf Kinds.kindAt Kinds.plainStatus Kinds.refusalStatus Kinds.markedStatus Checksum.onesAdd Checksum.onesSum Checksum.checksumOf Checksum.sealed Checksum.wordTotal Checksum.folded Classes.netWidth Classes.hostSpan Classes.goodNet Classes.onNet Home.homeRow Home.ownFirst Home.goodHome Octets.updateOctets Octets.octetsOf Rows.flat Rows.rowsOf Storing.zeros Storing.padded Storing.isWhole Storing.rowsIn Storing.isGot Storing.gotRows Storing.gotRest Lists.first Lists.every Lists.distinct
+unfolding someSettings lent classA ticks saysHello reporting eight polled almostUp slow late lateFirst entered isFull allReport fallsSilent eightFacts silentFacts reports rowsHeld stateOf stateFormed goodSettings goodPeer rowsFormed freeFormed usedFormed slotFormed addresses clash allZero idleFormed timersBelow timersRun t2Formed registerFormed agreed intervalsFormed causeFormed wellFormed History.isUpSlot History.saysUpdate History.accepts History.rowsSaid Theorem.cell Windows.isIndication Windows.isEvaluation Windows.isRestart Windows.recordIn Windows.saidEvent Windows.doneFor Windows.eventFor Windows.holdsOf Windows.brings restartsNone windows latest atRest alone Calls.empty Calls.slotIn Calls.put Calls.isFree Calls.hasAddress Calls.placeOf Calls.isPresent Calls.vacancy Calls.silent Calls.spoken Calls.addable Calls.addAnswer Calls.addTurn Calls.noMove Calls.rowsIn Calls.moved Calls.noOctets Calls.eventMove Calls.bodyAnswer Calls.isUpdate Calls.kindAnswer Calls.answerTo Calls.firstTwelve Calls.errorReply Calls.refuseReply Calls.refusalReply Calls.afterMessage Calls.rowsAfter Calls.messageMove Calls.eventAnswer Calls.messageAnswer Calls.turnAt Calls.eventTurn Calls.messageTurn Calls.step Calls.modelFrom Calls.model check ifOk Wire.headerAnswer Wire.meaningOf Wire.decodeAs Wire.decodeOf Wire.numberOf Writing.headOf Writing.plainOctets Writing.fixedOctets Body.digits Body.many Body.leftJustified Body.rowOfWidth Body.netRow Body.groupRows Body.hostWidth Body.gatewayOf Body.blockRows Body.bothSides Body.nothingLeft Body.bodyOf Body.further Body.netAt Body.blocksOf Body.judged Body.updateOf Body.numberOf Body.rowsRead Blocks.sideRows Blocks.joined Blocks.runs Blocks.each Blocks.addressOctets Blocks.netOctets Blocks.hostOctets Blocks.netsOctets Blocks.groupOctets Blocks.groupsOctets Blocks.blockOctets Blocks.sideOctets Blocks.blocksOf Blocks.internalBlocks Blocks.externalBlocks Record.under Record.withNumbers Record.withTimers Record.withReach Record.idle Record.leftIdle Record.waiting Record.initialised Record.heardFrom Record.shifted Record.enterUp Record.leaveUp Record.polled Rules.inSequence Rules.commanded Rules.indicates Rules.noted Rules.helloInterval Rules.pollInterval Rules.unacceptable Rules.modeOf Rules.offerOf Rules.onesOf Rules.goesUp Rules.goesDown Rules.judged Table.followed Table.quiet Table.answers Table.says Table.helloIf Table.doesA Table.doesB Table.ceases Table.repeatsCease Table.acquires Table.stray Table.onRequest Table.settles Table.onConfirm Table.onRefuse Table.onCease Table.onCeaseAck Table.onHello Table.onIHeardYou Table.answersPoll Table.onPoll Table.onUpdate Table.onStart Table.onStop Tick.expired Tick.repeats Tick.listens Tick.polls Tick.pollsOnEntry Tick.takesT2 Tick.pollsInUp Tick.runs Tick.onTick Step.onMessage Step.stepOf Kinds.kindAt Kinds.plainStatus Kinds.refusalStatus Kinds.markedStatus Checksum.onesAdd Checksum.onesSum Checksum.checksumOf Checksum.sealed Checksum.wordTotal Checksum.folded Classes.netWidth Classes.hostSpan Classes.goodNet Classes.onNet Home.homeRow Home.ownFirst Home.goodHome Octets.updateOctets Octets.octetsOf Rows.flat Rows.rowsOf Storing.zeros Storing.padded Storing.isWhole Storing.rowsIn Storing.isGot Storing.gotRows Storing.gotRest Lists.first Lists.every Lists.distinct
 computed =
     record {
       all-up = refl;
-      number = refl;
-      still = refl;
       silent = refl;
-      late-up = refl;
-      late-formed = refl;
-      late-due = refl;
       one-up = record { base = recordIn (modelFrom (empty someSettings) (reporting 1)) 0; is = refl };
       full = λ n. record { base = recordIn (modelFrom (alone (atRest n 1 1 1 122 122 3600)) (polled 3)) 0; is = refl };
       once = λ n s. record { base = recordIn (modelFrom (alone (atRest n s 15 0 122 122 3478)) (saysHello 1 ∷ ticks 1 122)) 0; is = refl };

@@ -54,7 +54,7 @@ use Rattle.model.proofs.History.{model-append, step-settings}
 use Rattle.model.proofs.Theorem.{step-is, rows-read, run-is, run-state, model-good, last}
 use Rattle.model.proofs.Corollaries.{slot-is, good-sensible}
 use Rattle.model.proofs.Quiet.{slot-run, up-run}
-use Rattle.model.proofs.Computed.{isFull, allReport, fallsSilent, atRest, alone, Rests, entered, computed}
+use Rattle.model.proofs.Computed.{isFull, allReport, fallsSilent, eightFacts, silentFacts, atRest, alone, Rests, entered, computed}
 
 some-taken : Taken someSettings
 unfolding someSettings Slots.freshOf Slots.freshAnswer Outcomes.silentOf check Formed.goodSettings Classes.goodNet Classes.onNet Classes.netWidth Classes.hostSpan
@@ -105,13 +105,44 @@ module _ (m : Model) (t : allReport m ≡ true) where
   first-up : isUp ((recordIn m 0) .phase) ≡ true
   first-up = and-right (eqb ((cell (slotIn m 0)) .asn) 7) _ (and-right (reports 167772160 (rowsHeld (slotIn m 1))) _ behind-first)
 
-eight-report : allReport (model someSettings eight) ≡ true
+module _ (m : Model) (t : eightFacts m ≡ true) where
+  all-report : allReport m ≡ true
+  unfolding eightFacts
+  all-report = and-left _ _ t
+
+  behind-report : (eqb ((recordIn m 0) .s) 1 && (allReport (lateFirst m) && (stateFormed (stateOf (lateFirst m)) && eqb ((recordIn (lateFirst m) 0) .t3) 1))) ≡ true
+  unfolding eightFacts
+  behind-report = and-right (allReport m) _ t
+
+  number-one : (recordIn m 0) .s ≡ 1
+  number-one = eqb-true ((recordIn m 0) .s) 1 (and-left _ _ behind-report)
+
+  late-all : (allReport (lateFirst m) && (stateFormed (stateOf (lateFirst m)) && eqb ((recordIn (lateFirst m) 0) .t3) 1)) ≡ true
+  late-all = and-right (eqb ((recordIn m 0) .s) 1) _ behind-report
+
+  late-report : allReport (lateFirst m) ≡ true
+  late-report = and-left _ _ late-all
+
+  late-formed : stateFormed (stateOf (lateFirst m)) ≡ true
+  late-formed = and-left _ _ (and-right (allReport (lateFirst m)) _ late-all)
+
+  late-due : (recordIn (lateFirst m) 0) .t3 ≡ 1
+  late-due = eqb-true ((recordIn (lateFirst m) 0) .t3) 1 (and-right (stateFormed (stateOf (lateFirst m))) _ (and-right (allReport (lateFirst m)) _ late-all))
+
+eight-facts : eightFacts (model someSettings eight) ≡ true
 unfolding model
-eight-report = computed .all-up
+eight-facts = computed .all-up
+
+eight-report : allReport (model someSettings eight) ≡ true
+eight-report = all-report _ eight-facts
+
+silent-facts : silentFacts (model someSettings (eight ++ ticks 1 609)) ≡ true
+unfolding model
+silent-facts = computed .silent
 
 still-report : allReport (model someSettings (eight ++ ticks 1 609)) ≡ true
-unfolding model
-still-report = computed .still
+unfolding silentFacts
+still-report = and-left _ _ silent-facts
 
 -- two report one net, read off any table
 both-in : (b : Gateway) (m : Model) → allReport m ≡ true → ((j : ℕ) → j < 8 → rowsAt b j ≡ rowsHeld (slotIn m j)) → BothReport b 0 1 167772160
@@ -178,8 +209,8 @@ unfolding recordIn
 first-record calls = ap (λ (s : Stored.Slot). s .neighbour) (slot-run someSettings some-taken calls 0)
 
 goes-silent : fallsSilent (recordIn (model someSettings (eight ++ ticks 1 609)) 0) ≡ true
-unfolding model
-goes-silent = computed .silent
+unfolding silentFacts
+goes-silent = and-right (allReport (model someSettings (eight ++ ticks 1 609))) _ silent-facts
 
 module _ (n : Neighbour) (t : fallsSilent n ≡ true) where
   one-second : n .t1 ≡ 1
@@ -218,13 +249,9 @@ body-on : (b : Gateway) (o : List ℕ) (rows : List Row) → b .state .settings 
 body-on b o rows e r =
     ap (λ (g : Settings). Body.updateOf 128 (g .net) o) e ∙ ap (λ (net : ℕ). Body.updateOf 128 net o) some-net ∙ r
 
-number-one : (recordIn (model someSettings eight) 0) .s ≡ 1
-unfolding model
-number-one = computed .number
-
 pub full-met : FullMet
 full-met =
-    let s : (slotOn (run someSettings eight) 0) .neighbour .s ≡ 1 = ap (λ (n : Neighbour). n .s) (first-record eight) ∙ number-one in
+    let s : (slotOn (run someSettings eight) 0) .neighbour .s ≡ 1 = ap (λ (n : Neighbour). n .s) (first-record eight) ∙ number-one _ eight-facts in
     let r = read-back .full-update in
     record {
       up = ap (λ (n : Neighbour). isUp (n .phase)) (first-record eight) ∙ first-up (model someSettings eight) eight-report;
@@ -247,10 +274,6 @@ unfolding sound late
 sound-late free e = refl
 sound-late (used p) e = e
 
-late-formed : stateFormed (stateOf (lateFirst (model someSettings eight))) ≡ true
-unfolding model
-late-formed = computed .late-formed
-
 late-good : Good (lateFirst (model someSettings eight))
 unfolding lateFirst put
 late-good =
@@ -259,20 +282,12 @@ late-good =
     record {
       eight = length-set (m .slots) 0 (late (slotIn m 0)) ∙ ok .eight;
       each = every-set sound (m .slots) 0 (late (slotIn m 0)) (ok .each) (sound-late (slotIn m 0) (sound-at m ok 0));
-      formed = late-formed;
+      formed = late-formed m eight-facts;
     }
 
 is-overdue : represent (lateFirst (model someSettings eight)) ≡ overdue
 unfolding represent overdue
 is-overdue = refl
-
-late-report : allReport (lateFirst (model someSettings eight)) ≡ true
-unfolding model
-late-report = computed .late-up
-
-late-due : (recordIn (lateFirst (model someSettings eight)) 0) .t3 ≡ 1
-unfolding model
-late-due = computed .late-due
 
 pub time-out-met : TimeOutMet
 unfolding recordIn
@@ -280,8 +295,8 @@ time-out-met =
     let m = lateFirst (model someSettings eight) in
     record {
       sensible = subst Sensible is-overdue (good-sensible m late-good);
-      both = both-in overdue m late-report (λ j j8. ap (λ (b : Gateway). rowsAt b j) (sym is-overdue) ∙ rows-read m late-good j j8);
-      due = ap (λ (b : Gateway). (slotOn b 0) .neighbour .t3) (sym is-overdue) ∙ ap (λ (s : Stored.Slot). s .neighbour .t3) (slot-is m late-good 0) ∙ late-due;
+      both = both-in overdue m (late-report _ eight-facts) (λ j j8. ap (λ (b : Gateway). rowsAt b j) (sym is-overdue) ∙ rows-read m late-good j j8);
+      due = ap (λ (b : Gateway). (slotOn b 0) .neighbour .t3) (sym is-overdue) ∙ ap (λ (s : Stored.Slot). s .neighbour .t3) (slot-is m late-good 0) ∙ late-due _ eight-facts;
     }
 
 -- ---- the last number

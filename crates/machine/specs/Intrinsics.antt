@@ -9,7 +9,7 @@ pub data Intrinsic : Type 0 where
   Tick : Intrinsic
 
 -- 01: "An event is a message, Start, Stop or a tick"
-unfoldable pub asEvent : Intrinsic → Event
+abbrev pub asEvent : Intrinsic → Event
 asEvent Start = E.Start
 asEvent Stop = E.Stop
 asEvent Tick = E.Tick

@@ -107,16 +107,19 @@ module _ (c : Course) (out line table piece rest : List ℕ) (at : rest ≡ rest
       → (stage : Stage) → stage ≡ nextStage (t .player) (length rest - t .used)
       → (line′ table′ out′ : List ℕ) → line′ ≡ heldOf (c .player) line rest → table′ ≡ turned .table → out′ ≡ over (turned .text) out
       → (_≡_ {A = Went} (record { course = record { player = t .player; stage = stage; from = c .from + t .used; to = c .to }; written = t .written })
-        (wentOf (playStep out c line table piece)))
-        × ((line′ ≡ (playStep out c line table piece) .line)
-        × ((table′ ≡ (playStep out c line table piece) .table) × (out′ ≡ over ((playStep out c line table piece) .text) out)))
+      (wentOf (playStep out c line table piece)))
+      × ((line′ ≡ (playStep out c line table piece) .line)
+      × ((table′ ≡ (playStep out c line table piece) .table) × (out′ ≡ over ((playStep out c line table piece) .text) out)))
   unfolding toldOf wentOf playOn turnedTo
   played-on t h stage k line′ table′ out′ l m o =
-      let ks = k ∙ ap (λ (u : Told). nextStage (u .player) (length rest - u .used)) h in
-      ((λ i. record { course = record { player = (h i) .player; stage = ks i; from = c .from + (h i) .used; to = c .to }; written = (h i) .written })
-      ∙ ap wentOf on-piece,
-      (l ∙ ap (λ (s : Stepped). s .line) on-piece,
-      (m ∙ ap (λ (s : Stepped). s .table) on-piece, o ∙ ap (λ (s : Stepped). over (s .text) out) on-piece)))
+      let ks = k ∙ ap (λ (u : Told). nextStage (u .player) (length rest - u .used)) h in (
+        (λ i. record { course = record { player = (h i) .player; stage = ks i; from = c .from + (h i) .used; to = c .to }; written = (h i) .written })
+            ∙ ap wentOf on-piece,
+        (
+          l ∙ ap (λ (s : Stepped). s .line) on-piece,
+          (m ∙ ap (λ (s : Stepped). s .table) on-piece, o ∙ ap (λ (s : Stepped). over (s .text) out) on-piece),
+        ),
+      )
 
 -- close and listing
 pub ended-by : (c : Course) (s : Step) (stage : Stage) (line table : List ℕ) (t : Told) → t ≡ toldOf s 0

@@ -9,7 +9,6 @@ returns : tie.Need-returns
 unfolding staged
 returns c = refl
 
-
 pub at-stage-spec : {M : Type 1} → statement M
 at-stage-spec =
     tie.close

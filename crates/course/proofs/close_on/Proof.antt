@@ -18,7 +18,6 @@ returns c =
     let a = c .before .before .before .before .before .before .before .args in let t = c .before .before .before .close in
     (λ line table. ended-by (a .c) _ Listing line table (t .result) (t .ensures .0 table), λ line table. t .ensures .1 table)
 
-
 pub close-on-spec : {M : Type 1} → statement M
 close-on-spec =
     tie.close

@@ -21,7 +21,6 @@ returns-2 c = let a = c .before .before .before .args in c .at-stage2 .ensures â
 returns-3 : tie.Need-returns-3
 returns-3 c = let a = c .before .before .before .args in sym (given-some (a .c) (a .good) (a .size) (not-false (a .good) (c .before .before .if1 .left)) (ne-eqb _ _ (c .before .if2 .left)))
 
-
 pub given-spec : {M : Type 1} â†’ statement M
 given-spec =
     tie.close

@@ -40,7 +40,6 @@ returns-5 : tie.Need-returns-5
 unfolding isOver
 returns-5 c = sym (ap isOver (c .enum-told5 .given .1))
 
-
 pub is-over-spec : {M : Type 1} → statement M
 is-over-spec =
     tie.close

@@ -40,7 +40,6 @@ returns-5 : tie.Need-returns-5
 unfolding isRead
 returns-5 c = sym (ap isRead (c .enum-told5 .given .1))
 
-
 pub is-read-spec : {M : Type 1} → statement M
 is-read-spec =
     tie.close

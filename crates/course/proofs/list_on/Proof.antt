@@ -18,7 +18,6 @@ returns c =
     let a = c .before .before .before .before .before .before .before .before .args in let t = c .before .before .before .finish in
     (λ line. ended-by (a .c) _ Over line (a .table .now) (t .result) (t .ensures .0), λ line. t .ensures .1)
 
-
 pub list-on-spec : {M : Type 1} → statement M
 list-on-spec =
     tie.close

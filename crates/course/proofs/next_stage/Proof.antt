@@ -18,7 +18,6 @@ returns-3 c = let a = c .before .before .before .before .args in sym (next-tick 
 returns-4 : tie.Need-returns-4
 returns-4 c = let a = c .before .before .before .before .args in sym (next-done (a .p) (a .left) (eq-eqb _ _ (c .before .before .before .if1 .left)) (c .before .before .if2 .left) (eq-eqb _ _ (c .if3 .left)))
 
-
 pub next-stage-spec : {M : Type 1} → statement M
 next-stage-spec =
     tie.close

@@ -34,7 +34,6 @@ returns : tie.Need-returns
 returns c = let a = c .before .before .before .before .before .before .before .before .before .before .before .before .before .before .before .before .before .before .before .before .before .args in let t = c .before .before .before .before .before .before .before .before .before .before .before .turn in
     played-on (a .c) (a .out .now) (a .line .now) (a .table .now) (a .piece .now) _ (c .before .before .before .before .before .before .before .before .before .before .before .before .before .before .before .rest-of .ensures) (t .result) (t .ensures .0) _ (c .before .before .next-stage .ensures) _ _ _ (t .ensures .1 .0) (t .ensures .1 .1 .0) (t .ensures .1 .1 .1)
 
-
 pub play-on-spec : {M : Type 1} → statement M
 play-on-spec =
     tie.close

@@ -22,7 +22,6 @@ part-result-end c = search needs
 returns-2 : tie.Need-returns-2
 returns-2 c = let a = c .before .before .before .before .args in rest-some (a .from) (a .to) (a .piece .now) _ (c .before .before .least .ensures)
 
-
 pub rest-of-spec : {M : Type 1} → statement M
 rest-of-spec =
     tie.close

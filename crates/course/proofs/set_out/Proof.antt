@@ -15,7 +15,6 @@ returns : tie.Need-returns
 unfolding setOut
 returns c = ap (λ (p : Player). record { player = p; stage = Read; from = 0; to = 0 }) (c .begin .ensures)
 
-
 pub set-out-spec : {M : Type 1} → statement M
 set-out-spec =
     tie.close

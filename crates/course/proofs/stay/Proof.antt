@@ -9,7 +9,6 @@ returns : tie.Need-returns
 unfolding wentOf stillOn
 returns c = λ line table. refl
 
-
 pub stay-spec : {M : Type 1} → statement M
 stay-spec =
     tie.close

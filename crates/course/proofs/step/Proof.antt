@@ -76,7 +76,6 @@ returns-5 : tie.Need-returns-5
 unfolding stepAt stillOn over
 returns-5 c = let a = c .before .before .before .before .before .before .before .args in at-step (a .out .now) (a .c) (a .line .now) (a .table .now) (a .piece .now) Over (c .before .enum-told5 .given .1) _ _ _ _ (c .stay2 .ensures (a .line .now) (a .table .now), (refl, (refl, refl)))
 
-
 pub step-spec : {M : Type 1} → statement M
 step-spec =
     tie.close

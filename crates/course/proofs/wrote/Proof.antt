@@ -15,7 +15,6 @@ returns c = let a = c .before .before .args in c .at-stage .ensures ∙ sym (wro
 returns-2 : tie.Need-returns-2
 returns-2 c = let a = c .before .args in sym (wrote-good (a .c) (a .good) (not-false (a .good) (c .if1 .left)))
 
-
 pub wrote-spec : {M : Type 1} → statement M
 wrote-spec =
     tie.close

@@ -112,10 +112,10 @@ pub fn given(c: Course, good: bool, size: usize) -> Course
 pub fn wrote(c: Course, good: bool) -> Course
     ensures { λ r. ⌜ r ≡ wroteOf c good ⌝ }
 {
-    if !good {
-        return at_stage(c, Stage::Over);
+    if good {
+        return c;
     }
-    c
+    at_stage(c, Stage::Over)
 }
 
 fn least(a: usize, b: usize) -> usize

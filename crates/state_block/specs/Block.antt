@@ -19,7 +19,8 @@ use Rattle.state.specs.declared.State.{State}
 abbrev pub settingsSize : ℕ
 settingsSize = 11
 
--- "each slot's address (4), AS, S, R, T1, T2, t1, t2, t3, row count (2 each), state, mode, register, heard, cause (1 each)"
+-- "each slot's address (4), AS, S, R, T1, T2, t1, t2, t3, row count (2 each), state, mode, register, heard, cause
+-- (1 each)"
 abbrev pub slotSize : ℕ
 slotSize = 27
 

@@ -20,7 +20,7 @@ use Rattle.wire.specs.Reading as Wire
 use Rattle.wire.specs.declared.Decoded.{Decoded}
 use Rattle.wire.specs.declared.Decoded.the-variants as D
 use Rattle.walk.specs.Body.{UpdateRead, accepted, brokenAt, tooMany, updateOf, rowsRead}
-use Rattle.walk.specs.Walked.{walkedOf, walkedNumber}
+use Rattle.walk.specs.Body as Body
 use Rattle.neighbour.specs.declared.Phase.{Phase}
 use Rattle.neighbour.specs.declared.Settings.{Settings}
 use Rattle.neighbour.specs.declared.Neighbour.{Neighbour}
@@ -99,8 +99,8 @@ module _ (room : ℕ) (g : Settings) (n : Neighbour) (o : List ℕ) where
 
 -- ---- what a number 0 tells
 
-accepted-is : (u : UpdateRead) → walkedNumber (walkedOf u) ≡ 0 → u ≡ accepted (rowsRead u)
-unfolding walkedNumber walkedOf rowsRead
+accepted-is : (u : UpdateRead) → Body.numberOf u ≡ 0 → u ≡ accepted (rowsRead u)
+unfolding Body.numberOf rowsRead
 accepted-is (accepted rows) e = refl
 accepted-is (brokenAt offset) e = absurd (omega (arith, e))
 accepted-is tooMany e = absurd (omega (arith, e))

@@ -12,7 +12,7 @@ use Rattle.message.specs.declared.Known.{Known}
 use Rattle.message.specs.declared.Known.the-variants.{Is, Unknown}
 use Rattle.wire.specs.Reading.{sizeAllowed, versionIs2, checksumHolds, asnAt, statusAt, sequenceAt, kindIn, isKnown, statusFits, lengthFits, meaningOf}
 use Rattle.walk.specs.Body.{updateOf}
-use Rattle.walk.specs.Walked.{walkedOf, walkedNumber}
+use Rattle.walk.specs.Body as Body
 use Rattle.neighbour.specs.declared.Phase.{Phase}
 use Rattle.neighbour.specs.declared.Settings.{Settings}
 use Rattle.neighbour.specs.declared.Neighbour.{Neighbour}
@@ -35,7 +35,7 @@ bringsRows phase (Is kind) = same kind K.Update && isUp phase
 
 -- 14 and 15 by what the walk answers, room being the rows that may be accepted
 unfoldable pub bodyNumber : ℕ → ℕ → List ℕ → ℕ
-bodyNumber room net o = walkedNumber (walkedOf (updateOf room net o))
+bodyNumber room net o = Body.numberOf (updateOf room net o)
 
 -- 01: "Checks go in this order; the first that fails answers": those of a message from the neighbour with this AS and record
 unfoldable pub messageNumber : ℕ → Settings → ℕ → Neighbour → List ℕ → ℕ

@@ -23,8 +23,10 @@ use Rattle.wire.specs.declared.Decoded.{Decoded}
 use Rattle.wire.specs.declared.Decoded.the-variants as D
 use Rattle.wire.proofs.Decoded as DecodedType
 use Rattle.walk.specs.Body.{UpdateRead, accepted, brokenAt, tooMany, updateOf, rowsRead}
-use Rattle.walk.specs.Walked.{walkedOf, walkedNumber}
+use Rattle.walk.specs.Body.{walkedOf, walkedNumber}
+use Rattle.walk.specs.Body as Body
 use Rattle.walk.specs.declared.Walked.the-variants.{Rows, Broken, TooMany}
+use Rattle.walk.proofs.Walked as WalkedType
 use Rattle.walk.proofs.Accepted.{accepted-is}
 use Rattle.codec.proofs.Laws.{OtherKind}
 use Rattle.neighbour.specs.declared.Settings.{Settings}
@@ -84,7 +86,6 @@ module _ (room : ℕ) (g : Settings) (asn : ℕ) (n : Neighbour) (o : List ℕ) 
 
 pub rows-read : (room net : ℕ) (o : List ℕ) (count : ℕ) → walkedOf (updateOf room net o) ≡ Rows count
     → (rows : List Row) × (updateOf room net o ≡ accepted rows) × (length rows ≡ count) × (length rows ≤ room)
-unfolding walkedOf
 rows-read room net o count e = go (updateOf room net o) refl e
   where
     go : (u : UpdateRead) → updateOf room net o ≡ u → walkedOf u ≡ Rows count
@@ -92,18 +93,6 @@ rows-read room net o count e = go (updateOf room net o) refl e
     go (accepted rows) f g = (rows, f, cc, accepted-is room net o rows f .fits)
     go (brokenAt k) f g = let z : _≡_ {A = ℕ} 0 1 = cc in absurd (omega arith)
     go tooMany f g = let z : _≡_ {A = ℕ} 0 1 = cc in absurd (omega arith)
-
-pub walk-broken : (u : UpdateRead) (offset : ℕ) → walkedOf u ≡ Broken offset → u ≡ brokenAt offset
-unfolding walkedOf
-walk-broken (accepted rs) offset e = let z : _≡_ {A = ℕ} 0 1 = cc in absurd (omega arith)
-walk-broken (brokenAt k) offset e = cc
-walk-broken tooMany offset e = let z : _≡_ {A = ℕ} 0 1 = cc in absurd (omega arith)
-
-pub walk-many : (u : UpdateRead) → walkedOf u ≡ TooMany → u ≡ tooMany
-unfolding walkedOf
-walk-many (accepted rs) e = let z : _≡_ {A = ℕ} 0 1 = cc in absurd (omega arith)
-walk-many (brokenAt k) e = let z : _≡_ {A = ℕ} 0 1 = cc in absurd (omega arith)
-walk-many tooMany e = refl
 
 module _ (g : Settings) (n : Neighbour) (o : List ℕ) (after : After) (room : ℕ) where
   pub rows-taken : (count : ℕ) → walkedOf (updateOf room (g .net) o) ≡ Rows count
@@ -113,15 +102,12 @@ module _ (g : Settings) (n : Neighbour) (o : List ℕ) (after : After) (room : �
   rows-taken count e =
       let r = rows-read room (g .net) o count e in rw (r .1) (rw (r .2) refl)
 
-  pub broken-taken : (offset : ℕ) → walkedOf (updateOf room (g .net) o) ≡ Broken offset
-      → verdictOf (refuses n 14 (namedReply g n o 14)) ≡ verdictOf (takenUpdate g n o after (updateOf room (g .net) o))
-  unfolding takenUpdate
-  broken-taken offset e = rw (walk-broken (updateOf room (g .net) o) offset e)
-
-  pub many-taken : walkedOf (updateOf room (g .net) o) ≡ TooMany
-      → verdictOf (refuses n 15 (namedReply g n o 15)) ≡ verdictOf (takenUpdate g n o after (updateOf room (g .net) o))
-  unfolding takenUpdate
-  many-taken e = rw (walk-many (updateOf room (g .net) o) e)
+  pub refused-taken : (u : UpdateRead) → OneOf (1 ∷ 2 ∷ []) (tagOf WalkedType.the-type (walkedOf u))
+      → verdictOf (refuses n (walkedNumber (walkedOf u)) (namedReply g n o (walkedNumber (walkedOf u)))) ≡ verdictOf (takenUpdate g n o after u)
+  unfolding takenUpdate Body.numberOf
+  refused-taken (accepted rows) k = absurd (miss (1 ∷ 2 ∷ []) 0 tt k)
+  refused-taken (brokenAt offset) k = refl
+  refused-taken tooMany k = refl
 
 pub update-small : (room net : ℕ) (o : List ℕ) (count : ℕ) → room < 65536 → walkedOf (updateOf room net o) ≡ Rows count → count < 65536
 update-small room net o count h e = let r = rows-read room net o count e in omega (arith, h, r .2, r .3)
@@ -200,7 +186,7 @@ module _ (room : ℕ) (g : Settings) (asn : ℕ) (n : Neighbour) (o : List ℕ) 
 
     pub taken-update : (same (kindOf m) K.Update && isUp (n .phase)) ≡ true
         → takenUpdate g n o (stepOf g asn n (Received m) (headAt o)) (updateOf room (g .net) o) ≡ receiveRuling room g asn n o
-    unfolding meaningNumber check carriedOut changeBy decodeOf bodyNumber takenUpdate walkedNumber walkedOf rowsRead
+    unfolding meaningNumber check carriedOut changeBy decodeOf bodyNumber takenUpdate Body.numberOf rowsRead
     taken-update b = go (updateOf room (g .net) o) refl
       where
         go : (u : UpdateRead) → updateOf room (g .net) o ≡ u → takenUpdate g n o (stepOf g asn n (Received m) (headAt o)) u ≡ receiveRuling room g asn n o

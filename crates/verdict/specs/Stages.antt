@@ -8,6 +8,7 @@ use Rattle.message.specs.declared.Message.{Message}
 use Rattle.wire.specs.Reading.{headerAnswer, asnAt, decodeOf}
 use Rattle.wire.specs.declared.Decoded.the-variants.{Good}
 use Rattle.walk.specs.Body.{UpdateRead, accepted, brokenAt, tooMany}
+use Rattle.walk.specs.Body as Body
 use Rattle.neighbour.specs.declared.Settings.{Settings}
 use Rattle.neighbour.specs.declared.Neighbour.{Neighbour}
 use Rattle.machine.specs.declared.After.{After}
@@ -27,5 +28,5 @@ pub record Read (asn : ℕ) (o : List ℕ) (m : Message) : Type 0 where
 unfoldable pub takenUpdate : Settings → Neighbour → List ℕ → After → UpdateRead → Ruling
 takenUpdate g n o after (accepted rows) =
     record { answer = 0; reply = after .reply; neighbour = after .neighbour; change = replace rows }
-takenUpdate g n o after (brokenAt offset) = refuses n 14 (namedReply g n o 14)
-takenUpdate g n o after tooMany = refuses n 15 (namedReply g n o 15)
+takenUpdate g n o after (brokenAt offset) = refuses n (Body.numberOf (brokenAt offset)) (namedReply g n o (Body.numberOf (brokenAt offset)))
+takenUpdate g n o after tooMany = refuses n (Body.numberOf tooMany) (namedReply g n o (Body.numberOf tooMany))

@@ -181,20 +181,18 @@ fn take_update(
 ) -> Verdict
     ensures { λ r. ⌜ r ≡ verdictOf (takenUpdate settings n (now (message .entry)) (stepOf settings asn n (Received m) (headAt (now (message .entry)))) (updateOf room (settings .net) (now (message .entry)))) ⌝ }
 {
-    match walk::walk(settings.net, message, room as usize) {
-        Walked::Rows(count) => {
-            let after = step_for(settings, asn, n, message, m);
-            let reply = after.reply;
-            let next = after.neighbour;
-            Verdict {
-                answer: 0,
-                reply,
-                neighbour: next,
-                effect: Effect::Replace(count as u16),
-            }
-        }
-        Walked::Broken(_) => refuse(settings, n, message, 14),
-        Walked::TooMany => refuse(settings, n, message, 15),
+    let walked = walk::walk(settings.net, message, room as usize);
+    let Walked::Rows(count) = walked else {
+        return refuse(settings, n, message, walk::number_of(walked));
+    };
+    let after = step_for(settings, asn, n, message, m);
+    let reply = after.reply;
+    let next = after.neighbour;
+    Verdict {
+        answer: 0,
+        reply,
+        neighbour: next,
+        effect: Effect::Replace(count as u16),
     }
 }
 

@@ -1,0 +1,31 @@
+use borrow.Author.Needs.{needs}
+use Rattle.gateway.proofs.event_answer.Statement.{statement}
+use Rattle.gateway.proofs.event_answer.Tie as tie
+use Rattle.gateway.proofs.event_answer.Reads as reads
+use Rattle.gateway.proofs.event_answer.Lts as lts
+use Rattle.gateway.proofs.lent_answer.Reads as lent-answer-reads
+use Rattle.state.proofs.slot_of.Reads as slot-of-reads
+
+-- src/lib.rt:37:9
+lent-answer-requires : tie.Need-lent-answer-requires
+lent-answer-requires c κs = search needs
+
+-- src/lib.rt:39:9
+returns : tie.Need-returns
+returns c = ?
+
+-- src/lib.rt:41:24
+slot-of-requires : tie.Need-slot-of-requires
+slot-of-requires c κs = search needs
+
+-- src/lib.rt:42:9
+returns-2 : tie.Need-returns-2
+returns-2 c = ?
+
+-- src/lib.rt:34:1
+returns-3 : tie.Need-returns-3
+returns-3 c = ?
+
+pub event-answer-spec : {M : Type 1} → statement M
+event-answer-spec =
+    tie.close (tie.spec lent-answer-requires returns slot-of-requires returns-2 returns-3)

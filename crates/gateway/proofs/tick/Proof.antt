@@ -1,0 +1,25 @@
+use borrow.Author.Needs.{needs}
+use Rattle.gateway.proofs.tick.Statement.{statement}
+use Rattle.gateway.proofs.tick.Tie as tie
+use Rattle.gateway.proofs.tick.Reads as reads
+use Rattle.gateway.proofs.tick.Lts as lts
+use Rattle.gateway.proofs.happen.Reads as happen-reads
+
+-- src/lib.rt:115:5
+happen-requires : tie.Need-happen-requires
+happen-requires c κs = search needs
+
+-- src/lib.rt:110:1
+same-length : tie.Need-same-length
+same-length c = search needs
+
+-- src/lib.rt:110:1
+same-length-2 : tie.Need-same-length-2
+same-length-2 c = search needs
+
+-- src/lib.rt:110:1
+returns : tie.Need-returns
+returns c = ?
+
+pub tick-spec : {M : Type 1} → statement M
+tick-spec = tie.close (tie.spec happen-requires same-length same-length-2 returns)

@@ -4,7 +4,7 @@ use mathlib.Core.Path.{_≡_, refl}
 use mathlib.Core.List.{List, [], _∷_, map}
 use Rattle.checks.specs.Lists.{join}
 use Rattle.nets.specs.Classes.{netWidth, hostSpan, goodNet}
-use Rattle.walk.specs.Body.{digits, many, leftJustified, rowOfWidth, netRow, groupAt, hostWidth, gatewayOf, blockAt, sidesAt, groupsHold, blocksHold, sidesHold, readAs, groupRows, bothSides, nothingLeft, bodyOf, further, netAt, blocksOf, accepted, brokenAt, tooMany, judged, updateOf, walkedOf, walkedNumber}
+use Rattle.walk.specs.Body.{digits, got, many, leftJustified, rowOfWidth, netRow, groupAt, hostWidth, gatewayOf, blockAt, sidesAt, groupsHold, blocksHold, sidesHold, readAs, groupRows, bothSides, nothingLeft, bodyOf, further, netAt, blocksOf, accepted, brokenAt, tooMany, judged, updateOf, walkedOf, walkedNumber}
 use Rattle.walk.specs.Walked.{skipOf, taken, groupEnd, groupNets}
 use Rattle.walk.specs.declared.Skip.the-variants.{Past, Stop}
 use Rattle.walk.specs.declared.Walked.the-variants.{Rows, Broken, TooMany}
@@ -78,3 +78,16 @@ case-groups = refl
 pub case-nets : map groupNets groups ≡ ((10 ∷ 192 ∷ 5 ∷ 6 ∷ []) ∷ [] ∷ [] ∷ [] ∷ [])
 unfolding groups groupNets groupEnd taken groupRows groupAt readAs groupsHold join netRow rowOfWidth leftJustified many digits netWidth hostSpan
 case-nets = refl
+
+-- the structured reading: one external block on 128.9.0.0, with its gateway and one group at distance 3
+pub case-blocks : sidesAt 2148073472 0 1 (0 ∷ 5 ∷ 1 ∷ 3 ∷ 1 ∷ 10 ∷ [])
+    ≡ got (record {
+      inside = [];
+      outside =
+          record {
+            gateway = 2148073477;
+            groups = record { third = 259; rows = record { net = 167772160; gateway = 2148073477; third = 259 } ∷ [] } ∷ [];
+          } ∷ [];
+    }) []
+unfolding sidesAt many blockAt gatewayOf hostWidth groupAt netRow rowOfWidth leftJustified digits netWidth hostSpan
+case-blocks = refl

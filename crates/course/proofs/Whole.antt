@@ -64,7 +64,7 @@ drop-take (suc k) (suc n) [] = none-taken (suc n - suc k)
 drop-take (suc k) (suc n) (x ∷ l) = let e : n - k ≡ suc n - suc k = omega arith in drop-take k n l ∙ ap (λ (m : ℕ). take m (drop k l)) e
 
 -- after so many octets more
-rest-on : (from to used : ℕ) (piece : List ℕ) → restOf (from + used) to piece ≡ drop used (restOf from to piece)
+pub rest-on : (from to used : ℕ) (piece : List ℕ) → restOf (from + used) to piece ≡ drop used (restOf from to piece)
 unfolding restOf
 rest-on from to used piece =
     let n = min to (length piece) in
@@ -74,7 +74,7 @@ rest-on from to used piece =
     ∙ sym (drop-take used (n - from) (drop from piece))
 
 -- of a piece that was just read, all
-rest-read : (octets buffer : List ℕ) → restOf 0 (length octets) (over octets buffer) ≡ octets
+pub rest-read : (octets buffer : List ℕ) → restOf 0 (length octets) (over octets buffer) ≡ octets
 unfolding restOf over
 rest-read octets buffer =
     let e : min (length octets) (length (octets ++ drop (length octets) buffer)) - 0 ≡ length octets =

@@ -5,7 +5,7 @@ use mathlib.Core.Path.{_≡_}
 use mathlib.Core.Bool.{Bool, true, false, cond, not}
 use mathlib.Core.List.{List, [], _∷_, _++_}
 use lib.Dec.{eqb}
-use lib.ListN.{length}
+use lib.ListN.{length, replicate}
 use Rattle.checks.specs.Lists.{every, join}
 use Rattle.octets.specs.Buffer.{over}
 use Rattle.rows.specs.Storing.{zeros}
@@ -85,3 +85,12 @@ pub record Courses : Type 0 where
       (pieces outs : List (List ℕ)) (buffer : List ℕ) → every isSome pieces ≡ true → every roomy outs ≡ true
       → isOver ((playAll false outs (hostOf buffer pieces)) .course .stage) ≡ true
       → Unlisted (join pieces) ((playAll false outs (hostOf buffer pieces)) .text)
+
+-- however the recording is cut into pieces, and whether its last read ends or fails, the loop comes to its end
+pub record Ending (ends : Bool) (out buffer : List ℕ) (pieces : List (List ℕ)) : Type 0 where
+  pub steps : ℕ
+  pub over : isOver ((playAll ends (replicate steps out) (hostOf buffer pieces)) .course .stage) ≡ true
+
+abbrev pub EveryCourseEnds : Type 0
+EveryCourseEnds =
+    (ends : Bool) (out buffer : List ℕ) (pieces : List (List ℕ)) → roomy out ≡ true → every isSome pieces ≡ true → Ending ends out buffer pieces

@@ -17,8 +17,8 @@ use Rattle.played.proofs.Held.{used-some}
 use Rattle.course.specs.declared.Stage.{Stage}
 use Rattle.course.specs.declared.Stage.the-variants.{Read, Play, Close, List as Listing, Over}
 use Rattle.course.specs.declared.Course.{Course}
-use Rattle.course.specs.Course.{isRead, isOver, staged, setOut, givenOf, wroteOf, restOf, usedUp, nextStage, turnedTo, playOn, playStep, endedBy, closeOn, listOn, stillOn, stepAt, stepOf}
-use Rattle.course.specs.Theorem.{Host, readNext, readOn, showing, goOn, playAll, hostOf, isSome, Ending, EveryCourseEnds}
+use Rattle.course.specs.Course.{isRead, isOver, staged, setOut, givenOf, wroteOf, restOf, usedUp, nextStage, turnedTo, playOn, playStep, endedBy, closeOn, listOn, stillOn, courseAt, courseStep}
+use Rattle.course.specs.Theorem.{Host, readNext, readOn, showing, goOn, playAll, hostOf, isSome, CourseEnding, EveryCourseEnds}
 use Rattle.course.proofs.Laws.{given-some}
 use Rattle.course.proofs.Whole.{rest-on, rest-read}
 
@@ -80,14 +80,14 @@ module _ (ends : Bool) (out : List ℕ) (room : roomy out ≡ true) where
 
   list-done : (p : Player) (from to : ℕ) (line table piece : List ℕ) (coming : List (List ℕ)) (text : List ℕ)
       → Done (host Listing p from to line table piece coming text)
-  unfolding isOver isRead readOn goOn showing wroteOf stepOf stepAt listOn endedBy
+  unfolding isOver isRead readOn goOn showing wroteOf courseStep courseAt listOn endedBy
   list-done p from to line table piece coming text =
       one-more (host Listing p from to line table piece coming text) refl
       (done-now (goOn out (host Listing p from to line table piece coming text)) refl)
 
   -- behind the last piece
   none-done : (p : Player) (from to : ℕ) (line table piece text : List ℕ) → Done (host Read p from to line table piece [] text)
-  unfolding isOver isRead readOn readNext givenOf staged goOn showing wroteOf stepOf stepAt stillOn closeOn endedBy
+  unfolding isOver isRead readOn readNext givenOf staged goOn showing wroteOf courseStep courseAt stillOn closeOn endedBy
   none-done p from to line table piece text = one-more (host Read p from to line table piece [] text) refl (go ends)
     where
       go : (b : Bool) → Done (goOn out (readNext b [] (host Read p from to line table piece [] text)))
@@ -130,7 +130,7 @@ module _ (ends : Bool) (out : List ℕ) (room : roomy out ≡ true) where
       step-done : (usedUp after (length rest - used) ≡ false
           → Plays after (from + used) to (heldOf p line rest) ((turnStep true p line table rest) .table) (text ++ (turnStep true p line table rest) .text))
           → Done (goOn out (host Play p from to line table piece coming text))
-      unfolding goOn stepOf stepAt playStep
+      unfolding goOn courseStep courseAt playStep
       step-done more =
           subst
           (λ (b : Bool). Done (showing (host Play p from to line table piece coming text) (playOn b (record { player = p; stage = Play; from = from; to = to }) line table rest)))

@@ -15,7 +15,7 @@ use Rattle.course.specs.declared.Stage.{Stage}
 use Rattle.course.specs.declared.Stage.the-variants.{Read, Play, Close, List as Listing, Over}
 use Rattle.course.specs.declared.Course.{Course}
 use Rattle.course.specs.declared.Went.{Went}
-use Rattle.course.specs.Course.{staged, givenOf, wroteOf, Stepped, wentOf, restOf, usedUp, nextStage, turnedTo, playOn, playStep, endedBy, stepAt, stepOf}
+use Rattle.course.specs.Course.{staged, givenOf, wroteOf, Stepped, wentOf, restOf, usedUp, nextStage, turnedTo, playOn, playStep, endedBy, courseAt, courseStep}
 
 -- ---- what the host says
 
@@ -136,6 +136,6 @@ module _ (out : List ℕ) (c : Course) (line table piece : List ℕ) where
   Leaves r line′ table′ out′ s = (r ≡ wentOf s) × ((line′ ≡ s .line) × ((table′ ≡ s .table) × (out′ ≡ over (s .text) out)))
 
   pub at-step : (stage : Stage) → c .stage ≡ stage → (r : Went) (line′ table′ out′ : List ℕ)
-      → Leaves r line′ table′ out′ (stepAt stage out c line table piece) → Leaves r line′ table′ out′ (stepOf out c line table piece)
-  unfolding stepOf
-  at-step stage e r line′ table′ out′ h = subst (λ (s : Stage). Leaves r line′ table′ out′ (stepAt s out c line table piece)) (sym e) h
+      → Leaves r line′ table′ out′ (courseAt stage out c line table piece) → Leaves r line′ table′ out′ (courseStep out c line table piece)
+  unfolding courseStep
+  at-step stage e r line′ table′ out′ h = subst (λ (s : Stage). Leaves r line′ table′ out′ (courseAt s out c line table piece)) (sym e) h

@@ -1,5 +1,5 @@
--- The theorem about a recording's course: after each step the turns so far are turns on the recording, and the rest of it is what is left of the piece and
--- the pieces to come. Assumes nothing.
+-- The theorem about a recording's course: after each step the turns so far are turns on the recording, and the rest of
+-- it is what is left of the piece and the pieces to come. Assumes nothing.
 use Prim.Native.Nat.{ℕ, zero, suc, _+_, _-_, _≤_, min}
 use native.Mathlib.Omega.{arith}
 use mathlib.Core.Path.{_≡_, refl, sym, ap, subst, _∙_}
@@ -21,7 +21,7 @@ use Rattle.played.proofs.Playing.{recordings}
 use Rattle.course.specs.declared.Stage.{Stage}
 use Rattle.course.specs.declared.Stage.the-variants.{Read, Play, Close, List as Listing, Over}
 use Rattle.course.specs.declared.Course.{Course}
-use Rattle.course.specs.Course.{isRead, isOver, staged, setOut, givenOf, wroteOf, Stepped, restOf, usedUp, nextStage, turnedTo, playOn, playStep, endedBy, closeOn, listOn, stillOn, stepAt, stepOf}
+use Rattle.course.specs.Course.{isRead, isOver, staged, setOut, givenOf, wroteOf, Stepped, restOf, usedUp, nextStage, turnedTo, playOn, playStep, endedBy, closeOn, listOn, stillOn, courseAt, courseStep}
 use Rattle.course.proofs.Laws.{given-some}
 use Rattle.course.specs.Theorem.{Host, readNext, readOn, showing, goOn, playAll, hostOf, isSome, Unlisted, Courses}
 
@@ -64,7 +64,7 @@ drop-take (suc k) (suc n) [] = none-taken (suc n - suc k)
 drop-take (suc k) (suc n) (x ∷ l) = let e : n - k ≡ suc n - suc k = omega arith in drop-take k n l ∙ ap (λ (m : ℕ). take m (drop k l)) e
 
 -- after so many octets more
-rest-on : (from to used : ℕ) (piece : List ℕ) → restOf (from + used) to piece ≡ drop used (restOf from to piece)
+pub rest-on : (from to used : ℕ) (piece : List ℕ) → restOf (from + used) to piece ≡ drop used (restOf from to piece)
 unfolding restOf
 rest-on from to used piece =
     let n = min to (length piece) in
@@ -74,7 +74,7 @@ rest-on from to used piece =
     ∙ sym (drop-take used (n - from) (drop from piece))
 
 -- of a piece that was just read, all
-rest-read : (octets buffer : List ℕ) → restOf 0 (length octets) (over octets buffer) ≡ octets
+pub rest-read : (octets buffer : List ℕ) → restOf 0 (length octets) (over octets buffer) ≡ octets
 unfolding restOf over
 rest-read octets buffer =
     let e : min (length octets) (length (octets ++ drop (length octets) buffer)) - 0 ≡ length octets =
@@ -288,7 +288,7 @@ module _ (ends : Bool) (recording : List ℕ) where
   module _ (out : List ℕ) (room : roomy out ≡ true) where
     step-kept : (stage : Stage) (p : Player) (from to : ℕ) (line table piece : List ℕ) (coming : List (List ℕ)) (text : List ℕ)
         → At stage p from to line table piece coming text → Stands (goOn out (host stage p from to line table piece coming text))
-    unfolding goOn stepOf stepAt playStep closeOn listOn
+    unfolding goOn courseStep courseAt playStep closeOn listOn
     step-kept Read p from to line table piece coming text s = still Read p from to line table piece coming text s
     step-kept Play p from to line table piece coming text s =
         subst

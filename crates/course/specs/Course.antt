@@ -1,5 +1,5 @@
--- What is done around the player's turns: when a piece is read, how many turns are made on it, and how the recording ends. 02: "Playing a recording must
--- equal making the calls of its good lines one by one", "and the listing at the end".
+-- What is done around the player's turns: when a piece is read, how many turns are made on it, and how the recording
+-- ends. 02: "Playing a recording must equal making the calls of its good lines one by one", "and the listing at the end".
 use Prim.Native.Nat.{ℕ, _+_, _-_, min}
 use mathlib.Core.Bool.{Bool, true, false, cond, _&&_, _||_}
 use mathlib.Core.List.{List, []}
@@ -103,12 +103,12 @@ listOn out c line table = endedBy c (finishStep out (c .player) table) Over line
 unfoldable pub stillOn : Course → List ℕ → List ℕ → Stepped
 stillOn c line table = record { course = c; line = line; table = table; text = [] }
 
-unfoldable pub stepAt : Stage → List ℕ → Course → List ℕ → List ℕ → List ℕ → Stepped
-stepAt Read out c line table piece = stillOn c line table
-stepAt Play out c line table piece = playStep out c line table piece
-stepAt Close out c line table piece = closeOn out c line table
-stepAt Listing out c line table piece = listOn out c line table
-stepAt Over out c line table piece = stillOn c line table
+unfoldable pub courseAt : Stage → List ℕ → Course → List ℕ → List ℕ → List ℕ → Stepped
+courseAt Read out c line table piece = stillOn c line table
+courseAt Play out c line table piece = playStep out c line table piece
+courseAt Close out c line table piece = closeOn out c line table
+courseAt Listing out c line table piece = listOn out c line table
+courseAt Over out c line table piece = stillOn c line table
 
-unfoldable pub stepOf : List ℕ → Course → List ℕ → List ℕ → List ℕ → Stepped
-stepOf out c line table piece = stepAt (c .stage) out c line table piece
+unfoldable pub courseStep : List ℕ → Course → List ℕ → List ℕ → List ℕ → Stepped
+courseStep out c line table piece = courseAt (c .stage) out c line table piece

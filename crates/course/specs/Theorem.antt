@@ -1,11 +1,11 @@
--- The theorem about a recording's course: the loop of the program, whatever pieces its reads give, writes what the recording says; and nothing of the
--- end where a read fails.
+-- The theorem about a recording's course: the loop of the program, whatever pieces its reads give, writes what the
+-- recording says; and nothing of the end where a read fails.
 use Prim.Native.Nat.{ℕ}
 use mathlib.Core.Path.{_≡_}
 use mathlib.Core.Bool.{Bool, true, false, cond, not}
 use mathlib.Core.List.{List, [], _∷_, _++_}
 use lib.Dec.{eqb}
-use lib.ListN.{length}
+use lib.ListN.{length, replicate}
 use Rattle.checks.specs.Lists.{every, join}
 use Rattle.octets.specs.Buffer.{over}
 use Rattle.rows.specs.Storing.{zeros}
@@ -14,7 +14,7 @@ use Rattle.player.specs.Player.{roomy}
 use Rattle.played.specs.Output.{outputOf}
 use Rattle.played.specs.Theorem.{start, drive, isDone}
 use Rattle.course.specs.declared.Course.{Course}
-use Rattle.course.specs.Course.{isRead, isOver, setOut, givenOf, wroteOf, Stepped, stepOf}
+use Rattle.course.specs.Course.{isRead, isOver, setOut, givenOf, wroteOf, Stepped, courseStep}
 
 -- ---- the host's loop
 
@@ -50,7 +50,7 @@ showing h s =
     record { course = wroteOf (s .course) true; line = s .line; table = s .table; piece = h .piece; coming = h .coming; text = h .text ++ s .text }
 
 unfoldable pub goOn : List ℕ → Host → Host
-goOn out h = showing h (stepOf out (h .course) (h .line) (h .table) (h .piece))
+goOn out h = showing h (courseStep out (h .course) (h .line) (h .table) (h .piece))
 
 -- step after step, each with an output buffer, until nothing more comes
 unfoldable pub playAll : Bool → List (List ℕ) → Host → Host
@@ -85,3 +85,12 @@ pub record Courses : Type 0 where
       (pieces outs : List (List ℕ)) (buffer : List ℕ) → every isSome pieces ≡ true → every roomy outs ≡ true
       → isOver ((playAll false outs (hostOf buffer pieces)) .course .stage) ≡ true
       → Unlisted (join pieces) ((playAll false outs (hostOf buffer pieces)) .text)
+
+-- however the recording is cut into pieces, and whether its last read ends or fails, the loop comes to its end
+pub record CourseEnding (ends : Bool) (out buffer : List ℕ) (pieces : List (List ℕ)) : Type 0 where
+  pub steps : ℕ
+  pub over : isOver ((playAll ends (replicate steps out) (hostOf buffer pieces)) .course .stage) ≡ true
+
+abbrev pub EveryCourseEnds : Type 0
+EveryCourseEnds =
+    (ends : Bool) (out buffer : List ℕ) (pieces : List (List ℕ)) → roomy out ≡ true → every isSome pieces ≡ true → CourseEnding ends out buffer pieces

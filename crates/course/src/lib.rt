@@ -1,11 +1,11 @@
-// A recording's course: what is done around the player's turns. The host reads where a read is wanted, hands over what came of it, and writes
-// what each step wrote; everything else is decided here.
+// A recording's course: what is done around the player's turns. The host reads where a read is wanted, hands over what
+// came of it, and writes what each step wrote; everything else is decided here.
 use player::Player;
 ghost use mathlib.Core.Path.{_≡_};
 ghost use mathlib.Core.List.{List};
 ghost use Prim.Native.Nat.{ℕ, min};
 ghost use Rattle.octets.specs.Buffer.{over};
-ghost use Rattle.course.specs.Course.{isRead, isOver, staged, setOut, givenOf, wroteOf, restOf, nextStage, wentOf, playStep, closeOn, listOn, stillOn, stepOf};
+ghost use Rattle.course.specs.Course.{isRead, isOver, staged, setOut, givenOf, wroteOf, restOf, nextStage, wentOf, playStep, closeOn, listOn, stillOn, courseStep};
 
 // What comes next.
 pub enum Stage {
@@ -223,10 +223,10 @@ fn stay(c: Course) -> Went
 
 // One step: a turn of the player, its close or its listing. Where a read comes next or nothing, none.
 pub fn step(c: Course, line: &mut [u8], table: &mut [u32], piece: &[u8], out: &mut [u8]) -> Went
-    ensures { λ r. ⌜ r ≡ wentOf (stepOf (now (out .entry)) c (now (line .entry)) (now (table .entry)) (now (piece .entry))) ⌝ }
-    ensures { λ _. ⌜ now (line .exit) ≡ (stepOf (now (out .entry)) c (now (line .entry)) (now (table .entry)) (now (piece .entry))) .line ⌝ }
-    ensures { λ _. ⌜ now (table .exit) ≡ (stepOf (now (out .entry)) c (now (line .entry)) (now (table .entry)) (now (piece .entry))) .table ⌝ }
-    ensures { λ _. ⌜ now (out .exit) ≡ over ((stepOf (now (out .entry)) c (now (line .entry)) (now (table .entry)) (now (piece .entry))) .text) (now (out .entry)) ⌝ }
+    ensures { λ r. ⌜ r ≡ wentOf (courseStep (now (out .entry)) c (now (line .entry)) (now (table .entry)) (now (piece .entry))) ⌝ }
+    ensures { λ _. ⌜ now (line .exit) ≡ (courseStep (now (out .entry)) c (now (line .entry)) (now (table .entry)) (now (piece .entry))) .line ⌝ }
+    ensures { λ _. ⌜ now (table .exit) ≡ (courseStep (now (out .entry)) c (now (line .entry)) (now (table .entry)) (now (piece .entry))) .table ⌝ }
+    ensures { λ _. ⌜ now (out .exit) ≡ over ((courseStep (now (out .entry)) c (now (line .entry)) (now (table .entry)) (now (piece .entry))) .text) (now (out .entry)) ⌝ }
 {
     let stage = c.stage;
     match stage {

@@ -18,6 +18,7 @@ use Rattle.machine.specs.declared.After.{After}
 use Rattle.machine.specs.declared.Reply.{Reply}
 use Rattle.machine.specs.Intrinsics.{Intrinsic, Start, asEvent}
 use Rattle.machine.specs.Step.{stepOf}
+use Rattle.machine.specs.Laws.{maySend}
 use Rattle.state.specs.declared.Slot.{Slot}
 use Rattle.state.specs.declared.State.{State}
 use Rattle.state.specs.declared.Outcome.{Outcome}
@@ -29,7 +30,7 @@ use Rattle.state.proofs.Theorems.{formed-settings}
 use Rattle.calls.specs.declared.Verdict.{Verdict}
 use Rattle.calls.specs.Number.{messageNumber, namedReply}
 use Rattle.calls.specs.Ruling.{Ruling, stepped, refuses, receiveRuling, verdictOf}
-use Rattle.calls.specs.Carried.{outcomeAfter, slotAfter, countAfter, tableAfter, refusedWith, bufferAfter}
+use Rattle.calls.specs.Carried.{firstOctets, secondOctets, outcomeAfter, slotAfter, countAfter, tableAfter, refusedWith, bufferAfter}
 use Rattle.calls.specs.Calls.{eventChecks, messageChecks, noHead, updateRoom, eventRuling, messageRuling, eventOutcome, eventTable, eventBuffer, messageOutcome, messageTable, messageBuffer}
 use Rattle.calls.proofs.Checks.{Passed, event-passed, message-passed}
 use Rattle.calls.proofs.Rulings.{stepped-backed, receive-backed}
@@ -115,7 +116,7 @@ module _ (st : State) (table buffer home : List ℕ) (a : ℕ) (o : List ℕ) (k
     met : Passed st table buffer a
     met = message-passed st table buffer a home (sym e ∙ z) .0
 
-    sent : (reply : Reply) → _ → sendable reply home ≡ true
+    sent : (reply : Reply) → maySend (st .settings) reply ≡ true → sendable reply home ≡ true
     sent reply s =
         ready (st .settings) home ((formed-settings st (met .formed)) .net)
         (home-writable (st .settings) home (message-passed st table buffer a home (sym e ∙ z) .1)) reply s
@@ -139,8 +140,8 @@ module _ (st : State) (table buffer home : List ℕ) (a : ℕ) (o : List ℕ) (k
               f
               ∙ (λ j. record {
                 answer = number;
-                first = _;
-                second = _;
+                first = length (firstOctets named (rowsOf home));
+                second = length (secondOctets named (rowsOf home));
                 state = sym (same-slot st (slotOf st a)) j;
               })
               ∙ ap (λ (y : Ruling). outcomeAfter st (slotOf st a) y (rowsOf home)) (sym refusal) ∙ sym (ifOk-new _ _ _ done),

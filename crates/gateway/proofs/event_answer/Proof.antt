@@ -1,3 +1,5 @@
+-- `gateway::event_answer` meets its contract, check by check. Assumes nothing.
+use Rattle.gateway.proofs.Checks.{event-lent, event-5, event-0}
 use borrow.Author.Needs.{needs}
 use Rattle.gateway.proofs.event_answer.Statement.{statement}
 use Rattle.gateway.proofs.event_answer.Tie as tie
@@ -12,7 +14,7 @@ lent-answer-requires c κs = search needs
 
 -- src/lib.rt:39:9
 returns : tie.Need-returns
-returns c = ?
+returns c = event-lent _ _ _ _ _ (c .before .lent-answer .ensures) (c .if1 .taken)
 
 -- src/lib.rt:41:24
 slot-of-requires : tie.Need-slot-of-requires
@@ -20,11 +22,11 @@ slot-of-requires c κs = search needs
 
 -- src/lib.rt:42:9
 returns-2 : tie.Need-returns-2
-returns-2 c = ?
+returns-2 c = event-5 _ _ _ _ _ (c .before .before .before .lent-answer .ensures) (c .before .before .if1 .left) _ (c .before .slot-of .ensures) (c .if2 .taken)
 
 -- src/lib.rt:34:1
 returns-3 : tie.Need-returns-3
-returns-3 c = ?
+returns-3 c = event-0 _ _ _ _ _ (c .before .before .before .lent-answer .ensures) (c .before .before .if1 .left) _ (c .before .slot-of .ensures) (c .if2 .left)
 
 pub event-answer-spec : {M : Type 1} → statement M
 event-answer-spec =

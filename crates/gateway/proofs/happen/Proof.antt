@@ -1,3 +1,7 @@
+-- `gateway::happen` meets its contract: a refusal, or the ruling carried out. Assumes nothing.
+use mathlib.Core.Path.{refl}
+use mathlib.Core.List.{[]}
+use Rattle.gateway.proofs.Calls.{Happened, event-refused, event-asked, event-done}
 use borrow.Author.Needs.{needs}
 use Rattle.gateway.proofs.happen.Statement.{statement}
 use Rattle.gateway.proofs.happen.Tie as tie
@@ -21,7 +25,7 @@ refused-requires c κs = search needs
 
 -- src/lib.rt:73:9
 returns : tie.Need-returns
-returns c = ?
+returns c = let h = event-refused (c .before .before .before .before .before .args .event) _ (c .before .before .before .before .before .args .table .now) (c .before .before .before .before .before .args .reply .now) _ _ (λ e. c .before .before .event-answer .ensures e _ _ refl refl) (c .before .if1 .taken) _ (c .refused .ensures) in (h .outcome, (h .rows, h .octets))
 
 -- src/lib.rt:75:9
 slot-of-requires : tie.Need-slot-of-requires
@@ -49,7 +53,7 @@ slice-aggregate-apply-2 c = search needs
 
 -- src/lib.rt:88:5
 apply-requires : tie.Need-apply-requires
-apply-requires c κs = ?
+apply-requires c κs = event-asked (c .before .before .before .before .before .before .before .before .before .before .before .before .before .before .args .event) _ (c .before .before .before .before .before .before .before .before .before .before .before .before .before .before .args .table .now) (c .before .before .before .before .before .before .before .before .before .before .before .before .before .before .args .reply .now) _ _ (λ e. c .before .before .before .before .before .before .before .before .before .before .before .event-answer .ensures e _ _ refl refl) (c .before .before .before .before .before .before .before .before .before .before .if1 .left) _ _ _ _ (c .before .before .before .before .before .before .before .before .before .slot-of .ensures) (c .before .before .before .before .before .before .before .before .slot-at .ensures) (c .before .before .before .before .before .step .ensures) (c .before .before .before .before .step-verdict .ensures) []
 
 -- src/lib.rt:66:1
 same-length : tie.Need-same-length
@@ -61,7 +65,7 @@ same-length-2 c = search needs
 
 -- src/lib.rt:66:1
 returns-2 : tie.Need-returns-2
-returns-2 c = ?
+returns-2 c = let h = event-done (c .before .before .before .before .before .before .before .before .before .before .before .before .before .before .before .before .before .before .before .args .event) _ (c .before .before .before .before .before .before .before .before .before .before .before .before .before .before .before .before .before .before .before .args .table .now) (c .before .before .before .before .before .before .before .before .before .before .before .before .before .before .before .before .before .before .before .args .reply .now) _ _ (λ e. c .before .before .before .before .before .before .before .before .before .before .before .before .before .before .before .before .event-answer .ensures e _ _ refl refl) (c .before .before .before .before .before .before .before .before .before .before .before .before .before .before .before .if1 .left) _ _ _ _ (c .before .before .before .before .before .before .before .before .before .before .before .before .before .before .slot-of .ensures) (c .before .before .before .before .before .before .before .before .before .before .before .before .before .slot-at .ensures) (c .before .before .before .before .before .before .before .before .before .before .step .ensures) (c .before .before .before .before .before .before .before .before .before .step-verdict .ensures) [] _ _ _ (c .before .before .before .before .apply .ensures .0) (c .before .before .before .before .apply .ensures .1 .0) (c .before .before .before .before .apply .ensures .1 .1) in (h .outcome, (h .rows, h .octets))
 
 pub happen-spec : {M : Type 1} → statement M
 happen-spec =

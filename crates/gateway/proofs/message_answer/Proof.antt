@@ -1,3 +1,7 @@
+-- `gateway::message_answer` meets its contract, check by check. Assumes nothing.
+use borrow.Author.Tests.{not-true, not-false}
+use mathlib.Core.Path.{sym, _∙_}
+use Rattle.gateway.proofs.Checks.{message-lent, message-4, message-5, message-0}
 use borrow.Author.Needs.{needs}
 use Rattle.gateway.proofs.message_answer.Statement.{statement}
 use Rattle.gateway.proofs.message_answer.Tie as tie
@@ -13,7 +17,7 @@ lent-answer-requires c κs = search needs
 
 -- src/lib.rt:53:9
 returns : tie.Need-returns
-returns c = ?
+returns c = message-lent _ _ _ _ _ (c .before .lent-answer .ensures) _ (c .if1 .taken)
 
 -- src/lib.rt:56:9
 good-home-requires : tie.Need-good-home-requires
@@ -21,7 +25,7 @@ good-home-requires c κs = search needs
 
 -- src/lib.rt:57:9
 returns-2 : tie.Need-returns-2
-returns-2 c = ?
+returns-2 c = message-4 _ _ _ _ _ (c .before .before .before .before .lent-answer .ensures) (c .before .before .before .if1 .left) _ (sym (c .before .good-home .ensures) ∙ not-true (c .before .good-home .result) (c .if2 .taken))
 
 -- src/lib.rt:59:24
 slot-of-requires : tie.Need-slot-of-requires
@@ -29,11 +33,11 @@ slot-of-requires c κs = search needs
 
 -- src/lib.rt:60:9
 returns-3 : tie.Need-returns-3
-returns-3 c = ?
+returns-3 c = message-5 _ _ _ _ _ (c .before .before .before .before .before .before .lent-answer .ensures) (c .before .before .before .before .before .if1 .left) _ (sym (c .before .before .before .good-home .ensures) ∙ not-false (c .before .before .before .good-home .result) (c .before .before .if2 .left)) _ (c .before .slot-of .ensures) (c .if3 .taken)
 
 -- src/lib.rt:48:1
 returns-4 : tie.Need-returns-4
-returns-4 c = ?
+returns-4 c = message-0 _ _ _ _ _ (c .before .before .before .before .before .before .lent-answer .ensures) (c .before .before .before .before .before .if1 .left) _ (sym (c .before .before .before .good-home .ensures) ∙ not-false (c .before .before .before .good-home .result) (c .before .before .if2 .left)) _ (c .before .slot-of .ensures) (c .if3 .left)
 
 pub message-answer-spec : {M : Type 1} → statement M
 message-answer-spec =

@@ -1,3 +1,6 @@
+-- `gateway::start` meets its contract. Assumes nothing.
+use mathlib.Core.Path.{refl}
+use Rattle.machine.specs.Intrinsics.{Start}
 use borrow.Author.Needs.{needs}
 use Rattle.gateway.proofs.start.Statement.{statement}
 use Rattle.gateway.proofs.start.Tie as tie
@@ -19,7 +22,7 @@ same-length-2 c = search needs
 
 -- src/lib.rt:92:1
 returns : tie.Need-returns
-returns c = ?
+returns c = (c .before .before .before .before .happen .ensures .0 Start refl, (c .before .before .before .before .happen .ensures .1 .0 Start refl, c .before .before .before .before .happen .ensures .1 .1 Start refl))
 
 pub start-spec : {M : Type 1} → statement M
 start-spec = tie.close (tie.spec happen-requires same-length same-length-2 returns)

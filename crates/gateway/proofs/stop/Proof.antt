@@ -1,3 +1,6 @@
+-- `gateway::stop` meets its contract. Assumes nothing.
+use mathlib.Core.Path.{refl}
+use Rattle.machine.specs.Intrinsics.{Stop}
 use borrow.Author.Needs.{needs}
 use Rattle.gateway.proofs.stop.Statement.{statement}
 use Rattle.gateway.proofs.stop.Tie as tie
@@ -19,7 +22,7 @@ same-length-2 c = search needs
 
 -- src/lib.rt:101:1
 returns : tie.Need-returns
-returns c = ?
+returns c = (c .before .before .before .before .happen .ensures .0 Stop refl, (c .before .before .before .before .happen .ensures .1 .0 Stop refl, c .before .before .before .before .happen .ensures .1 .1 Stop refl))
 
 pub stop-spec : {M : Type 1} → statement M
 stop-spec = tie.close (tie.spec happen-requires same-length same-length-2 returns)

@@ -1,3 +1,6 @@
+-- `gateway::tick` meets its contract. Assumes nothing.
+use mathlib.Core.Path.{refl}
+use Rattle.machine.specs.Intrinsics.{Tick}
 use borrow.Author.Needs.{needs}
 use Rattle.gateway.proofs.tick.Statement.{statement}
 use Rattle.gateway.proofs.tick.Tie as tie
@@ -19,7 +22,7 @@ same-length-2 c = search needs
 
 -- src/lib.rt:110:1
 returns : tie.Need-returns
-returns c = ?
+returns c = (c .before .before .before .before .happen .ensures .0 Tick refl, (c .before .before .before .before .happen .ensures .1 .0 Tick refl, c .before .before .before .before .happen .ensures .1 .1 Tick refl))
 
 pub tick-spec : {M : Type 1} → statement M
 tick-spec = tie.close (tie.spec happen-requires same-length same-length-2 returns)

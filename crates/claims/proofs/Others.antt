@@ -4,7 +4,7 @@ use native.Mathlib.Omega.{arith}
 use mathlib.Core.Path.{_≡_, refl, sym, _∙_, ap}
 use mathlib.Core.List.{List, [], map}
 use lib.ListN.{length, getD, set, List·getD-map}
-use lib.Seq.{map-set, map-set-same, getD-set-other}
+use lib.Seq.{map-set-same, getD-set-other}
 use Rattle.checks.proofs.Laws.{ifOk-holds}
 use Rattle.nets.specs.Rows.{Row, flat, rowsOf}
 use Rattle.walk.proofs.Accepted.{accepted-is}
@@ -16,6 +16,7 @@ use Rattle.state.specs.declared.State.{State}
 use Rattle.state.specs.Slots.{newcomer, freeSlot, slotAt, withSlot, slotOf, lowestFree}
 use Rattle.state.specs.Places.{rowCount, rowCounts, partAt, readRows, writeRows}
 use Rattle.state.specs.Outcomes.{refusedOf, silentOf}
+use Rattle.state.proofs.ListLaws.{map-set}
 use Rattle.state.proofs.Theorems.{other-slots, slot-stays}
 use Rattle.slots.specs.Calls.{addAnswer, addOf, removeAnswer, removeOf}
 use Rattle.calls.specs.Ruling.{Change, keep, clear, replace, Ruling}

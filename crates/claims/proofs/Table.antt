@@ -60,7 +60,7 @@ leaving-stays before now e = rw e (stays (isUp before))
 
 -- rows that are brought replace the neighbour's, which stays Up; else it leaves Up or not
 module _ (n : Neighbour) (answer : ℕ) (reply : Reply) (after : Neighbour) (update : Bool) (rows : List Row) where
-  changed : Bool → Ruling
+  abbrev changed : Bool → Ruling
   changed brings = record { answer = answer; reply = reply; neighbour = after; change = cond brings (replace rows) (leaving (n .phase) (after .phase)) }
 
   brought-writes : (update && isUp (n .phase)) ≡ true → isUp (after .phase) ≡ true → Writes (n .phase) update rows (changed true)

@@ -9,6 +9,10 @@ use Rattle.nets.specs.Classes.{goodNet, onNet}
 use Rattle.nets.specs.Rows.{Row, rowsOf}
 use Rattle.neighbour.specs.declared.Settings.{Settings}
 
+-- "at most 128 whole rows", three numbers a row
+abbrev pub mostHomeNumbers : ℕ
+mostHomeNumbers = 384
+
 -- one row of it
 unfoldable pub homeRow : ℕ → Row → Bool
 homeRow net row = goodNet (row .net) && onNet net (row .gateway) && leb (row .third) 255
@@ -20,4 +24,4 @@ ownFirst own (row ∷ rest) = eqb (row .gateway) own
 
 unfoldable pub goodHome : Settings → List ℕ → Bool
 goodHome g home =
-    eqb (length home % 3) 0 && leb (length home) 384 && every (homeRow (g .net)) (rowsOf home) && ownFirst (g .own) (rowsOf home)
+    eqb (length home % 3) 0 && leb (length home) mostHomeNumbers && every (homeRow (g .net)) (rowsOf home) && ownFirst (g .own) (rowsOf home)

@@ -11,6 +11,7 @@ use Rattle.wellformed.specs.Formed.{allZero, wellFormed}
 use Rattle.state.specs.declared.Slot.{Slot}
 use Rattle.state.specs.declared.State.{State}
 use Rattle.state.specs.Slots.{addresses, apart}
+use Rattle.state.specs.Places.{slotRows}
 
 -- 01: "Fresh refuses 16 for own AS 0, capability above 2, a common net that isn't a left-justified class A, B or C net, or an own address off that net"
 unfoldable pub goodSettings : Settings → Bool
@@ -22,7 +23,7 @@ goodPeer g address asn = not (eqb asn 0) && not (eqb asn (g .asn)) && not (eqb a
 
 -- 01: "row count at most 128 and 0 unless Up"
 unfoldable pub rowsFormed : Phase → ℕ → Bool
-rowsFormed phase rows = leb rows 128 && (isUp phase || eqb rows 0)
+rowsFormed phase rows = leb rows slotRows && (isUp phase || eqb rows 0)
 
 -- 01: "free slots are all zero", in a slot whose address is 0
 unfoldable pub freeFormed : Slot → Bool

@@ -1,39 +1,34 @@
 -- The call that lists the table: which slots and rows it lists, its checks, and what it leaves.
-use Prim.Native.Nat.{ℕ, suc, _*_}
+use Prim.Native.Nat.{ℕ, suc}
 use mathlib.Core.Bool.{Bool, cond, _&&_}
 use mathlib.Core.List.{List, [], _∷_}
 use lib.Dec.{leb, eqb}
-use lib.ListN.{length, take}
-use Rattle.checks.specs.Checks.{check, ifOk}
+use lib.ListN.{length}
+use Rattle.checks.specs.Checks.{ifOk}
 use Rattle.checks.specs.Lists.{every}
 use Rattle.octets.specs.Buffer.{over}
-use Rattle.nets.specs.Rows.{Row, rowsOf}
+use Rattle.nets.specs.Rows.{Row}
 use Rattle.state.specs.declared.Slot.{Slot}
 use Rattle.state.specs.declared.State.{State}
 use Rattle.state.specs.declared.Outcome.{Outcome}
-use Rattle.state.specs.Formed.{stateFormed}
+use Rattle.state.specs.Places.{rowCounts, readRows}
 use Rattle.state.specs.Outcomes.{refusedOf}
-use Rattle.calls.specs.Carried.{partAt}
-use Rattle.calls.specs.Calls.{tableFits}
+use Rattle.calls.specs.Calls.{tableFits, lentChecks}
 use Rattle.lines.specs.Lines.{Entry, listingText}
 use Rattle.lines.specs.Steps.{slotEntry}
 
--- a slot's used rows are those below its count
-unfoldable pub usedRows : Slot → List ℕ → List Row
-usedRows slot numbers = rowsOf (take (3 * slot .rows) numbers)
-
--- what is listed of slot i with this table
-unfoldable pub entryOf : ℕ → Slot → List ℕ → Entry
-entryOf i slot table = slotEntry i slot (usedRows slot (partAt table i))
+-- what is listed of slot i, with this table and these row counts of all slots
+unfoldable pub entryOf : ℕ → Slot → List ℕ → List ℕ → Entry
+entryOf i slot table counts = slotEntry i slot (readRows table counts i)
 
 -- 01: "used slots in order"; these are the slots from index i on
-unfoldable pub entriesFrom : ℕ → List Slot → List ℕ → List Entry
-entriesFrom i [] table = []
-entriesFrom i (slot ∷ rest) table =
-    cond (eqb (slot .address) 0) (entriesFrom (suc i) rest table) (entryOf i slot table ∷ entriesFrom (suc i) rest table)
+unfoldable pub entriesFrom : ℕ → List Slot → List ℕ → List ℕ → List Entry
+entriesFrom i [] table counts = []
+entriesFrom i (slot ∷ rest) table counts =
+    cond (eqb (slot .address) 0) (entriesFrom (suc i) rest table counts) (entryOf i slot table counts ∷ entriesFrom (suc i) rest table counts)
 
 unfoldable pub entries : State → List ℕ → List Entry
-entries st table = entriesFrom 0 (st .slots) table
+entries st table = entriesFrom 0 (st .slots) table (rowCounts st)
 
 -- 2: "in a listing, also a used row's third number above 511"
 unfoldable pub markedRow : Row → Bool
@@ -45,8 +40,7 @@ listable e = every markedRow (e .rows)
 -- 01: "listing buffer at least 65,536": the checks 1, 2 and 3
 unfoldable pub listingChecks : State → List ℕ → List ℕ → ℕ
 listingChecks st table buffer =
-    check (stateFormed st) 1
-    (check (tableFits table && every listable (entries st table)) 2 (check (leb 65536 (length buffer)) 3 0))
+    lentChecks st (tableFits table && every listable (entries st table)) (leb 65536 (length buffer)) 0
 
 -- carried out: the text's length, then 0; the state as given
 unfoldable pub listingOutcome : State → List ℕ → List ℕ → Outcome

@@ -23,6 +23,7 @@ use Rattle.neighbour.specs.declared.Mode.{Mode}
 use Rattle.neighbour.specs.declared.Mode.the-variants.{Unset, Active, Passive}
 use Rattle.neighbour.specs.declared.Settings.{Settings}
 use Rattle.neighbour.specs.declared.Neighbour.{Neighbour}
+use Rattle.neighbour.specs.Record.{withNumbers, withState, idle}
 use Rattle.machine.specs.declared.Reply.{Reply}
 use Rattle.machine.specs.declared.Reply.the-variants.{Nothing, One, Two}
 use Rattle.state.specs.declared.Slot.{Slot}
@@ -111,23 +112,11 @@ mode-from Passive = refl
 
 abbrev neighbourFrom : List ℕ → Neighbour
 neighbourFrom l =
-    record {
-      s = at 0 l;
-      r = at 1 l;
-      hello = at 2 l;
-      poll = at 3 l;
-      t1 = at 4 l;
-      t2 = at 5 l;
-      t3 = at 6 l;
-      phase = phaseFrom (at 7 l);
-      mode = modeFrom (at 8 l);
-      register = at 9 l;
-      heard = at 10 l;
-      cause = at 11 l;
-    }
+    withState (withNumbers idle (at 0 l) (at 1 l))
+    (phaseFrom (at 7 l)) (modeFrom (at 8 l)) (at 2 l) (at 3 l) (at 4 l) (at 5 l) (at 6 l) (at 9 l) (at 10 l) (at 11 l)
 
 neighbour-from : (n : Neighbour) → neighbourFrom (neighbourNumbers n) ≡ n
-unfolding neighbourNumbers
+unfolding neighbourNumbers withNumbers
 neighbour-from n = rw (phase-from (n .phase), mode-from (n .mode))
 
 same-neighbour : (m n : Neighbour) → sameNeighbour m n ≡ true → m ≡ n

@@ -19,7 +19,7 @@ use Rattle.machine.specs.Step.{stepOf}
 use Rattle.state.specs.declared.State.{State}
 use Rattle.state.specs.declared.Outcome.{Outcome}
 use Rattle.calls.specs.declared.Verdict.{Verdict}
-use Rattle.calls.specs.Verdict.{stepped, receiveVerdict}
+use Rattle.calls.specs.Ruling.{stepped, receiveRuling, verdictOf}
 use Rattle.calls.specs.Calls.{noHead, messageOutcome, messageTable, messageBuffer}
 use Rattle.bench.specs.Same.{sameNumbers, sameReading, sameVerdict, sameOutcome}
 
@@ -34,7 +34,8 @@ pub data Case : Type 0 where
   reads : ℕ → List ℕ → Message → List Row → Case
   -- octets read alone on a common net are refused with this number
   refused : ℕ → List ℕ → ℕ → Case
-  -- octets from the neighbour with this AS and record, at a gateway with these settings: answer, reply, record after it, rows
+  -- octets from the neighbour with this AS and record, at a gateway with these settings and with room for 128 rows: answer, reply, record after
+  -- it, and whether the rows stay, go or are so many others
   received : Settings → ℕ → Neighbour → List ℕ → Verdict → Case
   -- the same for an event that is already a meaning
   happens : Settings → ℕ → Neighbour → Event → Verdict → Case
@@ -68,16 +69,16 @@ unfoldable pub passes : Case → Bool
 passes (reads net octets m rows) =
     sameReading (readOf net octets) (goodReading m rows) && writable m (flat rows) && sameNumbers (octetsOf m rows) octets
 passes (refused net octets number) = sameReading (readOf net octets) (badReading number)
-passes (received g asn n octets v) = sameVerdict (receiveVerdict g asn n octets) v
-passes (happens g asn n event v) = sameVerdict (stepped n (stepOf g asn n event noHead)) v
+passes (received g asn n octets v) = sameVerdict (verdictOf (receiveRuling 128 g asn n octets)) v
+passes (happens g asn n event v) = sameVerdict (verdictOf (stepped n (stepOf g asn n event noHead))) v
 passes (called st address octets left) = leaves st address octets left
 
 -- what a case says, as equations: what is computed is what must come out
 abbrev pub Holds : Case → Type 0
 Holds (reads net octets m rows) = (readOf net octets ≡ goodReading m rows) × (writable m (flat rows) ≡ true) × (octetsOf m rows ≡ octets)
 Holds (refused net octets number) = readOf net octets ≡ badReading number
-Holds (received g asn n octets v) = receiveVerdict g asn n octets ≡ v
-Holds (happens g asn n event v) = stepped n (stepOf g asn n event noHead) ≡ v
+Holds (received g asn n octets v) = verdictOf (receiveRuling 128 g asn n octets) ≡ v
+Holds (happens g asn n event v) = verdictOf (stepped n (stepOf g asn n event noHead)) ≡ v
 Holds (called st address octets left) =
     (messageOutcome st zeroTable zeroBuffer [] address octets ≡ left .outcome)
     × (messageBuffer st zeroTable zeroBuffer [] address octets ≡ padded 2048 (left .reply))

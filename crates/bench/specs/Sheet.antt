@@ -5,11 +5,13 @@ use mathlib.Core.Bool.{true}
 use mathlib.Core.List.{List, [], _∷_}
 use Rattle.checks.specs.Lists.{every}
 use Rattle.message.specs.declared.Message.the-variants.{Request, Confirm, Refuse, Hello, Poll, Update, Error}
+use Rattle.neighbour.specs.declared.Phase.{Phase}
 use Rattle.neighbour.specs.declared.Phase.the-variants.{Idle, Acquisition, Down, Up}
 use Rattle.neighbour.specs.declared.Mode.{Mode}
 use Rattle.neighbour.specs.declared.Mode.the-variants.{Unset, Active, Passive}
 use Rattle.neighbour.specs.declared.Settings.{Settings}
 use Rattle.neighbour.specs.declared.Neighbour.{Neighbour}
+use Rattle.neighbour.specs.Record.{withNumbers, withState, idle}
 use Rattle.machine.specs.declared.Event.the-variants.{Received, Tick}
 use Rattle.machine.specs.declared.Reply.the-variants.{Nothing, One, Two}
 use Rattle.state.specs.declared.Slot.{Slot}
@@ -41,30 +43,33 @@ nine = record { asn = 9; own = ours; capability = 0; net = common }
 unfoldable pub seven : Settings
 seven = record { asn = 7; own = theirs; capability = 0; net = common }
 
+-- a neighbour's record without a cause: state, M, S, R, T1, T2, t1, t2, t3, register, heard
+unfoldable pub known : Phase → Mode → ℕ → ℕ → ℕ → ℕ → ℕ → ℕ → ℕ → ℕ → ℕ → Neighbour
+known phase mode s r hello poll t1 t2 t3 register heard = withState (withNumbers idle s r) phase mode hello poll t1 t2 t3 register heard 0
+
 -- a neighbour in Idle: all zero
 unfoldable pub resting : Neighbour
-resting =
-    record { s = 0; r = 0; hello = 0; poll = 0; t1 = 0; t2 = 0; t3 = 0; phase = Idle; mode = Unset; register = 0; heard = 0; cause = 0 }
+resting = known Idle Unset 0 0 0 0 0 0 0 0 0
 
 -- a neighbour that was sent a Request 1 second ago
 unfoldable pub asked : Neighbour
-asked =
-    record { s = 0; r = 0; hello = 0; poll = 0; t1 = 29; t2 = 0; t3 = 119; phase = Acquisition; mode = Unset; register = 0; heard = 0; cause = 0 }
+asked = known Acquisition Unset 0 0 0 0 29 0 119 0 0
 
--- a neighbour that has just agreed on 30 and 120 seconds, and on who is active
+-- a neighbour that has just agreed on T1 and on a Poll interval of 120 seconds, and on who is active
+unfoldable pub agreed : ℕ → Mode → Neighbour
+agreed hello mode = known Down mode 0 0 hello 122 hello 0 120 0 0
+
+-- on 30 and 120 seconds
 unfoldable pub agreeing : Mode → Neighbour
-agreeing mode =
-    record { s = 0; r = 0; hello = 32; poll = 122; t1 = 32; t2 = 0; t3 = 120; phase = Down; mode = mode; register = 0; heard = 0; cause = 0 }
+agreeing mode = agreed 32 mode
 
 -- a neighbour in Down
 unfoldable pub reached : Neighbour
-reached =
-    record { s = 2; r = 4; hello = 32; poll = 122; t1 = 20; t2 = 0; t3 = 50; phase = Down; mode = Active; register = 1; heard = 0; cause = 0 }
+reached = known Down Active 2 4 32 122 20 0 50 1 0
 
 -- 01's U: "state=up", "mode=active", and S is 1, which U carries
 unfoldable pub polling : Neighbour
-polling =
-    record { s = 1; r = 4; hello = 32; poll = 122; t1 = 20; t2 = 100; t3 = 50; phase = Up; mode = Active; register = 7; heard = 0; cause = 0 }
+polling = known Up Active 1 4 32 122 20 100 50 7 0
 
 -- 01: "free slots are all zero"
 unfoldable pub vacant : Slot
@@ -98,8 +103,7 @@ sheet =
     (record {
       answer = 0;
       reply = One (Confirm 9 0 0 30 120);
-      neighbour =
-          record { s = 0; r = 0; hello = 32; poll = 122; t1 = 32; t2 = 0; t3 = 120; phase = Down; mode = Passive; register = 0; heard = 0; cause = 0 };
+      neighbour = agreed 32 Passive;
       effect = Keep;
     }) ∷
     -- U: 02 01 00 01 B3 D7 00 07 00 01 01 00 80 09 00 00 00 05 01 00 02 0A C0 05 06: two rows
@@ -117,8 +121,7 @@ sheet =
     (record {
       answer = 0;
       reply = One (Confirm 9 0 0 30 120);
-      neighbour =
-          record { s = 0; r = 0; hello = 122; poll = 122; t1 = 122; t2 = 0; t3 = 120; phase = Down; mode = Passive; register = 0; heard = 0; cause = 0 };
+      neighbour = agreed 122 Passive;
       effect = Keep;
     }) ∷
     -- W: 121, 02 03 00 00 FD 04 00 07 00 00 00 79 00 78, is unacceptable: in Idle Refuse 6
@@ -126,35 +129,32 @@ sheet =
     (record { answer = 0; reply = One (Refuse 9 0 6); neighbour = resting; effect = Keep }) ∷
     -- X: active, register 0011 then heard: Up, with Hello and Poll
     happens nine 7
-    (record { s = 0; r = 4; hello = 32; poll = 122; t1 = 1; t2 = 0; t3 = 50; phase = Down; mode = Active; register = 3; heard = 1; cause = 0 })
+    (known Down Active 0 4 32 122 1 0 50 3 1)
     Tick
     (record {
       answer = 0;
       reply = Two (Hello 9 0 1) (Poll 9 1 1 common);
-      neighbour =
-          record { s = 1; r = 4; hello = 32; poll = 122; t1 = 32; t2 = 122; t3 = 49; phase = Up; mode = Active; register = 7; heard = 0; cause = 0 };
+      neighbour = known Up Active 1 4 32 122 32 122 49 7 0;
       effect = Keep;
     }) ∷
     -- Y: passive, register 1000 then silence: Down, and the rows go
     happens nine 7
-    (record { s = 3; r = 4; hello = 32; poll = 122; t1 = 1; t2 = 60; t3 = 50; phase = Up; mode = Passive; register = 8; heard = 0; cause = 0 })
+    (known Up Passive 3 4 32 122 1 60 50 8 0)
     Tick
     (record {
       answer = 0;
       reply = Nothing;
-      neighbour =
-          record { s = 3; r = 4; hello = 32; poll = 122; t1 = 32; t2 = 0; t3 = 49; phase = Down; mode = Passive; register = 0; heard = 0; cause = 0 };
+      neighbour = known Down Passive 3 4 32 122 32 0 49 0 0;
       effect = Clear;
     }) ∷
     -- K: S 65,535, Poll carries 0
     happens nine 7
-    (record { s = 65535; r = 4; hello = 32; poll = 122; t1 = 20; t2 = 1; t3 = 50; phase = Up; mode = Active; register = 15; heard = 0; cause = 0 })
+    (known Up Active 65535 4 32 122 20 1 50 15 0)
     Tick
     (record {
       answer = 0;
       reply = One (Poll 9 0 1 common);
-      neighbour =
-          record { s = 0; r = 4; hello = 32; poll = 122; t1 = 19; t2 = 122; t3 = 49; phase = Up; mode = Active; register = 15; heard = 0; cause = 0 };
+      neighbour = known Up Active 0 4 32 122 19 122 49 15 0;
       effect = Keep;
     }) ∷
     -- M: 7 is active, by 9's Request and by 9's Confirm
@@ -178,7 +178,7 @@ sheet =
             second = 0;
             state =
                 holding
-                (record { s = 1; r = 4; hello = 32; poll = 122; t1 = 20; t2 = 100; t3 = 3600; phase = Up; mode = Active; register = 7; heard = 1; cause = 0 })
+                (known Up Active 1 4 32 122 20 100 3600 7 1)
                 2;
           };
       reply = [];

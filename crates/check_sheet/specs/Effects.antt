@@ -10,8 +10,7 @@ use Rattle.codec.specs.declared.Reading.{Reading}
 use Rattle.codec.specs.Reading.{readOf}
 use Rattle.neighbour.specs.declared.Phase.the-variants.{Idle, Acquisition, Down, Up, Cease}
 use Rattle.neighbour.specs.declared.Mode.the-variants.{Unset, Active, Passive}
-use Rattle.machine.specs.declared.Event.{Event}
-use Rattle.machine.specs.declared.Event.the-variants.{Start, Stop, Tick}
+use Rattle.machine.specs.Intrinsics.{Intrinsic, Start, Stop, Tick}
 use Rattle.state.specs.declared.State.{State}
 use Rattle.state.specs.declared.Outcome.{Outcome}
 use Rattle.calls.specs.Calls.{eventOutcome, eventTable, eventBuffer, messageOutcome, messageTable, messageBuffer}
@@ -19,7 +18,7 @@ use Rattle.check_sheet.specs.Given.{hex, ip, ours, theirs, others, set, 
 
 -- a call about the neighbour in slot 2: the state; the two lengths, the octets of the reply, the state after it, the numbers of slot 2's part
 pub data Call : Type 0 where
-  event : Event → State → ℕ → ℕ → List ℕ → State → List ℕ → Call
+  event : Intrinsic → State → ℕ → ℕ → List ℕ → State → List ℕ → Call
   -- a message with a home list
   message : List ℕ → List ℕ → State → ℕ → ℕ → List ℕ → State → List ℕ → Call
 

@@ -11,6 +11,7 @@ use Rattle.neighbour.specs.declared.Mode.{Mode}
 use Rattle.neighbour.specs.declared.Mode.the-variants.{Unset, Active, Passive}
 use Rattle.neighbour.specs.declared.Settings.{Settings}
 use Rattle.neighbour.specs.declared.Neighbour.{Neighbour}
+use Rattle.neighbour.specs.Record.{withNumbers, withState, idle}
 use Rattle.state.specs.declared.Slot.{Slot}
 use Rattle.state.specs.declared.State.{State}
 
@@ -60,7 +61,7 @@ nine = set 9 ours 0 common
 -- state, S, R, T1, T2, M, t1, t2, t3, register, heard, cause
 unfoldable pub made : Phase → ℕ → ℕ → ℕ → ℕ → Mode → ℕ → ℕ → ℕ → ℕ → ℕ → ℕ → Neighbour
 made phase s r hello poll mode t1 t2 t3 register heard cause =
-    record { s = s; r = r; hello = hello; poll = poll; t1 = t1; t2 = t2; t3 = t3; phase = phase; mode = mode; register = register; heard = heard; cause = cause }
+    withState (withNumbers idle s r) phase mode hello poll t1 t2 t3 register heard cause
 
 -- a record in each state; S is 3 and R is 5 outside Idle
 unfoldable pub resting : Neighbour

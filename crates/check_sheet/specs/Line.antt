@@ -9,7 +9,7 @@ use Rattle.message.specs.declared.Message.{Message}
 use Rattle.codec.specs.Reading.{numberOf, readOf}
 use Rattle.codec.specs.Writing.{writeOf}
 use Rattle.neighbour.specs.declared.Settings.{Settings}
-use Rattle.machine.specs.declared.Event.{Event}
+use Rattle.machine.specs.Intrinsics.{Intrinsic}
 use Rattle.state.specs.declared.State.{State}
 use Rattle.state.specs.declared.Outcome.{Outcome}
 use Rattle.slots.specs.Calls.{freshOf, addOf, removeOf}
@@ -27,7 +27,7 @@ pub data Line : Type 0 where
   -- remove: state, address; the answer, and the state after it
   remove : State → ℕ → ℕ → State → Line
   -- Start, Stop or tick: state, table, buffer, address; the answer, the two lengths, the octets of the reply
-  event : Event → State → ℕ → ℕ → ℕ → ℕ → ℕ → ℕ → List ℕ → Line
+  event : Intrinsic → State → ℕ → ℕ → ℕ → ℕ → ℕ → ℕ → List ℕ → Line
   -- message: state, table, buffer, home list, address, octets; the answer, the two lengths, the octets of the reply
   message : State → ℕ → ℕ → List ℕ → ℕ → List ℕ → ℕ → ℕ → ℕ → List ℕ → Line
   -- listing: state, table, buffer; the answer and the first length
@@ -78,7 +78,7 @@ seen st table o newTable newBuffer =
 
 -- what the definitions give
 unfoldable pub computed : Line → Result
-computed (fresh g answer after) = leaves (freshOf (g .asn) (g .own) (g .capability) (g .net))
+computed (fresh g answer after) = leaves (freshOf g)
 computed (add st address asn answer after) = leaves (addOf st address asn)
 computed (remove st address answer after) = leaves (removeOf st address)
 computed (event e st table buffer address answer first second reply) =

@@ -2,7 +2,7 @@
 use mathlib.Core.List.{List, [], _∷_, _++_}
 use lib.ListN.{replicate}
 use Rattle.message.specs.declared.Message.the-variants.{Hello}
-use Rattle.machine.specs.declared.Event.the-variants.{Start, Stop, Tick}
+use Rattle.machine.specs.Intrinsics.{Start, Stop, Tick}
 use Rattle.check_sheet.specs.Given.{hex, ip, common, ours, theirs, others, nobody, set, nine, resting, falling, slot, vacant, state, empty, nothing, inIdle, inAcquisition, inDown, inUp, inCease, unsound, full}
 use Rattle.check_sheet.specs.Line.{Line, fresh, add, remove, event, message, reading, writing, heard}
 

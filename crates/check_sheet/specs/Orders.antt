@@ -5,7 +5,7 @@ use lib.ListN.{replicate}
 use Rattle.message.specs.declared.Message.the-variants.{Hello, Update}
 use Rattle.neighbour.specs.declared.Phase.the-variants.{Acquisition}
 use Rattle.neighbour.specs.declared.Mode.the-variants.{Unset}
-use Rattle.machine.specs.declared.Event.the-variants.{Start, Stop, Tick}
+use Rattle.machine.specs.Intrinsics.{Start, Stop, Tick}
 use Rattle.check_sheet.specs.Given.{hex, ip, common, theirs, nobody, made, at, inIdle, inAcquisition, inDown, inUp, inCease, unsound, full}
 use Rattle.check_sheet.specs.Line.{Line, add, remove, event, message, reading, writing, heard}
 

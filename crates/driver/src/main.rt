@@ -72,7 +72,7 @@ fn call(
 ) -> Outcome {
     let kind = head.kind;
     match kind {
-        0 => slots::fresh(head.asn, head.address, head.octet, head.net),
+        0 => slots::fresh(record::settings_in(head)),
         1 => slots::add(st, head.address, head.asn),
         2 => slots::remove(st, head.address),
         3 => gateway::start(st, table, buffer, head.address),

@@ -3,6 +3,7 @@ use Prim.Native.Nat.{ℕ, _+_, _*_, _/_, _%_}
 use mathlib.Core.List.{List, [], _∷_}
 use lib.ListN.{getD}
 use Rattle.octets.specs.Numbers.{word16, word32, octets16, octets32}
+use Rattle.neighbour.specs.declared.Settings.{Settings}
 use Rattle.record.specs.declared.Head.{Head}
 
 -- kind (1), capability or fill (1), AS (2), address (4), net (4), buffer (4), times (4), octets (4), numbers (4)
@@ -19,6 +20,10 @@ headAt l =
       octets = word32 l 20;
       numbers = word32 l 24;
     }
+
+-- fresh is told own AS, own address, capability and common net
+abbrev pub settingsIn : Head → Settings
+settingsIn head = record { asn = head .asn; own = head .address; capability = head .octet; net = head .net }
 
 -- zero (1), answer (1), first length (2), second length (2), zero (2), buffer (4), numbers in the table (4)
 unfoldable pub answerOctets : ℕ → ℕ → ℕ → ℕ → ℕ → List ℕ

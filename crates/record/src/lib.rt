@@ -1,5 +1,6 @@
 // Records of calls as octets: what the driver is told, and what it answers. docs/COMPARISON.md has the format.
 use message::Message;
+use neighbour::Settings;
 use split::first_of;
 use split::fourth_of;
 use split::high;
@@ -11,7 +12,7 @@ ghost use Prim.Native.Nat.{_*_, _≤_};
 ghost use lib.ListN.{length};
 ghost use Rattle.octets.specs.Buffer.{over};
 ghost use Rattle.record.specs.Numbers.{numbersOf, octetsOf, filled};
-ghost use Rattle.record.specs.Records.{headAt, answerOctets};
+ghost use Rattle.record.specs.Records.{headAt, settingsIn, answerOctets};
 ghost use Rattle.record.specs.Meaning.{intervalsAt, plainAt, netAt, errorAt, meaningAt, fieldOctets, meaningOctets};
 
 // A record's head: which call, its plain arguments, and how much follows.
@@ -45,6 +46,18 @@ pub fn read_head(octets: &[u8]) -> Head
         times: octets::word32_at(octets, 16),
         octets: octets::word32_at(octets, 20),
         numbers: octets::word32_at(octets, 24),
+    }
+}
+
+// The settings that a record's head names for fresh: the host's numbers become settings here alone.
+pub fn settings_in(head: Head) -> Settings
+    ensures { λ r. ⌜ r ≡ settingsIn head ⌝ }
+{
+    Settings {
+        asn: head.asn,
+        own: head.address,
+        capability: head.octet,
+        net: head.net,
     }
 }
 

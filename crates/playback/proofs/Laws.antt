@@ -6,11 +6,12 @@ use mathlib.Core.Path.{_≡_, ap, _∙_}
 use mathlib.Core.List.{List, [], _∷_}
 use lib.Dec.{eqb, ltb}
 use lib.ListN.{length, length-append, length-drop}
+use Rattle.checks.specs.Checks.{ifOk}
 use Rattle.octets.specs.Buffer.{over}
 use Rattle.gather.specs.Gathering.{longer, gathered}
 use Rattle.player.specs.declared.Player.{Player}
 use Rattle.player.specs.declared.Told.{Told}
-use Rattle.player.specs.Player.{Step, toldOf, usedOf}
+use Rattle.player.specs.Player.{Step, toldOf, withUsed, quietStep, given, callStep, tickStep, freeStep, turnChecked, turnStep}
 
 -- what is laid over a buffer without making it longer has room in it
 module _ (text old new : List ℕ) where
@@ -21,8 +22,8 @@ module _ (text old new : List ℕ) where
       omega arith
 
 -- so what a turn says that it wrote is within the output buffer
-module _ (s : Step) (used : ℕ) (r : Told) (old new : List ℕ) where
-  pub written-fits : r ≡ toldOf s used → new ≡ over (s .text) old → length new ≡ length old → r .written ≤ length new
+module _ (s : Step) (r : Told) (old new : List ℕ) where
+  pub written-fits : r ≡ toldOf s → new ≡ over (s .text) old → length new ≡ length old → r .written ≤ length new
   unfolding toldOf
   written-fits e f k = rw e (over-fits (s .text) old new f k)
 
@@ -38,18 +39,23 @@ gathered-within used held (octet ∷ rest) = go (eqb octet 10) (gathered-within 
     go true h = omega arith
     go false h = omega (arith, h)
 
-cond-within : (b : Bool) (x y most : ℕ) → x ≤ most → y ≤ most → cond b x y ≤ most
-cond-within true x y most p q = p
-cond-within false x y most p q = q
+-- a choice between two steps
+choice-within : (b : Bool) (x y : Step) (most : ℕ) → x .used ≤ most → y .used ≤ most → (cond b x y) .used ≤ most
+choice-within true x y most p q = p
+choice-within false x y most p q = q
 
-used-within : (p : Player) (input : List ℕ) → usedOf p input ≤ length input
-unfolding usedOf
-used-within p input =
-    cond-within (p .broken) (length input) (cond (ltb 0 (p .ticks)) 0 ((gathered 0 (p .held) input) .used)) (length input) (omega arith)
-    (cond-within (ltb 0 (p .ticks)) 0 ((gathered 0 (p .held) input) .used) (length input) (omega arith) (omega (arith, gathered-within 0 (p .held) input)))
+module _ (room : Bool) (p : Player) (line table input : List ℕ) where
+  free-within : (freeStep p line table input) .used ≤ length input
+  unfolding freeStep withUsed tickStep callStep
+  free-within =
+      choice-within (p .broken) _ _ (length input) (omega arith)
+      (choice-within (ltb 0 (p .ticks)) _ _ (length input) (omega arith) (omega (arith, gathered-within 0 (p .held) input)))
 
--- what a turn says that it used is within the piece
-module _ (s : Step) (p : Player) (r : Told) (input : List ℕ) where
-  pub used-fits : r ≡ toldOf s (usedOf p input) → r .used ≤ length input
+  used-within : (turnStep room p line table input) .used ≤ length input
+  unfolding turnStep given ifOk quietStep
+  used-within = choice-within (eqb (turnChecked room p line table input) 0) _ _ (length input) free-within (omega arith)
+
+  -- what a turn says that it used is within the piece
+  pub used-fits : (r : Told) → r ≡ toldOf (turnStep room p line table input) → r .used ≤ length input
   unfolding toldOf
-  used-fits e = rw e (used-within p input)
+  used-fits r e = rw e used-within

@@ -9,7 +9,7 @@ close-requires : tie.Need-close-requires
 close-requires c κs = search needs
 
 show-requires : tie.Need-show-requires
-show-requires c κs = written-fits _ _ _ _ _ (c .before .before .before .close .ensures .0 []) (c .before .before .before .close .ensures .1 []) (c .before .before .before .close .kept .1 .0)
+show-requires c κs = written-fits _ _ _ _ (c .before .before .before .close .ensures .0 []) (c .before .before .before .close .ensures .1 []) (c .before .before .before .close .kept .1 .0)
 
 same-length : tie.Need-same-length
 same-length c = search needs
@@ -21,7 +21,7 @@ finish-requires : tie.Need-finish-requires
 finish-requires c κs = search needs
 
 show-requires-2 : tie.Need-show-requires-2
-show-requires-2 c κs = written-fits _ _ _ _ _ (c .before .before .before .finish .ensures .0) (c .before .before .before .finish .ensures .1) (c .before .before .before .finish .kept .1 .1 .0)
+show-requires-2 c κs = written-fits _ _ _ _ (c .before .before .before .finish .ensures .0) (c .before .before .before .finish .ensures .1) (c .before .before .before .finish .kept .1 .1 .0)
 
 same-length-2 : tie.Need-same-length-2
 same-length-2 c = search needs

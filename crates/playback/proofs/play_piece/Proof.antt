@@ -36,16 +36,16 @@ turn-requires : tie.Need-turn-requires Inv-loop μ-loop
 turn-requires c κs = tt
 
 show-requires : tie.Need-show-requires Inv-loop μ-loop
-show-requires c κs = written-fits _ _ _ _ _ (c .before .before .before .before .before .before .before .turn .ensures .0) (c .before .before .before .before .before .before .before .turn .ensures .1 .1 .1) (c .before .before .before .before .before .before .before .turn .kept .1 .1 .1 .1 .0)
+show-requires c κs = written-fits _ _ _ _ (c .before .before .before .before .before .before .before .turn .ensures .0) (c .before .before .before .before .before .before .before .turn .ensures .1 .1 .1) (c .before .before .before .before .before .before .before .turn .kept .1 .1 .1 .1 .0)
 
 sub-rest : tie.Need-sub-rest Inv-loop μ-loop
-sub-rest c = used-fits _ _ _ _ (c .before .before .before .before .before .before .before .before .before .before .turn .ensures .0)
+sub-rest c = used-fits _ _ _ _ _ _ (c .before .before .before .before .before .before .before .before .before .before .turn .ensures .0)
 
 part-rest-start : tie.Need-part-rest-start Inv-loop μ-loop
-part-rest-start c = used-fits _ _ _ _ (c .before .before .before .before .before .before .before .before .before .before .turn .ensures .0)
+part-rest-start c = used-fits _ _ _ _ _ _ (c .before .before .before .before .before .before .before .before .before .before .turn .ensures .0)
 
 part-rest-end : tie.Need-part-rest-end Inv-loop μ-loop
-part-rest-end c = omega (arith, used-fits _ _ _ _ (c .before .before .before .before .before .before .before .before .before .before .turn .ensures .0))
+part-rest-end c = omega (arith, used-fits _ _ _ _ _ _ (c .before .before .before .before .before .before .before .before .before .before .turn .ensures .0))
 
 sub-turns : tie.Need-sub-turns Inv-loop μ-loop
 sub-turns c = omega arith

@@ -28,7 +28,8 @@ use Rattle.model.proofs.Theorem.{step-is, begun-is, empty-good}
 use Rattle.calling.specs.Told.{lent, callText, on}
 use Rattle.player.specs.declared.Player.{Player}
 use Rattle.player.specs.Player.{nextLine, breaking, due, settled, having, Step, badStep, brokenStep, quietStep, withAs, withOwn, withCapability, withNet, settingStep, freshStep, netStep, headStep, callStep, eventStep, lineStep}
-use Rattle.played.specs.Output.{Line, ended, eventIn, valueIn, Opening, broken, opened, takenBy, fromNet, fromCapability, fromOwn, openingOf, ticks, callsOf, badLine, callsTold, eventTold, toldText, openingText}
+use Rattle.played.specs.Output.{Line, ended, eventIn, valueIn, Opening, broken, opened, takenBy, fromNet, fromCapability, fromOwn, openingOf, ticks, callsOf}
+use Rattle.played.proofs.ByCalls.{badLine, callsTold, eventTold, toldText, openingText}
 use Rattle.played.proofs.Short.{event-short, number-short}
 use Rattle.played.proofs.Due.{Due, saying, silence, eventsDue, callsDue, finalOf, openingDue, openingFrom, remaining, remaining-early, remaining-late, line-due}
 

@@ -18,11 +18,14 @@ use Rattle.model.specs.Theorem.{Gateway, gatewayFrom, run, emptyTable}
 use Rattle.calling.specs.Told.{on}
 use Rattle.player.specs.declared.Player.{Player}
 use Rattle.player.specs.Player.{beginning, roomy, lineFits, nextLine, breaking, reportCheck, given, withUsed, reported, badStep, brokenStep, quietStep, turnStep, heldOf, closeStep, finishStep}
-use Rattle.played.specs.Output.{Line, unended, linesFrom, linesOf, eventIn, valueIn, broken, opened, openingOf, fromOwn, fromCapability, fromNet, callsOf, goodCalls, eventTold, toldFrom, toldText, eventsText, listed, openingText, outputOf}
+use Rattle.played.specs.Output.{Line, unended, linesFrom, linesOf, eventIn, valueIn, broken, opened, openingOf, fromOwn, fromCapability, fromNet, callsOf, goodCalls, outputOf}
+use Rattle.played.proofs.ByCalls.{eventTold, toldFrom, toldText, eventsText, listed, openingText}
 use Rattle.played.specs.Theorem.{Deck, start, Lent, stepOn, afterTurn, Driven, writing, drive, isDone, closed, finished, written, EndsAs, Played, Recordings}
 use Rattle.played.proofs.Laws.{no-length, left-of}
 use Rattle.played.proofs.OneByOne.{one-by-one}
+use Rattle.model.proofs.Theorem.{list-of-calls}
 use Rattle.played.proofs.Listed.{finish-in}
+use Rattle.played.proofs.ByModel.{recording-text, fresh-took}
 use Rattle.played.proofs.Held.{holds-none}
 use Rattle.played.proofs.Due.{Final, unplayed, playedTo, Due, saying, saying-twice, silence, eventsDue, finalOf, openingDue, openingFrom, remaining, remaining-broken, remaining-early}
 use Rattle.played.proofs.LineEnds.{Kept, kept-early, then-events, more-lines}
@@ -187,11 +190,11 @@ module _ (line recording : List ℕ) (lents : List Lent) (fits : lineFits line �
   whole-due : openingDue (openingOf (linesOf recording)) ≡ saying (r .text) (endDue (r .deck))
   whole-due = sym (start-due line recording) ∙ finished-so .same
 
-  same-output : (out : List ℕ) → roomy out ≡ true → written out r ≡ outputOf recording
+  same-output : length recording < 18446744073709551616 → (out : List ℕ) → roomy out ≡ true → written out r ≡ outputOf recording
   unfolding written finished outputOf openingDue saying endDue
-  same-output out h =
+  same-output few out h =
       ap (λ (l : List ℕ). r .text ++ ((closed (r .deck)) .text ++ l)) (finish-in out ((closed (r .deck)) .player) (r .deck .table) h)
-      ∙ sym (ap (λ (d : Due). d .text) whole-due)
+      ∙ sym (ap (λ (d : Due). d .text) whole-due) ∙ recording-text recording few
 
   same-final : finalOf (openingOf (linesOf recording)) ≡ finalIn (r .deck)
   unfolding openingDue saying endDue
@@ -201,7 +204,8 @@ module _ (line recording : List ℕ) (lents : List Lent) (fits : lineFits line �
   unfolding finalOf on
   ends-as g l e =
       let k = played-final (r .deck) (run g (goodCalls l)) (sym (ap finalOf e) ∙ same-final) in
-      record { state = sym (ap (λ (b : Gateway). b .state) k); table = sym (ap (λ (b : Gateway). b .table) k) }
+      let a = list-of-calls g (fresh-took recording g l e) (goodCalls l) in
+      record { state = sym (ap (λ (b : Gateway). b .state) k) ∙ a .state; table = sym (ap (λ (b : Gateway). b .table) k) ∙ a .table }
 
   left-alone : (number : ℕ) → openingOf (linesOf recording) ≡ broken number → r .deck .table ≡ emptyTable
   unfolding finalOf

@@ -1,6 +1,6 @@
--- The theorem about recordings: the player's turns, on pieces of any size and whatever room they are lent, write what the whole recording's lines
--- and calls say. For every list of octets.
-use Prim.Native.Nat.{ℕ, suc, _*_, _≤_}
+-- The theorem about recordings: the player's turns, on pieces of any size and whatever room they are lent, write what the model says of the
+-- whole recording's lines and calls. For every list of octets.
+use Prim.Native.Nat.{ℕ, suc, _*_, _≤_, _<_}
 use mathlib.Core.Path.{_≡_}
 use mathlib.Core.Bool.{Bool, true, cond, not, _||_, _&&_}
 use mathlib.Core.List.{List, [], _∷_, _++_, map}
@@ -10,7 +10,7 @@ use Rattle.checks.specs.Lists.{every, join}
 use Rattle.neighbour.specs.declared.Settings.{Settings}
 use Rattle.slots.specs.Calls.{freshOf}
 use Rattle.model.specs.Model as M
-use Rattle.model.specs.Theorem.{Seen, seenBy, begun, run, emptyTable, carriesOctets, Agreement}
+use Rattle.model.specs.Theorem.{emptyTable, stateOf, tableOf, carriesOctets, Agreement}
 use Rattle.player.specs.declared.Player.{Player}
 use Rattle.player.specs.Player.{beginning, Step, roomy, lineFits, turnStep, heldOf, closeStep, finishStep}
 use Rattle.played.specs.Output.{Line, ended, unended, linesOf, broken, opened, openingOf, goodCalls, Told, badLine, called, toldFrom, outputOf}
@@ -32,21 +32,21 @@ pub record Lines : Type 0 where
 
 -- ---- making the calls one by one
 
--- the calls that were told of, and what was seen of each
+-- the calls that were told of, and what the model says of each
 unfoldable pub callsIn : List Told → List M.Call
 callsIn [] = []
 callsIn (badLine number ∷ rest) = callsIn rest
-callsIn (called call seen ∷ rest) = call ∷ callsIn rest
+callsIn (called call said ∷ rest) = call ∷ callsIn rest
 
-unfoldable pub seenIn : List Told → List Seen
-seenIn [] = []
-seenIn (badLine number ∷ rest) = seenIn rest
-seenIn (called call seen ∷ rest) = seen ∷ seenIn rest
+unfoldable pub saidIn : List Told → List M.Said
+saidIn [] = []
+saidIn (badLine number ∷ rest) = saidIn rest
+saidIn (called call said ∷ rest) = said ∷ saidIn rest
 
 -- "Playing a recording must equal making the calls of its good lines one by one, from a zeroed table and with an empty home list."
 pub record OneByOne (g : Settings) (events : List Line) : Type 0 where
-  pub calls : callsIn (toldFrom 4 (begun g) events) ≡ goodCalls events
-  pub seen : seenIn (toldFrom 4 (begun g) events) ≡ seenBy g (goodCalls events)
+  pub calls : callsIn (toldFrom 4 (M.empty g) events) ≡ goodCalls events
+  pub said : saidIn (toldFrom 4 (M.empty g) events) ≡ M.saidFrom (M.empty g) (goodCalls events)
   -- hex says octets only, so what the theorem about lists of calls says of listings holds too
   pub octets : every carriesOctets (goodCalls events) ≡ true
   -- the state, the table and every row at the end, told from the settings and the calls alone
@@ -111,14 +111,16 @@ written out r = r .text ++ ((closed (r .deck)) .text ++ (finished out (r .deck))
 
 -- ---- the statement
 
--- where the first four lines are good: the state and the table that the player ends with
+-- where the first four lines are good: the state and the table that the player ends with are those of the model
 pub record EndsAs (d : Deck) (g : Settings) (events : List Line) : Type 0 where
-  pub state : d .player .state ≡ (run g (goodCalls events)) .state
-  pub table : d .table ≡ (run g (goodCalls events)) .table
+  pub state : d .player .state ≡ stateOf (M.model g (goodCalls events))
+  pub table : d .table ≡ tableOf (M.model g (goodCalls events))
 
 -- however the recording was cut into pieces, and however little room was lent on the way
 pub record Played (line recording : List ℕ) (lents : List Lent) : Type 0 where
-  pub output : (out : List ℕ) → roomy out ≡ true → written out (drive lents (start line) recording) ≡ outputOf recording
+  -- lines are counted in 64 bits: no more fit a recording that is shorter than this
+  pub output :
+      length recording < 18446744073709551616 → (out : List ℕ) → roomy out ≡ true → written out (drive lents (start line) recording) ≡ outputOf recording
   pub ends :
       (g : Settings) (events : List Line) → openingOf (linesOf recording) ≡ opened g events → EndsAs ((drive lents (start line) recording) .deck) g events
   -- nothing is played: the table is still all zero

@@ -57,4 +57,3 @@ listed b = listedIn (zeros 65536) b
 unfoldable pub openingText : Opening → List ℕ
 openingText (broken number) = badText number
 openingText (opened g events) = eventsText 4 (begun g) events ++ listed (run g (goodCalls events))
-

@@ -68,10 +68,12 @@ agrees-calls (call ∷ calls) b m h e =
 shown-text : (a : ℕ) (buffer : List ℕ) (said : M.Said) → repliesText a (shownIn buffer said) ≡ txText a (said .first) ++ txText a (said .second)
 unfolding repliesText shownIn over
 shown-text a buffer said =
-    rw (append-assoc (said .first) (said .second) (drop (length (said .first ++ said .second)) buffer),
-    take-append-seam (said .first) (said .second ++ drop (length (said .first ++ said .second)) buffer),
-    drop-append-seam (said .first) (said .second ++ drop (length (said .first ++ said .second)) buffer),
-    take-append-seam (said .second) (drop (length (said .first ++ said .second)) buffer))
+    rw (
+      append-assoc (said .first) (said .second) (drop (length (said .first ++ said .second)) buffer),
+      take-append-seam (said .first) (said .second ++ drop (length (said .first ++ said .second)) buffer),
+      drop-append-seam (said .first) (said .second ++ drop (length (said .first ++ said .second)) buffer),
+      take-append-seam (said .second) (drop (length (said .first ++ said .second)) buffer),
+    )
 
 calls-text : (calls : List M.Call) (b : Gateway) (m : M.Model) → Agrees b m → every carriesOctets calls ≡ true
     → join (map C.toldText (C.callsTold b calls)) ≡ join (map toldText (callsTold m calls))

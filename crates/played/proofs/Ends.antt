@@ -32,8 +32,10 @@ use Rattle.played.proofs.Playing.{start-sound}
 lent-passes : (st : State) (table : List ℕ) → Stands (on st table) → lentChecks true st (length table) ≡ 0
 unfolding lentChecks check on represent
 lent-passes st table h =
-    rw (ap (λ (b : Gateway). stateFormed (b .state)) (h .is) ∙ h .good .formed,
-    eq-eqb (length table) 3072 (ap (λ (b : Gateway). length (b .table)) (h .is) ∙ table-length (h .model) (h .good)))
+    rw (
+      ap (λ (b : Gateway). stateFormed (b .state)) (h .is) ∙ h .good .formed,
+      eq-eqb (length table) 3072 (ap (λ (b : Gateway). length (b .table)) (h .is) ∙ table-length (h .model) (h .good)),
+    )
 
 formed-passes : (st : State) (table : List ℕ) → Stands (on st table) → formedCheck st ≡ 0
 unfolding formedCheck check on represent

@@ -309,7 +309,10 @@ fn play_event(p: Player, read: Read, line: &[u8], table: &mut [u32], out: &mut [
         Read::Start(a) => carry(next, calling::start_neighbour(st, table, out, a)),
         Read::Stop(a) => carry(next, calling::stop_neighbour(st, table, out, a)),
         Read::Tick(a, count) => quiet(owe_ticks(next, a, count), 0),
-        Read::Receive(a, at) => carry(next, calling::hear_neighbour(st, table, out, a, &line[at..])),
+        Read::Receive(a, at) => carry(
+            next,
+            calling::hear_neighbour(st, table, out, a, &line[at..]),
+        ),
     }
 }
 

@@ -10,5 +10,6 @@ pub mod Turns
 pub mod Listed
 pub mod ByModel
 pub mod Playing
+pub mod Refused
 pub mod Ends
 pub mod Cases

@@ -4,6 +4,7 @@ use Prim.Native.Nat.{ℕ, suc, _*_, _≤_, _<_}
 use mathlib.Core.Path.{_≡_}
 use mathlib.Core.Bool.{Bool, true, cond, not, _||_, _&&_}
 use mathlib.Core.List.{List, [], _∷_, _++_, map}
+use mathlib.Core.Logic.{_⊎_}
 use lib.Dec.{ltb, eqb}
 use lib.ListN.{length, take, drop}
 use Rattle.checks.specs.Lists.{every, join}
@@ -12,7 +13,7 @@ use Rattle.slots.specs.Calls.{freshOf}
 use Rattle.model.specs.Model as M
 use Rattle.model.specs.Theorem.{emptyTable, stateOf, tableOf, carriesOctets, Agreement}
 use Rattle.player.specs.declared.Player.{Player}
-use Rattle.player.specs.Player.{beginning, Step, roomy, lineFits, turnStep, heldOf, closeStep, finishStep}
+use Rattle.player.specs.Player.{beginning, Step, roomy, lineFits, turnChecked, turnStep, heldOf, closeStep, finishStep}
 use Rattle.played.specs.Output.{Line, ended, unended, linesOf, broken, opened, openingOf, goodCalls, Told, badLine, called, toldFrom, outputOf}
 
 -- ---- lines are what they should be
@@ -133,6 +134,22 @@ pub record Recordings : Type 0 where
   pub played :
       (line recording : List ℕ) (lents : List Lent) → lineFits line ≡ true → isDone (drive lents (start line) recording) ≡ true
       → Played line recording lents
+
+-- ---- a refusal changes nothing
+
+-- nothing used, nothing written, all as given
+unfoldable pub asGiven : Player → List ℕ → ℕ → Step
+asGiven p table answer = record { player = p; table = table; answer = answer; used = 0; text = [] }
+
+-- whatever is lent, of any length and contents: a line buffer, a table, an output buffer
+pub record Refusals : Type 0 where
+  pub turn :
+      (room : Bool) (p : Player) (line table input : List ℕ) → (turnChecked room p line table input ≡ 0 → ⊥)
+      → (turnStep room p line table input ≡ asGiven p table (turnChecked room p line table input)) × (heldOf p line input ≡ line)
+  -- close: made, or still owed
+  pub close : (room : Bool) (p : Player) (table : List ℕ) → (closeStep room p table ≡ closeStep true p table) ⊎ (closeStep room p table ≡ asGiven p table 19)
+  -- finish: it can always be called again
+  pub finish : (out : List ℕ) (p : Player) (table : List ℕ) → ((finishStep out p table) .player ≡ p) × ((finishStep out p table) .table ≡ table)
 
 -- ---- every way of cutting comes to the end
 

@@ -13,3 +13,4 @@ pub mod Playing
 pub mod Refused
 pub mod Ends
 pub mod Cases
+pub mod Answers

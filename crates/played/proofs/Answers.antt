@@ -22,7 +22,7 @@ use Rattle.calling.specs.Told.{on}
 use Rattle.player.specs.declared.Player.{Player}
 use Rattle.player.specs.Player.{nextLine, Step, lineFits, lentChecks, reportCheck, given, withUsed, quietStep, badStep, brokenStep, withNet, freshStep, netStep, headStep, callStep, eventStep, eventChecked, lineStep, lineChecked, endedLine, freeStep, turnChecked, turnStep}
 use Rattle.played.specs.Output.{callsOf}
-use Rattle.played.specs.Answers.{TakesLine, replies, Answers, EveryAnswer}
+use Rattle.played.specs.Answers.{TakesLine, checksRoom, Answers, EveryAnswer}
 
 on-true : {A : Type 0} (b : Bool) (x y : A) → b ≡ true → cond b x y ≡ x
 on-true b x y e = rw e
@@ -78,8 +78,8 @@ module _ (p : Player) (line table input : List ℕ) (t : TakesLine p line input)
     unfolding lentChecks check
     lent-is room = rw (formed, eq-eqb (length table) 3072 long)
 
-    reply-asks : (room : Bool) (e : Event) → replies e ≡ true → eventChecked room (p .state) (length table) e ≡ check room 3 0
-    unfolding eventChecked replies
+    reply-asks : (room : Bool) (e : Event) → checksRoom e ≡ true → eventChecked room (p .state) (length table) e ≡ check room 3 0
+    unfolding eventChecked checksRoom
     reply-asks room bad h = absurd (false≢true h)
     reply-asks room (add a asn) h = absurd (false≢true h)
     reply-asks room (remove a) h = absurd (false≢true h)
@@ -88,7 +88,7 @@ module _ (p : Player) (line table input : List ℕ) (t : TakesLine p line input)
     reply-asks room (tick a count) h = absurd (false≢true h)
     reply-asks room (rx a octets) h = lent-is room
 
-    short-3 : (e : Event) → replies e ≡ true → (given p table (eventChecked false (p .state) (length table) e) (withUsed used (eventStep p table e))) .answer ≡ 3
+    short-3 : (e : Event) → checksRoom e ≡ true → (given p table (eventChecked false (p .state) (length table) e) (withUsed used (eventStep p table e))) .answer ≡ 3
     unfolding given ifOk quietStep check
     short-3 e h = ap (λ (n : ℕ). (given p table n (withUsed used (eventStep p table e))) .answer) (reply-asks false e h)
 
@@ -96,8 +96,8 @@ module _ (p : Player) (line table input : List ℕ) (t : TakesLine p line input)
     headCall none [] = none
     headCall none (call ∷ rest) = call
 
-    event-own : (e : Event) (call : M.Call) → replies e ≡ true → callsOf e ≡ call ∷ [] → (eventStep p table e) .answer ≡ (outcomeOf call (on (p .state) table)) .answer
-    unfolding eventStep callStep nextLine callsOf replies headCall
+    event-own : (e : Event) (call : M.Call) → checksRoom e ≡ true → callsOf e ≡ call ∷ [] → (eventStep p table e) .answer ≡ (outcomeOf call (on (p .state) table)) .answer
+    unfolding eventStep callStep nextLine callsOf checksRoom headCall
     event-own bad call h c = absurd (false≢true h)
     event-own (add a asn) call h c = absurd (false≢true h)
     event-own (remove a) call h c = absurd (false≢true h)
@@ -106,7 +106,7 @@ module _ (p : Player) (line table input : List ℕ) (t : TakesLine p line input)
     event-own (tick a count) call h c = absurd (false≢true h)
     event-own (rx a octets) call h c = ap (λ (l : List M.Call). (outcomeOf (headCall call l) (on (p .state) table)) .answer) c
 
-    made-own : (e : Event) (call : M.Call) → replies e ≡ true → callsOf e ≡ call ∷ []
+    made-own : (e : Event) (call : M.Call) → checksRoom e ≡ true → callsOf e ≡ call ∷ []
         → (given p table (eventChecked true (p .state) (length table) e) (withUsed used (eventStep p table e))) .answer ≡ (outcomeOf call (on (p .state) table)) .answer
     unfolding given ifOk check withUsed
     made-own e call h c =

@@ -1,4 +1,5 @@
--- The same output, told from the calls' own definitions, and with the code's limited count of lines: what the player's turns are compared with first.
+-- The same output, told from the calls' own definitions, and with the code's limited count of lines: what the player's
+-- turns are compared with first.
 -- That it is what the model says is proved in ByModel. Assumes nothing.
 use Prim.Native.Nat.{ℕ}
 use mathlib.Core.List.{List, [], _∷_, _++_, map}

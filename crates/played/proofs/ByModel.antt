@@ -1,4 +1,5 @@
--- What the calls' definitions show is what the model says, by the theorem about lists of calls; and no recording has more lines than can be counted.
+-- What the calls' definitions show is what the model says, by the theorem about lists of calls; and no recording has
+-- more lines than can be counted.
 -- Assumes nothing.
 use Prim.Native.Nat.{ℕ, zero, suc, _+_, _≤_, _<_}
 use native.Mathlib.Omega.{arith}

@@ -1,4 +1,5 @@
--- Every recording comes to its end, in pieces of whatever sizes: each turn with room and an octet does some of the work that is left. Assumes nothing.
+-- Every recording comes to its end, in pieces of whatever sizes: each turn with room and an octet does some of the work
+-- that is left. Assumes nothing.
 use Prim.Native.Nat.{ℕ, zero, suc, _+_, _*_, _-_, min, _≤_, _<_}
 use native.Mathlib.Nat.{le-refl}
 use native.Mathlib.Omega.{arith}

@@ -1,4 +1,5 @@
--- The line that is coming in: the lent buffer holds its first 4,118 octets, however it is cut into pieces. Assumes nothing.
+-- The line that is coming in: the lent buffer holds its first 4,118 octets, however it is cut into pieces. Assumes
+-- nothing.
 use Prim.Native.Nat.{ℕ, suc, _+_, _≤_, _<_, min, zero-le, suc-le-suc}
 use native.Mathlib.Nat.{le-refl}
 use native.Mathlib.Omega.{arith}

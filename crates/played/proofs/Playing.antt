@@ -1,4 +1,5 @@
--- The theorem about recordings: turn after turn the player writes what the whole recording says, and ends as it says. Assumes nothing.
+-- The theorem about recordings: turn after turn the player writes what the whole recording says, and ends as it says.
+-- Assumes nothing.
 use Prim.Native.Nat.{ℕ, zero, suc, min, _≤_, _<_}
 use mathlib.Core.Path.{_≡_, refl, sym, ap, _∙_}
 use mathlib.Core.Bool.{Bool, true, false, cond, _&&_, _||_, true≢false, false≢true}

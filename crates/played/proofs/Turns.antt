@@ -1,4 +1,5 @@
--- A turn does its part of what is due, on whatever piece of the recording it is handed; a refused one does nothing. Assumes nothing.
+-- A turn does its part of what is due, on whatever piece of the recording it is handed; a refused one does nothing.
+-- Assumes nothing.
 use Prim.Native.Nat.{ℕ, zero, suc, _-_, _≤_, _<_, zero-le}
 use native.Mathlib.Nat.{le-refl}
 use native.Mathlib.Omega.{arith}

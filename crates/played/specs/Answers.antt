@@ -24,21 +24,21 @@ pub record TakesLine (p : Player) (line input : List ℕ) : Type 0 where
   pub ended : (gathered 0 (p .held) input) .ended ≡ true
 
 -- the calls that check 3
-unfoldable pub replies : Event → Bool
-replies bad = false
-replies (add a asn) = false
-replies (remove a) = false
-replies (start a) = true
-replies (stop a) = true
-replies (tick a count) = false
-replies (rx a octets) = true
+unfoldable pub checksRoom : Event → Bool
+checksRoom bad = false
+checksRoom (add a asn) = false
+checksRoom (remove a) = false
+checksRoom (start a) = true
+checksRoom (stop a) = true
+checksRoom (tick a count) = false
+checksRoom (rx a octets) = true
 
 pub record Answers (p : Player) (line table input : List ℕ) : Type 0 where
   -- 02: "19, bad line, before all others": with room or without, whatever the state and the table
   pub bad-line : (room : Bool) → 4 ≤ p .lines → eventOf (endedLine p line input) ≡ bad → (turnStep room p line table input) .answer ≡ 19
   -- 01: 3 "buffer too short", where 1 and 2 pass
   pub short :
-      (e : Event) → 4 ≤ p .lines → eventOf (endedLine p line input) ≡ e → replies e ≡ true
+      (e : Event) → 4 ≤ p .lines → eventOf (endedLine p line input) ≡ e → checksRoom e ≡ true
       → stateFormed (p .state) ≡ true → length table ≡ 3072 → (turnStep false p line table input) .answer ≡ 3
   -- fresh's own number, with room or without
   pub fresh :
@@ -46,7 +46,7 @@ pub record Answers (p : Player) (line table input : List ℕ) : Type 0 where
       → (turnStep room p line table input) .answer ≡ (freshOf (p .settings .asn) (p .settings .own) (p .settings .capability) net) .answer
   -- a call's own number, once all is lent
   pub own :
-      (e : Event) (call : M.Call) → 4 ≤ p .lines → eventOf (endedLine p line input) ≡ e → replies e ≡ true → callsOf e ≡ call ∷ []
+      (e : Event) (call : M.Call) → 4 ≤ p .lines → eventOf (endedLine p line input) ≡ e → checksRoom e ≡ true → callsOf e ≡ call ∷ []
       → stateFormed (p .state) ≡ true → length table ≡ 3072
       → (turnStep true p line table input) .answer ≡ (outcomeOf call (on (p .state) table)) .answer
 

@@ -1,4 +1,5 @@
--- What playing a recording writes, told of the whole recording at once: its lines, the calls of its good lines, and what the model says of each.
+-- What playing a recording writes, told of the whole recording at once: its lines, the calls of its good lines, and
+-- what the model says of each.
 use Prim.Native.Nat.{ℕ, zero, suc}
 use mathlib.Core.Bool.{cond}
 use mathlib.Core.List.{List, [], _∷_, _++_, map}

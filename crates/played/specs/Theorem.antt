@@ -1,4 +1,5 @@
--- The theorem about recordings: the player's turns, on pieces of any size and whatever room they are lent, write what the model says of the
+-- The theorem about recordings: the player's turns, on pieces of any size and whatever room they are lent, write what
+-- the model says of the
 -- whole recording's lines and calls. For every list of octets.
 use Prim.Native.Nat.{ℕ, suc, _*_, _≤_, _<_}
 use mathlib.Core.Path.{_≡_}
@@ -44,7 +45,8 @@ saidIn [] = []
 saidIn (badLine number ∷ rest) = saidIn rest
 saidIn (called call said ∷ rest) = said ∷ saidIn rest
 
--- "Playing a recording must equal making the calls of its good lines one by one, from a zeroed table and with an empty home list."
+-- "Playing a recording must equal making the calls of its good lines one by one, from a zeroed table and with an empty
+-- home list."
 pub record OneByOne (g : Settings) (events : List Line) : Type 0 where
   pub calls : callsIn (toldFrom 4 (M.empty g) events) ≡ goodCalls events
   pub said : saidIn (toldFrom 4 (M.empty g) events) ≡ M.saidFrom (M.empty g) (goodCalls events)

@@ -1,4 +1,5 @@
--- The player: it is handed a recording in pieces, and each turn makes at most one call. 02: "Playing a recording must equal
+-- The player: it is handed a recording in pieces, and each turn makes at most one call. 02: "Playing a recording must
+-- equal
 -- making the calls of its good lines one by one"; that it does is stated in the crate `played`.
 use Prim.Native.Nat.{ℕ, _-_}
 use mathlib.Core.Bool.{Bool, true, false, cond, not, _&&_}
@@ -108,7 +109,8 @@ having p st =
 
 -- ---- what one turn leaves
 
--- the player, the lent table, the number that it answers, how many octets of the piece it used, and those that it writes
+-- the player, the lent table, the number that it answers, how many octets of the piece it used, and those that it
+-- writes
 pub record Step : Type 0 where
   pub player : Player
   pub table : List ℕ
@@ -138,7 +140,8 @@ roomy out = leb 65536 (length out)
 unfoldable pub lineFits : List ℕ → Bool
 lineFits line = leb 4118 (length line)
 
--- 01: 1 "state not well formed", 2 "table not 3,072 numbers", 3 "buffer too short", in this order: what a call with replies asks for
+-- 01: 1 "state not well formed", 2 "table not 3,072 numbers", 3 "buffer too short", in this order: what a call with
+-- replies asks for
 unfoldable pub lentChecks : Bool → State → ℕ → ℕ
 lentChecks room st numbers = check (stateFormed st) 1 (check (eqb numbers 3072) 2 (check room 3 0))
 
@@ -150,9 +153,9 @@ formedCheck st = check (stateFormed st) 1 0
 unfoldable pub reportCheck : Bool → ℕ → ℕ
 reportCheck room answer = check room answer 0
 
--- a step is said below as if all were lent that it needs. Where something is not, it is refused with that number, and everything is
--- as given: 01: "Every refusal returns the state as given, keeps the table". Nothing of the recording is used, so the host can come
--- back and the turn is made then.
+-- A step is said below as if all were lent that it needs. Where something is not, it is refused with that number and
+-- everything is as given. 01: "Every refusal returns the state as given, keeps the table". Nothing of the recording is
+-- used, so the host can come back, and the turn is made then.
 unfoldable pub given : Player → List ℕ → ℕ → Step → Step
 given p table refusal s = ifOk refusal s (quietStep p table refusal)
 
@@ -166,7 +169,8 @@ reported room p table used s = given p table (reportCheck room (s .answer)) (wit
 unfoldable pub badStep : Player → List ℕ → Step
 badStep p table = record { player = nextLine p; table = table; answer = 19; used = 0; text = badText ((nextLine p) .lines) }
 
--- "If one of the first four lines is bad or missing, or fresh refuses them, the first such line .. alone is so reported"
+-- "If one of the first four lines is bad or missing, or fresh refuses them, the first such line .. alone is so
+-- reported"
 unfoldable pub brokenStep : Player → List ℕ → ℕ → Step
 brokenStep p table answer =
     record { player = breaking (nextLine p); table = table; answer = answer; used = 0; text = badText ((nextLine p) .lines) }
@@ -211,7 +215,7 @@ headStep p table line =
 
 -- ---- the events
 
--- one call, from this player's state; another is the player after it, but for the state
+-- one call: the state that it leaves is this player's from then on
 unfoldable pub callStep : Player → List ℕ → M.Call → Step
 callStep p table call =
     record {
@@ -232,7 +236,8 @@ eventStep p table (stop a) = callStep (nextLine p) table (M.stop a lent)
 eventStep p table (tick a count) = quietStep (due (nextLine p) a count) table 0
 eventStep p table (rx a octets) = callStep (nextLine p) table (M.receive a octets [] lent)
 
--- what it asks for: a report or a call with replies needs room, add and remove do not, and a tick line writes nothing itself
+-- what it asks for: a report or a call with replies needs room, add and remove do not, and a tick line writes nothing
+-- itself
 unfoldable pub eventChecked : Bool → State → ℕ → Event → ℕ
 eventChecked room st numbers bad = reportCheck room 19
 eventChecked room st numbers (add a asn) = formedCheck st
@@ -303,7 +308,8 @@ closeStep room p table =
 unfoldable pub listedIn : List ℕ → Gateway → List ℕ
 listedIn out b = take ((seenOf (M.listing out) b) .first) ((seenOf (M.listing out) b) .buffer)
 
--- "the listing at the end", its answer the listing's own; "nothing is .. listed" where the first four lines are not good
+-- "the listing at the end", its answer the listing's own; "nothing is .. listed" where the first four lines are not
+-- good
 unfoldable pub finishStep : List ℕ → Player → List ℕ → Step
 finishStep out p table =
     cond (p .broken) (quietStep p table 0)

@@ -1,4 +1,5 @@
-// Plays a recording that comes in pieces of any size. Each turn makes at most one call, so the output of a turn is bounded.
+// Plays a recording that comes in pieces of any size. Each turn makes at most one call, so the output of a turn is
+// bounded.
 use calling::Called;
 use neighbour::Settings;
 use recording::Read;
@@ -35,7 +36,8 @@ pub struct Player {
     pub state: State,
 }
 
-// What a turn leaves: how many octets of the piece it used and how many it wrote, and the number of 01 or 19 for a bad line.
+// What a turn leaves: how many octets of the piece it used and how many it wrote, and the number of 01 or 19 for a bad
+// line.
 pub struct Told {
     pub player: Player,
     pub answer: u8,
@@ -372,7 +374,8 @@ pub fn begin() -> Player
     }
 }
 
-// One turn: a tick if any is due, else the line that the piece of the recording ends, if it does. Where the host has not lent what it needs, it is refused, and
+// One turn: a tick if any is due, else the line that the piece of the recording ends, if it does. Where the host has
+// not lent what it needs, it is refused, and
 // the host comes back with all as it was.
 pub fn turn(p: Player, line: &mut [u8], table: &mut [u32], input: &[u8], out: &mut [u8]) -> Told
     ensures { λ r. ⌜ r ≡ toldOf (turnStep (roomy (now (out .entry))) p (now (line .entry)) (now (table .entry)) (now (input .entry))) ⌝ }

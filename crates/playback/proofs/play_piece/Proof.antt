@@ -1,4 +1,5 @@
--- `playback::play_piece` is safe and ends: the sizes of what is lent stay, and the measure is the number of turns that are left. Assumes nothing.
+-- `playback::play_piece` is safe and ends: the sizes of what is lent stay, and the measure is the number of turns that
+-- are left. Assumes nothing.
 use native.Mathlib.Omega.{arith}
 use mathlib.Core.Path.{sym, _∙_}
 use Rattle.playback.proofs.Laws.{written-fits, used-fits}

@@ -1,20 +1,12 @@
 // Plays a site's recording back: standard input, or the file that the only argument names. Replies, bad lines and the listing go to standard
 // output. docs/RECORDING.md has the format.
+use course::Course;
 use libc::STDERR_FILENO;
 use libc::STDIN_FILENO;
 use libc::STDOUT_FILENO;
-use player::Player;
 ghost use Prim.Native.Nat.{_≤_};
-ghost use mathlib.Core.Path.{_≡_};
 ghost use lib.ListN.{length};
 ghost use Rattle.playback.specs.Rooms.{Rooms};
-
-// How far a recording is played.
-struct Progress {
-    player: Player,
-    // Whether all of it so far could be read, and its output written.
-    is_sound: bool,
-}
 
 // Writes the octets at the front.
 fn show(out: &[u8], size: usize) -> bool
@@ -27,103 +19,49 @@ fn show(out: &[u8], size: usize) -> bool
     is_written
 }
 
-// Whether nothing of a piece is left, and no tick is due.
-fn is_used_up(p: Player, rest: &[u8]) -> bool {
-    if 0 < p.ticks {
-        return false;
+// Reads the next piece, where a read comes next.
+fn read_on(c: Course, fd: i32, name: &[u8], piece: &mut [u8]) -> Course {
+    if !course::is_read(c) {
+        return c;
     }
-    rest.len() == 0
-}
-
-// Turns until a piece is used up. They are counted down from a number that no piece reaches.
-fn play_piece(
-    p: Player,
-    line: &mut [u8],
-    table: &mut [u32],
-    piece: &[u8],
-    out: &mut [u8],
-) -> Progress
-    requires { ⌜ Rooms (now line) (now table) (now out) ⌝ }
-{
-    let mut next = p;
-    let mut rest = piece;
-    let mut turns = u64::MAX;
-    while turns > 0 {
-        if is_used_up(next, rest) {
-            return Progress {
-                player: next,
-                is_sound: true,
-            };
-        }
-        let t = player::turn(next, line, table, rest, out);
-        if !show(out, t.written) {
-            break;
-        }
-        next = t.player;
-        let used = t.used;
-        rest = &rest[used..];
-        turns -= 1;
-    }
-    Progress {
-        player: next,
-        is_sound: false,
-    }
-}
-
-// Whether the recording ended where nothing came, and reading did not fail.
-fn is_end(got: isize, name: &[u8]) -> bool {
+    let got = libc::read(fd, piece);
     if got < 0 {
         os::fail(name);
-        return false;
+        return course::given(c, false, 0);
     }
-    true
+    course::given(c, true, io::count(got, piece))
 }
 
-// Pieces until the recording ends. Nothing says that an input ends, so they too are counted down.
-fn play_pieces(
+// One step, and what it wrote is written.
+fn go_on(c: Course, line: &mut [u8], table: &mut [u32], piece: &[u8], out: &mut [u8]) -> Course
+    requires { ⌜ Rooms (now line) (now table) (now out) ⌝ }
+{
+    let w = course::step(c, line, table, piece, out);
+    let next = w.course;
+    course::wrote(next, show(out, w.written))
+}
+
+// Step after step. Nothing says that an input ends, so they are counted down, from a number that no recording reaches.
+fn play_all(
     fd: i32,
     name: &[u8],
     line: &mut [u8],
     table: &mut [u32],
     piece: &mut [u8],
     out: &mut [u8],
-) -> Progress
+)
     requires { ⌜ Rooms (now line) (now table) (now out) ⌝ }
 {
-    let mut p = player::begin();
-    let mut turns = u64::MAX;
-    while turns > 0 {
-        let got = libc::read(fd, piece);
-        if got <= 0 {
-            return Progress {
-                player: p,
-                is_sound: is_end(got, name),
-            };
+    let mut c = course::set_out();
+    let mut steps = u64::MAX;
+    while steps > 0 {
+        if course::is_over(c) {
+            return;
         }
-        let size = io::count(got, piece);
-        let next = play_piece(p, line, table, &piece[..size], out);
-        if !next.is_sound {
-            return next;
-        }
-        p = next.player;
-        turns -= 1;
+        c = read_on(c, fd, name, piece);
+        c = go_on(c, line, table, piece, out);
+        steps -= 1;
     }
-    Progress {
-        player: p,
-        is_sound: false,
-    }
-}
-
-// The recording is over: what it lacks, then the listing.
-fn end_recording(p: Player, table: &[u32], out: &mut [u8])
-    requires { ⌜ (length (now table) ≡ 3072) × (length (now out) ≡ 65536) ⌝ }
-{
-    let closed = player::close(p, out);
-    if !show(out, closed.written) {
-        return;
-    }
-    let last = player::finish(closed.player, table, out);
-    show(out, last.written);
 }
 
 // Plays all that a file holds.
@@ -132,10 +70,7 @@ fn play(fd: i32, name: &[u8]) {
     let mut table = [0u32; 3072];
     let mut piece = io::large_buffer();
     let mut out = io::large_buffer();
-    let whole = play_pieces(fd, name, &mut line, &mut table, &mut piece, &mut out);
-    if whole.is_sound {
-        end_recording(whole.player, &table, &mut out);
-    }
+    play_all(fd, name, &mut line, &mut table, &mut piece, &mut out);
 }
 
 // Plays the file that the argument names.

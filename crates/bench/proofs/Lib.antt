@@ -1,2 +1,3 @@
+pub mod Unfolded
 pub mod Bench
 pub mod Sound

@@ -1,23 +1,10 @@
 -- The worked listings compute. Assumes nothing.
 use mathlib.Core.Path.{refl}
-use Rattle.checks.specs.Checks.{check, ifOk}
-use Rattle.checks.specs.Lists.{every, distinct, join}
-use Rattle.text.specs.Text.{text, digit, digits, decimal, dotted, line}
-use Rattle.nets.specs.Classes.{netWidth, hostSpan, goodNet, onNet}
-use Rattle.nets.specs.Rows.{rowsOf}
-use Rattle.rows.specs.Storing.{zeros}
-use Rattle.neighbour.specs.Record as Record
-use Rattle.wellformed.specs.Formed.{allZero, idleFormed, timersBelow, timersRun, t2Formed, registerFormed, agreed, intervalsFormed, causeFormed, wellFormed}
-use Rattle.state.specs.Slots.{freeSlot, addresses, clash}
-use Rattle.state.specs.Formed.{goodSettings, goodPeer, rowsFormed, freeFormed, usedFormed, slotFormed, stateFormed}
-use Rattle.state.specs.Outcomes.{refusedOf}
-use Rattle.calls.specs.Carried.{partAt}
-use Rattle.lines.specs.Lines.{stateWord, modeWord, distanceIn, sideWord, headLines, rowLines, rowText, entryText, listingText}
-use Rattle.lines.specs.Listing.{usedRows, entryOf, entriesFrom, entries, markedRow, listable, listingChecks, listingOutcome, listingBuffer}
-use Rattle.lines.specs.Cases.{settings, acquired, waiting, slot, stateU, tableU, stateMixed, tableMixed, Cases}
+use Rattle.lines.specs.Cases.{Cases}
+use Rattle.lines.proofs.Unfolded.{opened}
 
 pub cases : Cases
-unfolding text digit digits decimal dotted line join stateWord modeWord distanceIn sideWord headLines rowLines rowText entryText listingText usedRows entryOf entriesFrom entries markedRow listable listingChecks listingOutcome listingBuffer check ifOk refusedOf partAt rowsOf zeros every distinct freeSlot addresses clash netWidth hostSpan goodNet onNet goodSettings goodPeer rowsFormed freeFormed usedFormed slotFormed stateFormed allZero idleFormed timersBelow timersRun t2Formed registerFormed agreed intervalsFormed causeFormed wellFormed Record.idle Record.under settings acquired waiting slot stateU tableU stateMixed tableMixed
+unfolding opened
 cases =
     record {
       formed-u = refl;

@@ -1,2 +1,4 @@
 pub mod Theorems
+pub mod Sends
+pub mod Unfolded
 pub mod Sheet

@@ -1,115 +1,105 @@
 -- The machine sheet, computed. Assumes nothing.
-use Prim.Native.Nat.{ℕ}
 use mathlib.Core.Path.{_≡_, refl}
 use mathlib.Core.List.{List, map}
-use Rattle.neighbour.specs.Record.{under, withNumbers, withTimers, withReach, idle, leftIdle, waiting, initialised, heardFrom, shifted, enterUp, leaveUp, polled}
-use Rattle.neighbour.specs.Rules.{commanded, indicates, noted, helloInterval, pollInterval, unacceptable, modeOf, offerOf, onesOf, goesUp, goesDown, judged}
-use Rattle.machine.specs.Table.{followed, quiet, answers, says, helloIf, doesA, doesB, ceases, repeatsCease, acquires, stray, onRequest, settles, onConfirm, onRefuse, onCease, onCeaseAck, onHello, onIHeardYou, answersPoll, onPoll, onUpdate, onStart, onStop}
-use Rattle.machine.specs.Tick.{expired, repeats, listens, polls, pollsOnEntry, takesT2, pollsInUp, runs, onTick}
-use Rattle.machine.specs.Step.{onMessage, stepOf}
-use Rattle.machine.specs.Sheet.{Line, at, g0, g1, g2, words, computed, written, byRequest, byConfirm, modeByRequest, modeByConfirm, hears, staysDownActive, risesActive, staysDownPassive, risesPassive, staysUpActive, fallsActive, staysUpPassive, fallsPassive, acceptableRow, unacceptableRow, confirmRow, refuseRow, ceaseRow, ceaseAckRow, helloRow, pollRow, updateRow, startRow, stopRow, iHeardYouReceived, errorReceived, intervals, modes, indications, tickIdle, tickT3, tickRetry, tickListening, registers, tickPoll, tickS, sheet, MachineSheet}
+use Rattle.machine.specs.Sheet.{Line, computed, written, acceptableRow, unacceptableRow, confirmRow, refuseRow, ceaseRow, ceaseAckRow, helloRow, pollRow, updateRow, startRow, stopRow, iHeardYouReceived, errorReceived, intervals, modes, indications, tickIdle, tickT3, tickRetry, tickListening, registers, tickPoll, tickS, sheet, MachineSheet}
+use Rattle.machine.proofs.Unfolded.{opened}
 
 -- what a part of the sheet says
 abbrev Comes : List Line → Type 0
 Comes part = map computed part ≡ map written part
 
--- to unfold this is to unfold every rule and every form of a line
-opened : ℕ
-unfolding under withNumbers withTimers withReach idle leftIdle waiting initialised heardFrom shifted enterUp leaveUp polled commanded indicates noted helloInterval pollInterval unacceptable modeOf offerOf onesOf goesUp goesDown judged followed quiet answers says helloIf doesA doesB ceases repeatsCease acquires stray onRequest settles onConfirm onRefuse onCease onCeaseAck onHello onIHeardYou answersPoll onPoll onUpdate onStart onStop expired repeats listens polls pollsOnEntry takesT2 pollsInUp runs onTick onMessage stepOf at g0 g1 g2 words computed written byRequest byConfirm modeByRequest modeByConfirm hears staysDownActive risesActive staysDownPassive risesPassive staysUpActive fallsActive staysUpPassive fallsPassive
-opened = 0
-
 -- part by part, so that a line that fails is looked for in its part
 
 acceptable-row-ok : Comes acceptableRow
-unfolding opened acceptableRow
+unfolding opened
 acceptable-row-ok = refl
 
 unacceptable-row-ok : Comes unacceptableRow
-unfolding opened unacceptableRow
+unfolding opened
 unacceptable-row-ok = refl
 
 confirm-row-ok : Comes confirmRow
-unfolding opened confirmRow
+unfolding opened
 confirm-row-ok = refl
 
 refuse-row-ok : Comes refuseRow
-unfolding opened refuseRow
+unfolding opened
 refuse-row-ok = refl
 
 cease-row-ok : Comes ceaseRow
-unfolding opened ceaseRow
+unfolding opened
 cease-row-ok = refl
 
 cease-ack-row-ok : Comes ceaseAckRow
-unfolding opened ceaseAckRow
+unfolding opened
 cease-ack-row-ok = refl
 
 hello-row-ok : Comes helloRow
-unfolding opened helloRow
+unfolding opened
 hello-row-ok = refl
 
 poll-row-ok : Comes pollRow
-unfolding opened pollRow
+unfolding opened
 poll-row-ok = refl
 
 update-row-ok : Comes updateRow
-unfolding opened updateRow
+unfolding opened
 update-row-ok = refl
 
 start-row-ok : Comes startRow
-unfolding opened startRow
+unfolding opened
 start-row-ok = refl
 
 stop-row-ok : Comes stopRow
-unfolding opened stopRow
+unfolding opened
 stop-row-ok = refl
 
 i-heard-you-received-ok : Comes iHeardYouReceived
-unfolding opened iHeardYouReceived
+unfolding opened
 i-heard-you-received-ok = refl
 
 error-received-ok : Comes errorReceived
-unfolding opened errorReceived
+unfolding opened
 error-received-ok = refl
 
 intervals-ok : Comes intervals
-unfolding opened intervals
+unfolding opened
 intervals-ok = refl
 
 modes-ok : Comes modes
-unfolding opened modes
+unfolding opened
 modes-ok = refl
 
 indications-ok : Comes indications
-unfolding opened indications
+unfolding opened
 indications-ok = refl
 
 tick-idle-ok : Comes tickIdle
-unfolding opened tickIdle
+unfolding opened
 tick-idle-ok = refl
 
 tick-t3-ok : Comes tickT3
-unfolding opened tickT3
+unfolding opened
 tick-t3-ok = refl
 
 tick-retry-ok : Comes tickRetry
-unfolding opened tickRetry
+unfolding opened
 tick-retry-ok = refl
 
 tick-listening-ok : Comes tickListening
-unfolding opened tickListening
+unfolding opened
 tick-listening-ok = refl
 
 registers-ok : Comes registers
-unfolding opened registers
+unfolding opened
 registers-ok = refl
 
 tick-poll-ok : Comes tickPoll
-unfolding opened tickPoll
+unfolding opened
 tick-poll-ok = refl
 
 tick-s-ok : Comes tickS
-unfolding opened tickS
+unfolding opened
 tick-s-ok = refl
 
 pub machine-sheet : MachineSheet

@@ -84,17 +84,17 @@ module _ (g : Settings) where
   leaves-idle sequence h q Passive a b c d e = record { formed = initialised-ok (leftIdle sequence) h q Passive a b c d e; s-moves = refl; r-moves = refl; up-entered = refl }
 
   -- Cease 5, Cease 6 and Acquisition, from any state but Idle
-  ceases-5 : (n : Neighbour) (tick : Bool) (p : Phase) → isIdle p ≡ false → Lawful p (n .s) (n .r) tick (ceases g n 5)
+  ceases-5 : (n : Neighbour) (tick : Bool) (p : Phase) → isIdle p ≡ false → wellFormed n ≡ true → Lawful p (n .s) (n .r) tick (ceases g n 5)
   unfolding ceases answers waiting
-  ceases-5 n tick p i = moves n tick p i (waiting n Cease 5) refl refl refl refl (cease-5-ok n) (One _) refl
+  ceases-5 n tick p i h = moves n tick p i (waiting n Cease 5) refl refl refl refl (cease-5-ok n h) (One _) refl
 
-  ceases-6 : (n : Neighbour) (tick : Bool) (p : Phase) → isIdle p ≡ false → Lawful p (n .s) (n .r) tick (ceases g n 6)
+  ceases-6 : (n : Neighbour) (tick : Bool) (p : Phase) → isIdle p ≡ false → wellFormed n ≡ true → Lawful p (n .s) (n .r) tick (ceases g n 6)
   unfolding ceases answers waiting
-  ceases-6 n tick p i = moves n tick p i (waiting n Cease 6) refl refl refl refl (cease-6-ok n) (One _) refl
+  ceases-6 n tick p i h = moves n tick p i (waiting n Cease 6) refl refl refl refl (cease-6-ok n h) (One _) refl
 
-  acquires-on : (n : Neighbour) (tick : Bool) (p : Phase) → isIdle p ≡ false → Lawful p (n .s) (n .r) tick (acquires g n)
+  acquires-on : (n : Neighbour) (tick : Bool) (p : Phase) → isIdle p ≡ false → wellFormed n ≡ true → Lawful p (n .s) (n .r) tick (acquires g n)
   unfolding acquires answers waiting
-  acquires-on n tick p i = moves n tick p i (waiting n Acquisition 0) refl refl refl refl (acquisition-ok n) (One _) refl
+  acquires-on n tick p i h = moves n tick p i (waiting n Acquisition 0) refl refl refl refl (acquisition-ok n h) (One _) refl
 
   -- the rows of messages, outside Idle
   module _ (n : Neighbour) where
@@ -107,10 +107,10 @@ module _ (g : Settings) where
         (does-a (at n Acquisition) false Acquisition i) (gone Acquisition (n .s) (n .r) false Nothing)
     request-row sequence asn status hello poll Down i h =
         offer-elim g asn status hello poll (λ o. Lawful Down (n .s) (n .r) false (onRequest g (at n Down) sequence o))
-        (does-a (at n Down) false Down i) (ceases-6 (at n Down) false Down i)
+        (does-a (at n Down) false Down i) (ceases-6 (at n Down) false Down i h)
     request-row sequence asn status hello poll Up i h =
         offer-elim g asn status hello poll (λ o. Lawful Up (n .s) (n .r) false (onRequest g (at n Up) sequence o))
-        (does-a (at n Up) false Up i) (ceases-6 (at n Up) false Up i)
+        (does-a (at n Up) false Up i) (ceases-6 (at n Up) false Up i h)
     request-row sequence asn status hello poll Cease i h =
         offer-elim g asn status hello poll (λ o. Lawful Cease (n .s) (n .r) false (onRequest g (at n Cease) sequence o))
         (λ a b c d e f k l. stays n false Cease i h (One _) refl) (stays n false Cease i h (One _) refl)
@@ -227,7 +227,7 @@ module _ (g : Settings) where
   idle-lawful : (asn : ℕ) (event : Event) (head : Head) → Lawful Idle 0 (brought event 0) (isTick event) (stepOf g asn idle event head)
   unfolding stepOf onStart onStop onTick acquires answers waiting leftIdle withNumbers idle quiet under
   idle-lawful asn (Received m) head = idle-received asn m head
-  idle-lawful asn Start head = record { formed = acquisition-ok (leftIdle 0); s-moves = refl; r-moves = refl; up-entered = refl }
+  idle-lawful asn Start head = record { formed = acquisition-ok (leftIdle 0) idle-ok; s-moves = refl; r-moves = refl; up-entered = refl }
   idle-lawful asn Stop head = gone Idle 0 0 false Nothing
   idle-lawful asn Tick head = gone Idle 0 0 true Nothing
 
@@ -239,18 +239,18 @@ module _ (g : Settings) where
   start-lawful : (n : Neighbour) (p : Phase) → isIdle p ≡ false → wellFormed (at n p) ≡ true → Lawful p (n .s) (n .r) false (onStart g (at n p))
   unfolding onStart quiet under
   start-lawful n Idle i h = never i
-  start-lawful n Acquisition i h = acquires-on (at n Acquisition) false Acquisition i
-  start-lawful n Down i h = acquires-on (at n Down) false Down i
-  start-lawful n Up i h = acquires-on (at n Up) false Up i
+  start-lawful n Acquisition i h = acquires-on (at n Acquisition) false Acquisition i h
+  start-lawful n Down i h = acquires-on (at n Down) false Down i h
+  start-lawful n Up i h = acquires-on (at n Up) false Up i h
   start-lawful n Cease i h = stays n false Cease i h Nothing refl
 
-  stop-lawful : (n : Neighbour) (tick : Bool) (p : Phase) → isIdle p ≡ false → Lawful p (n .s) (n .r) tick (onStop g (at n p))
+  stop-lawful : (n : Neighbour) (tick : Bool) (p : Phase) → isIdle p ≡ false → wellFormed (at n p) ≡ true → Lawful p (n .s) (n .r) tick (onStop g (at n p))
   unfolding onStop quiet under
-  stop-lawful n tick Idle i = never i
-  stop-lawful n tick Acquisition i = gone Acquisition (n .s) (n .r) tick Nothing
-  stop-lawful n tick Down i = ceases-5 (at n Down) tick Down i
-  stop-lawful n tick Up i = ceases-5 (at n Up) tick Up i
-  stop-lawful n tick Cease i = gone Cease (n .s) (n .r) tick Nothing
+  stop-lawful n tick Idle i h = never i
+  stop-lawful n tick Acquisition i h = gone Acquisition (n .s) (n .r) tick Nothing
+  stop-lawful n tick Down i h = ceases-5 (at n Down) tick Down i h
+  stop-lawful n tick Up i h = ceases-5 (at n Up) tick Up i h
+  stop-lawful n tick Cease i h = gone Cease (n .s) (n .r) tick Nothing
 
   -- the tick
   hello-elim : (P : After → Type 0) (mode : Mode) (x : After) → P x → P (says x (helloMessage g (x .neighbour))) → P (helloIf mode g x)
@@ -380,7 +380,7 @@ module _ (g : Settings) where
       let t = timer-bounds n p i h in
       rw i
       (cond-elim (Lawful p (n .s) (n .r) true) (eqb (n .t3 - 1) 0) _ _
-      (λ _. stop-lawful n true p i)
+      (λ _. stop-lawful n true p i h)
       (λ e.
       let k = eqb-false (n .t3 - 1) 0 e in
       runs-lawful (withTimers n (n .t1) (n .t2) (n .t3 - 1)) p i
@@ -392,7 +392,7 @@ module _ (g : Settings) where
   unfolding stepOf
   event-lawful asn n p (Received m) head i h = received-lawful asn n p m head i h
   event-lawful asn n p Start head i h = start-lawful n p i h
-  event-lawful asn n p Stop head i h = stop-lawful n false p i
+  event-lawful asn n p Stop head i h = stop-lawful n false p i h
   event-lawful asn n p Tick head i h = tick-lawful n p i h
 
   by-phase : (asn : ℕ) (n : Neighbour) (p : Phase) (event : Event) (head : Head) → wellFormed (at n p) ≡ true

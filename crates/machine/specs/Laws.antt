@@ -2,6 +2,7 @@
 use Prim.Native.Nat.{ℕ, _+_, _%_}
 use mathlib.Core.Path.{_≡_}
 use mathlib.Core.Bool.{Bool, true, false, cond, not, _&&_, _||_}
+use lib.Dec.{eqb}
 use Rattle.message.specs.Kinds.{kindOf, sequenceOf}
 use Rattle.message.specs.declared.Message.{Message}
 use Rattle.message.specs.declared.Message.the-variants as M
@@ -19,7 +20,7 @@ use Rattle.machine.specs.declared.Event.the-variants.{Received, Start, S
 use Rattle.machine.specs.declared.Reply.{Reply}
 use Rattle.machine.specs.declared.Reply.the-variants.{Nothing, One, Two}
 use Rattle.machine.specs.declared.After.{After}
-use Rattle.machine.specs.Table.{quiet}
+use Rattle.machine.specs.Table.{overfull, quiet}
 use Rattle.machine.specs.Step.{stepOf}
 
 abbrev pub isDown : Phase → Bool
@@ -69,6 +70,37 @@ StepLawful =
     (g : Settings) (asn : ℕ) (n : Neighbour) (event : Event) (head : Head)
     → wellFormed n ≡ true
     → Lawful (n .phase) (n .s) (brought event (n .r)) (isTick event) (stepOf g asn n event head)
+
+-- a message of fixed length: any but an Update
+abbrev pub short : Message → Bool
+short m = not (same (kindOf m) K.Update)
+
+-- the Update that we send: our AS, the status of Up, the common net
+abbrev pub ourUpdate : Settings → Message → Bool
+ourUpdate g (M.Request a q s hello poll) = false
+ourUpdate g (M.Confirm a q s hello poll) = false
+ourUpdate g (M.Refuse a q s) = false
+ourUpdate g (M.Cease a q s) = false
+ourUpdate g (M.CeaseAck a q s) = false
+ourUpdate g (M.Hello a q s) = false
+ourUpdate g (M.IHeardYou a q s) = false
+ourUpdate g (M.Poll a q s net) = false
+ourUpdate g (M.Update a q s net) = eqb a (g .asn) && eqb s 1 && eqb net (g .net)
+ourUpdate g (M.Error a q s reason x y z) = false
+
+-- nothing, one short message, our Update, or two short messages
+abbrev pub maySend : Settings → Reply → Bool
+maySend g Nothing = true
+maySend g (One m) = short m || ourUpdate g m
+maySend g (Two first second) = short first && short second
+
+-- what a step may send, from any record at all
+abbrev pub StepSends : Type 0
+StepSends = (g : Settings) (asn : ℕ) (n : Neighbour) (event : Event) (head : Head) → maySend g ((stepOf g asn n event head) .reply) ≡ true
+
+-- 01: "A reply is at most two messages": no step says a third
+abbrev pub NoThird : Type 0
+NoThird = (g : Settings) (asn : ℕ) (n : Neighbour) (event : Event) (head : Head) → (stepOf g asn n event head) .reply ≡ overfull → ⊥
 
 -- a well-formed record in Idle is zero throughout
 abbrev pub IdleIsZero : Type 0

@@ -4,6 +4,7 @@ use Prim.Native.Nat.{ℕ}
 use mathlib.Core.Bool.{cond}
 use lib.Dec.{eqb}
 use Rattle.message.specs.declared.Message.{Message}
+use Rattle.message.specs.declared.Message.the-variants as M
 use Rattle.neighbour.specs.declared.Phase.the-variants.{Acquisition, Cease}
 use Rattle.neighbour.specs.declared.Mode.{Mode}
 use Rattle.neighbour.specs.declared.Mode.the-variants.{Unset, Active, Passive}
@@ -18,11 +19,15 @@ use Rattle.machine.specs.declared.Reply.{Reply}
 use Rattle.machine.specs.declared.Reply.the-variants.{Nothing, One, Two}
 use Rattle.machine.specs.declared.After.{After}
 
--- 01: "A reply is at most two messages, the second written straight after the first". No rule asks for a third.
+-- what a third message would make of a reply, so that none is dropped unseen: no step leaves it (`NoThird` in Laws.antt)
+abbrev pub overfull : Reply
+overfull = Two (M.Update 0 0 0 0) (M.Update 0 0 0 0)
+
+-- 01: "A reply is at most two messages, the second written straight after the first"
 unfoldable pub followed : Reply → Message → Reply
 followed Nothing m = One m
 followed (One first) m = Two first m
-followed (Two first second) m = Two first second
+followed (Two first second) m = overfull
 
 -- this record, and nothing sent
 unfoldable pub quiet : Neighbour → After

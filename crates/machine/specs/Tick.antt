@@ -15,19 +15,17 @@ use Rattle.machine.specs.Table.{quiet, answers, says, thenHello, onStop}
 unfoldable pub expired : Settings → Neighbour → After
 expired g n = onStop g n
 
--- 01: "Take 1 from t1; at 0, Acquisition sends Request and Cease sends Cease, t1 = P3."
-unfoldable pub repeats : Neighbour → Message → After
-repeats n m =
-    cond (eqb (n .t1 - 1) 0)
-    (answers (withTimers n P3 (n .t2) (n .t3)) m)
-    (quiet (withTimers n (n .t1 - 1) (n .t2) (n .t3)))
+-- 01: "Take 1 from t1; at 0, ..": what is due at 0, and else the record with t1 one less
+abbrev pub takesT1 : Neighbour → After → After
+takesT1 n due = cond (eqb (n .t1 - 1) 0) due (quiet (withTimers n (n .t1 - 1) (n .t2) (n .t3)))
 
--- 01: "Take 1 from t1; at 0, .. Down and Up shift heard into the register ..  With n ones, ..  Active then sends Hello with the new state."
+-- 01: "at 0, Acquisition sends Request and Cease sends Cease, t1 = P3"
+unfoldable pub repeats : Neighbour → Message → After
+repeats n m = takesT1 n (answers (withTimers n P3 (n .t2) (n .t3)) m)
+
+-- 01: "at 0, .. Down and Up shift heard into the register ..  With n ones, ..  Active then sends Hello with the new state."
 unfoldable pub listens : Settings → Neighbour → After
-listens g n =
-    cond (eqb (n .t1 - 1) 0)
-    (thenHello g (quiet (judged (shifted n))))
-    (quiet (withTimers n (n .t1 - 1) (n .t2) (n .t3)))
+listens g n = takesT1 n (thenHello g (quiet (judged (shifted n))))
 
 -- 01: "S goes up by one .. just before each Poll"; "Poll, t2 = T2"
 unfoldable pub polls : Settings → After → After

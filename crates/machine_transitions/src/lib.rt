@@ -1,6 +1,6 @@
 // 01's table of one neighbour: what a message, Start or Stop makes of its record, row by row.
 ghost use mathlib.Core.Path.{_≡_};
-ghost use Rattle.machine.specs.Table.{followed, quiet, answers, says, helloIf, doesA, doesB, ceases, repeatsCease, acquires, stray, onRequest, settles, onConfirm, onRefuse, onCease, onCeaseAck, onHello, onIHeardYou, answersPoll, onPoll, onStart, onStop};
+ghost use Rattle.machine.specs.Table.{overfull, followed, quiet, answers, says, helloIf, doesA, doesB, ceases, repeatsCease, acquires, stray, onRequest, settles, onConfirm, onRefuse, onCease, onCeaseAck, onHello, onIHeardYou, answersPoll, onPoll, onStart, onStop};
 ghost use Rattle.machine.specs.Step.{onMessage};
 use machine::After;
 use machine::Reply;
@@ -12,6 +12,19 @@ use neighbour::Phase;
 use neighbour::Settings;
 use sent::Head;
 
+// What a third message would make of a reply. No step says one.
+fn overflow() -> Reply
+    ensures { λ r. ⌜ r ≡ overfull ⌝ }
+{
+    let none = Message::Update {
+        asn: 0,
+        sequence: 0,
+        status: 0,
+        net: 0,
+    };
+    Reply::Two(none, none)
+}
+
 // A reply with one message more.
 fn follow(reply: Reply, m: Message) -> Reply
     ensures { λ r. ⌜ r ≡ followed reply m ⌝ }
@@ -19,7 +32,7 @@ fn follow(reply: Reply, m: Message) -> Reply
     match reply {
         Reply::Nothing => Reply::One(m),
         Reply::One(first) => Reply::Two(first, m),
-        Reply::Two(first, second) => Reply::Two(first, second),
+        Reply::Two(_, _) => overflow(),
     }
 }
 

@@ -1,3 +1,4 @@
 pub mod Record
 pub mod Rules
 pub mod Laws
+pub mod Sheet

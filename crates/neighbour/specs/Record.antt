@@ -71,41 +71,31 @@ withNumbers n s r =
       cause = n .cause;
     }
 
--- the same record with other timers t1, t2, t3
-unfoldable pub withTimers : Neighbour → ℕ → ℕ → ℕ → Neighbour
-withTimers n t1 t2 t3 =
+-- the same record but for its state and what goes with a state: M, T1, T2, t1, t2, t3, register, heard and cause. S and R stay.
+abbrev pub withState : Neighbour → Phase → Mode → ℕ → ℕ → ℕ → ℕ → ℕ → ℕ → ℕ → ℕ → Neighbour
+withState n phase mode hello poll t1 t2 t3 register heard cause =
     record {
       s = n .s;
       r = n .r;
-      hello = n .hello;
-      poll = n .poll;
+      hello = hello;
+      poll = poll;
       t1 = t1;
       t2 = t2;
       t3 = t3;
-      phase = n .phase;
-      mode = n .mode;
-      register = n .register;
-      heard = n .heard;
-      cause = n .cause;
+      phase = phase;
+      mode = mode;
+      register = register;
+      heard = heard;
+      cause = cause;
     }
+
+-- the same record with other timers t1, t2, t3
+unfoldable pub withTimers : Neighbour → ℕ → ℕ → ℕ → Neighbour
+withTimers n t1 t2 t3 = withState n (n .phase) (n .mode) (n .hello) (n .poll) t1 t2 t3 (n .register) (n .heard) (n .cause)
 
 -- the same record with another state, register and heard bit
 unfoldable pub withReach : Neighbour → Phase → ℕ → ℕ → Neighbour
-withReach n phase register heard =
-    record {
-      s = n .s;
-      r = n .r;
-      hello = n .hello;
-      poll = n .poll;
-      t1 = n .t1;
-      t2 = n .t2;
-      t3 = n .t3;
-      phase = phase;
-      mode = n .mode;
-      register = register;
-      heard = heard;
-      cause = n .cause;
-    }
+withReach n phase register heard = withState n phase (n .mode) (n .hello) (n .poll) (n .t1) (n .t2) (n .t3) register heard (n .cause)
 
 -- 01: "Entering Idle zeroes all but address and AS."
 unfoldable pub idle : Neighbour
@@ -132,39 +122,11 @@ leftIdle r = withNumbers idle 0 r
 -- 01: "Entering Acquisition or Cease, or Start in Acquisition: t1 = P3, t3 = P5, and T1, T2, M, register and heard 0; S and R stay."
 -- "Leaving Up zeroes t2"; in Cease the cause is kept for repeats
 unfoldable pub waiting : Neighbour → Phase → ℕ → Neighbour
-waiting n phase cause =
-    record {
-      s = n .s;
-      r = n .r;
-      hello = 0;
-      poll = 0;
-      t1 = P3;
-      t2 = 0;
-      t3 = P5;
-      phase = phase;
-      mode = Unset;
-      register = 0;
-      heard = 0;
-      cause = cause;
-    }
+waiting n phase cause = withState n phase Unset 0 0 P3 0 P5 0 0 cause
 
 -- 01: "A and B: T1, T2, M set, register and heard 0, t1 = T1, t3 = P5"; "Leaving Up zeroes t2"
 unfoldable pub initialised : Neighbour → ℕ → ℕ → Mode → Neighbour
-initialised n hello poll mode =
-    record {
-      s = n .s;
-      r = n .r;
-      hello = hello;
-      poll = poll;
-      t1 = hello;
-      t2 = 0;
-      t3 = P5;
-      phase = Down;
-      mode = mode;
-      register = 0;
-      heard = 0;
-      cause = 0;
-    }
+initialised n hello poll mode = withState n Down mode hello poll hello 0 P5 0 0 0
 
 -- 01: "It sets heard to 1 and t3 to P4."
 unfoldable pub heardFrom : Neighbour → Neighbour

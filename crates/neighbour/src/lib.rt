@@ -127,8 +127,6 @@ pub fn to_waiting(n: Neighbour, phase: Phase, cause: u8) -> Neighbour
     ensures { λ r. ⌜ r ≡ waiting n phase cause ⌝ }
 {
     Neighbour {
-        s: n.s,
-        r: n.r,
         hello: 0,
         poll: 0,
         t1: P3,
@@ -139,6 +137,7 @@ pub fn to_waiting(n: Neighbour, phase: Phase, cause: u8) -> Neighbour
         register: 0,
         heard: 0,
         cause,
+        ..n
     }
 }
 
@@ -147,8 +146,6 @@ pub fn initialise(n: Neighbour, hello: u16, poll: u16, mode: Mode) -> Neighbour
     ensures { λ r. ⌜ r ≡ initialised n hello poll mode ⌝ }
 {
     Neighbour {
-        s: n.s,
-        r: n.r,
         hello,
         poll,
         t1: hello,
@@ -159,6 +156,7 @@ pub fn initialise(n: Neighbour, hello: u16, poll: u16, mode: Mode) -> Neighbour
         register: 0,
         heard: 0,
         cause: 0,
+        ..n
     }
 }
 
@@ -177,21 +175,7 @@ pub fn shift(n: Neighbour) -> Neighbour
 fn move_to(n: Neighbour, phase: Phase, t2: u16) -> Neighbour
     ensures { λ r. ⌜ r ≡ withReach (withTimers n (n .t1) t2 (n .t3)) phase (n .register) (n .heard) ⌝ }
 {
-    let mode = n.mode;
-    Neighbour {
-        s: n.s,
-        r: n.r,
-        hello: n.hello,
-        poll: n.poll,
-        t1: n.t1,
-        t2,
-        t3: n.t3,
-        phase,
-        mode,
-        register: n.register,
-        heard: n.heard,
-        cause: n.cause,
-    }
+    Neighbour { phase, t2, ..n }
 }
 
 // A Poll is about to be sent.

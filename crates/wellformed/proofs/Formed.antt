@@ -14,7 +14,7 @@ use Rattle.neighbour.specs.declared.Settings.{Settings}
 use Rattle.neighbour.specs.declared.Neighbour.{Neighbour}
 use Rattle.neighbour.specs.declared.Offer.{Offer}
 use Rattle.neighbour.specs.declared.Offer.the-variants.{Acceptable, Unacceptable}
-use Rattle.neighbour.specs.Record.{under, isIdle, acquired, idle, waiting, initialised, withNumbers, withTimers, withReach, heardFrom}
+use Rattle.neighbour.specs.Record.{under, isIdle, acquired, idle, waiting, initialised, withState, withNumbers, withTimers, withReach, heardFrom}
 use Rattle.neighbour.specs.Rules.{larger, unacceptable, helloInterval, pollInterval, modeOf, offerOf}
 use Rattle.wellformed.specs.Formed.{isUnset, within, allZero, idleFormed, timersBelow, timersRun, t2Formed, registerFormed, agreed, intervalsFormed, causeFormed, wellFormed}
 use Rattle.neighbour.proofs.Laws.{larger-fits, hello-fits, poll-fits}
@@ -26,20 +26,7 @@ or-true false = refl
 -- a record in a phase that is written out: the record itself where the phase is its own
 abbrev pub at : Neighbour → Phase → Neighbour
 at n phase =
-    record {
-      s = n .s;
-      r = n .r;
-      hello = n .hello;
-      poll = n .poll;
-      t1 = n .t1;
-      t2 = n .t2;
-      t3 = n .t3;
-      phase = phase;
-      mode = n .mode;
-      register = n .register;
-      heard = n .heard;
-      cause = n .cause;
-    }
+    withState n phase (n .mode) (n .hello) (n .poll) (n .t1) (n .t2) (n .t3) (n .register) (n .heard) (n .cause)
 
 -- what Down and Up have in common, as numbers
 pub record Fine (n : Neighbour) : Type 0 where
@@ -257,18 +244,18 @@ module _ (n : Neighbour) where
   heard-ok Up a h = let f = fine-up h in up-ok (heardFrom (at n Up)) refl (omega arith) (t2-up h .0) (t2-up h .1) (moded (at n Up) refl h)
   heard-ok Cease a h = let z : _≡_ {A = ℕ} 0 1 = cc in absurd (omega arith)
 
-  -- entering Acquisition or Cease
-  pub acquisition-ok : wellFormed (waiting n Acquisition 0) ≡ true
+  -- entering Acquisition or Cease, from a record that is well formed: what outlives the change is as it was
+  pub acquisition-ok : wellFormed n ≡ true → wellFormed (waiting n Acquisition 0) ≡ true
   unfolding waiting wellFormed idleFormed timersBelow timersRun t2Formed registerFormed agreed intervalsFormed causeFormed under
-  acquisition-ok = refl
+  acquisition-ok h = refl
 
-  pub cease-5-ok : wellFormed (waiting n Cease 5) ≡ true
+  pub cease-5-ok : wellFormed n ≡ true → wellFormed (waiting n Cease 5) ≡ true
   unfolding waiting wellFormed idleFormed timersBelow timersRun t2Formed registerFormed agreed intervalsFormed causeFormed under
-  cease-5-ok = refl
+  cease-5-ok h = refl
 
-  pub cease-6-ok : wellFormed (waiting n Cease 6) ≡ true
+  pub cease-6-ok : wellFormed n ≡ true → wellFormed (waiting n Cease 6) ≡ true
   unfolding waiting wellFormed idleFormed timersBelow timersRun t2Formed registerFormed agreed intervalsFormed causeFormed under
-  cease-6-ok = refl
+  cease-6-ok h = refl
 
 pub idle-ok : wellFormed idle ≡ true
 unfolding idle wellFormed idleFormed allZero timersBelow timersRun t2Formed registerFormed agreed intervalsFormed causeFormed under

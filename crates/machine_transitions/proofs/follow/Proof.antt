@@ -9,8 +9,11 @@ enum-told c = search needs
 enum-known-reply : tie.Need-enum-known-reply
 enum-known-reply c = search needs
 
-enum-known-reply-2 : tie.Need-enum-known-reply-2
-enum-known-reply-2 c = search needs
+enum-told-2 : tie.Need-enum-told-2
+enum-told-2 c = search needs
+
+overflow-requires : tie.Need-overflow-requires
+overflow-requires c κs = search needs
 
 returns : tie.Need-returns
 unfolding followed
@@ -22,8 +25,9 @@ returns-2 c = rw (c .before .reply .given .1)
 
 returns-3 : tie.Need-returns-3
 unfolding followed
-returns-3 c = rw (c .before .reply2 .given .1, c .known-told2 .given .1)
+returns-3 c = rw (c .before .enum-told2 .given .1, c .overflow .ensures)
 
 pub follow-spec : {M : Type 1} → statement M
 follow-spec =
-    tie.close (tie.spec enum-told enum-known-reply enum-known-reply-2 returns returns-2 returns-3)
+    tie.close
+    (tie.spec enum-told enum-known-reply enum-told-2 overflow-requires returns returns-2 returns-3)

@@ -1,0 +1,55 @@
+-- from specs/Sheet.antt CheckSheet
+-- Made by ./unfoldings from the line above: every definition that it rests on. To unfold `opened` is to unfold them all.
+use Prim.Native.Nat.{ℕ}
+use Rattle.checks.specs.Checks as Checks
+use Rattle.checks.specs.Lists as Lists
+use Rattle.octets.specs.Buffer as Buffer
+use Rattle.octets.specs.Checksum as Checksum
+use Rattle.nets.specs.Classes as Classes
+use Rattle.nets.specs.Rows as Rows
+use Rattle.message.specs.Kinds as MessageKinds
+use Rattle.wire.specs.Reading as WireReading
+use Rattle.fixed.specs.Writing as FixedWriting
+use Rattle.walk.specs.Body as Body
+use Rattle.rows.specs.Storing as Storing
+use Rattle.blocks.specs.Blocks as Blocks
+use Rattle.blocks.specs.Writable as Writable
+use Rattle.codec.specs.Octets as Octets
+use Rattle.codec.specs.Writing as CodecWriting
+use Rattle.codec.specs.Reading as CodecReading
+use Rattle.neighbour.specs.Record as Record
+use Rattle.neighbour.specs.Rules as Rules
+use Rattle.wellformed.specs.Formed as WellformedFormed
+use Rattle.machine.specs.Table as Table
+use Rattle.machine.specs.Tick as Tick
+use Rattle.machine.specs.Step as Step
+use Rattle.state.specs.Slots as Slots
+use Rattle.state.specs.Formed as StateFormed
+use Rattle.state.specs.Outcomes as Outcomes
+use Rattle.slots.specs.Calls as SlotsCalls
+use Rattle.calls.specs.Verdict as Verdict
+use Rattle.calls.specs.Home as Home
+use Rattle.calls.specs.Carried as Carried
+use Rattle.calls.specs.Calls as CallsCalls
+use Rattle.text.specs.Text as Text
+use Rattle.lines.specs.Lines as Lines
+use Rattle.lines.specs.Listing as Listing
+use Rattle.check_sheet.specs.Given as Given
+use Rattle.check_sheet.specs.Line as Line
+use Rattle.check_sheet.specs.Numbers as Numbers
+use Rattle.check_sheet.specs.Orders as Orders
+use Rattle.check_sheet.specs.Replies as Replies
+use Rattle.check_sheet.specs.Formed as CheckSheetFormed
+use Rattle.check_sheet.specs.Homes as Homes
+use Rattle.check_sheet.specs.Settings as Settings
+use Rattle.check_sheet.specs.Kinds as CheckSheetKinds
+use Rattle.check_sheet.specs.Sequences as Sequences
+use Rattle.check_sheet.specs.Bodies as Bodies
+use Rattle.check_sheet.specs.Writings as Writings
+use Rattle.check_sheet.specs.Listings as Listings
+use Rattle.check_sheet.specs.Effects as Effects
+use Rattle.check_sheet.specs.Indications as Indications
+
+unfoldable pub opened : ℕ
+unfolding Checks.check Checks.ifOk Lists.first Lists.every Lists.distinct Lists.join Buffer.over Checksum.onesAdd Checksum.onesSum Checksum.checksumOf Checksum.sealed Classes.netWidth Classes.hostSpan Classes.goodNet Classes.onNet Rows.flat Rows.rowsOf MessageKinds.kindAt MessageKinds.plainStatus MessageKinds.refusalStatus MessageKinds.markedStatus WireReading.headerAnswer WireReading.meaningOf WireReading.decodeAs WireReading.decodeOf WireReading.numberOf FixedWriting.headOf FixedWriting.plainOctets FixedWriting.fixedOctets Body.digits Body.many Body.leftJustified Body.rowOfWidth Body.netRow Body.groupRows Body.hostWidth Body.gatewayOf Body.blockRows Body.bothSides Body.nothingLeft Body.bodyOf Body.further Body.netAt Body.blocksOf Body.judged Body.updateOf Body.numberOf Body.rowsRead Storing.zeros Storing.padded Blocks.sideRows Blocks.joined Blocks.runs Blocks.each Blocks.addressOctets Blocks.netOctets Blocks.hostOctets Blocks.netsOctets Blocks.groupOctets Blocks.groupsOctets Blocks.blockOctets Blocks.sideOctets Blocks.blocksOf Blocks.internalBlocks Blocks.externalBlocks Writable.writableRow Writable.ordered Writable.writableRows Writable.writableNumbers Octets.updateOctets Octets.octetsOf CodecWriting.rowsAllowed CodecWriting.writable CodecWriting.writeAnswer CodecWriting.writeOctets CodecWriting.writeOf CodecReading.numberOf CodecReading.refusal CodecReading.rowless CodecReading.updateReading CodecReading.meaningReading CodecReading.kindReading CodecReading.readOf Record.under Record.withNumbers Record.withTimers Record.withReach Record.idle Record.leftIdle Record.waiting Record.initialised Record.heardFrom Record.shifted Record.enterUp Record.leaveUp Record.polled Rules.inSequence Rules.commanded Rules.indicates Rules.noted Rules.helloInterval Rules.pollInterval Rules.unacceptable Rules.modeOf Rules.offerOf Rules.onesOf Rules.goesUp Rules.goesDown Rules.judged WellformedFormed.allZero WellformedFormed.idleFormed WellformedFormed.timersBelow WellformedFormed.timersRun WellformedFormed.t2Formed WellformedFormed.registerFormed WellformedFormed.agreed WellformedFormed.intervalsFormed WellformedFormed.causeFormed WellformedFormed.wellFormed Table.followed Table.quiet Table.answers Table.says Table.helloIf Table.doesA Table.doesB Table.ceases Table.repeatsCease Table.acquires Table.stray Table.onRequest Table.settles Table.onConfirm Table.onRefuse Table.onCease Table.onCeaseAck Table.onHello Table.onIHeardYou Table.answersPoll Table.onPoll Table.onUpdate Table.onStart Table.onStop Tick.expired Tick.repeats Tick.listens Tick.polls Tick.pollsOnEntry Tick.takesT2 Tick.pollsInUp Tick.runs Tick.onTick Step.onMessage Step.stepOf Slots.freeSlot Slots.slotAt Slots.withSlot Slots.addresses Slots.clash Slots.slotOf Slots.lowestFree StateFormed.goodSettings StateFormed.goodPeer StateFormed.rowsFormed StateFormed.freeFormed StateFormed.usedFormed StateFormed.slotFormed StateFormed.stateFormed Outcomes.refusedOf Outcomes.silentOf SlotsCalls.freeSlots SlotsCalls.emptyState SlotsCalls.zeroState SlotsCalls.freshAnswer SlotsCalls.freshOf SlotsCalls.newcomer SlotsCalls.addAnswer SlotsCalls.addOf SlotsCalls.removeAnswer SlotsCalls.removeOf Verdict.effectOf Verdict.stepped Verdict.refuses Verdict.headAt Verdict.errorTo Verdict.refuseTo Verdict.updateVerdict Verdict.carriedOut Verdict.phaseVerdict Verdict.bodyVerdict Verdict.kindVerdict Verdict.receiveVerdict Home.homeRow Home.ownFirst Home.goodHome Carried.firstOctets Carried.secondOctets Carried.replyOctets Carried.partAt Carried.withPart Carried.tableAfter Carried.countAfter Carried.slotAfter Carried.outcomeAfter Carried.bufferAfter CallsCalls.eventChecks CallsCalls.messageChecks CallsCalls.noHead CallsCalls.eventVerdict CallsCalls.messageVerdict CallsCalls.eventOutcome CallsCalls.eventTable CallsCalls.eventBuffer CallsCalls.messageOutcome CallsCalls.messageTable CallsCalls.messageBuffer Text.text Text.digit Text.digits Text.decimal Text.dotted Text.line Lines.stateWord Lines.modeWord Lines.distanceIn Lines.sideWord Lines.headLines Lines.rowLines Lines.rowText Lines.entryText Lines.listingText Listing.usedRows Listing.entryOf Listing.entriesFrom Listing.entries Listing.markedRow Listing.listable Listing.listingChecks Listing.listingOutcome Given.hexDigit Given.hex Given.repeated Given.ip Given.common Given.ours Given.theirs Given.others Given.nobody Given.set Given.nine Given.made Given.resting Given.asking Given.falling Given.reporting Given.ceasing Given.slot Given.vacant Given.state Given.empty Given.nothing Given.at Given.inIdle Given.inAcquisition Given.inDown Given.inUp Given.inCease Given.unsound Given.full Line.heard Line.afterRefusal Line.refusedState Line.front Line.rowsOfTwo Line.seen Line.computed Line.written Numbers.numbers Orders.orders Replies.replies CheckSheetFormed.formed CheckSheetFormed.unformed CheckSheetFormed.known CheckSheetFormed.beside CheckSheetFormed.forms Homes.good Homes.bad Homes.onA Homes.onC Homes.homes Settings.settings CheckSheetKinds.kinds Sequences.sequences Bodies.bodies Writings.wrote Writings.unwritten Writings.news Writings.writings Listings.listed Listings.table Listings.listings Effects.eights Effects.sevens Effects.computed Effects.carried Effects.written Effects.kept Effects.zeroed Effects.hears Effects.atActive Effects.effects Effects.readOnC Effects.writtenOnC Indications.computed Indications.written Indications.hearsUpdate Indications.passiveDown Indications.passiveUp Indications.activeDown Indications.activeUp Indications.indications
+opened = 0

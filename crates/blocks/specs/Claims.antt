@@ -9,17 +9,17 @@ use Rattle.checks.specs.Lists.{every}
 use Rattle.nets.specs.Classes.{goodNet}
 use Rattle.nets.specs.Rows.{Row}
 use Rattle.blocks.specs.Blocks.{sideOf, runs, distanceRuns, blocksOf, internalBlocks, externalBlocks}
-use Rattle.blocks.specs.Writable.{writableRows}
+use Rattle.blocks.specs.Writable.{mostWritten, writableRows}
 
--- at most 9 octets a row, so that 128 rows take at most 1,152 octets
+-- at most 9 octets a row, so at most 1,152 octets in all
 pub record Short : Type 0 where
   pub blocks : (net : ℕ) → goodNet net ≡ true → (rows : List Row) → length (blocksOf net rows) ≤ 9 * length rows
-  pub most : (net : ℕ) → goodNet net ≡ true → (rows : List Row) → writableRows net rows ≡ true → length (blocksOf net rows) ≤ 1152
+  pub most : (net : ℕ) → goodNet net ≡ true → (rows : List Row) → writableRows net rows ≡ true → length (blocksOf net rows) ≤ 9 * mostWritten
 
--- no count exceeds 128: of gateways on a side, of distances or nets in a run
+-- no count exceeds the number of rows: of gateways on a side, of distances or nets in a run
 pub record Counts : Type 0 where
-  pub internal : (net : ℕ) (rows : List Row) → writableRows net rows ≡ true → internalBlocks rows ≤ 128
-  pub external : (net : ℕ) (rows : List Row) → writableRows net rows ≡ true → externalBlocks rows ≤ 128
+  pub internal : (net : ℕ) (rows : List Row) → writableRows net rows ≡ true → internalBlocks rows ≤ mostWritten
+  pub external : (net : ℕ) (rows : List Row) → writableRows net rows ≡ true → externalBlocks rows ≤ mostWritten
   pub number : (key : Row → ℕ) (rows : List Row) → length (runs key rows) ≤ length rows
   pub size : (key : Row → ℕ) (rows : List Row) → every (λ run. leb (length run) (length rows)) (runs key rows) ≡ true
 

@@ -18,9 +18,17 @@ unfoldable pub ordered : ℕ → List Row → Bool
 ordered side [] = true
 ordered side (row ∷ rest) = leb side (sideOf row) && ordered (sideOf row) rest
 
+-- 01: "more than 128 rows": how many rows the writer takes
+abbrev pub mostWritten : ℕ
+mostWritten = 128
+
+-- the same in numbers, three a row
+abbrev pub mostWrittenNumbers : ℕ
+mostWrittenNumbers = 384
+
 -- the rows' part of refusal 16
 unfoldable pub writableRows : ℕ → List Row → Bool
-writableRows net rows = leb (length rows) 128 && every (writableRow net) rows && ordered 0 rows
+writableRows net rows = leb (length rows) mostWritten && every (writableRow net) rows && ordered 0 rows
 
 -- the same for rows that come as numbers, three a row; false where the last row is not whole
 unfoldable pub writableNumbers : ℕ → List ℕ → Bool

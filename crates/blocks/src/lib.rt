@@ -8,8 +8,11 @@ ghost use Rattle.storing.specs.Written.{Written};
 ghost use Rattle.nets.specs.Classes.{goodNet};
 ghost use Rattle.nets.specs.Rows.{rowsOf};
 ghost use Rattle.blocks.specs.Blocks.{addressOctets, netOctets, hostOctets, netsOctets, groupOctets, groupsOctets, blockOctets, sideOctets, sideRows, distanceRuns, gatewayRuns, blocksOf, internalBlocks, externalBlocks};
-ghost use Rattle.blocks.specs.Writable.{writableNumbers, writableRow};
+ghost use Rattle.blocks.specs.Writable.{mostWrittenNumbers, writableNumbers, writableRow};
 ghost use Rattle.blocks.specs.Steps.{column, runLength};
+
+// How many numbers the writer takes, three a row: 128 rows.
+const MOST_NUMBERS: usize = 384;
 
 // Where the blocks of an Update end in the buffer, and the two counts of its head.
 pub struct Blocks {
@@ -47,7 +50,7 @@ pub fn writable(net: u32, rows: &[u32]) -> bool
     if rows.len() % 3 != 0 {
         return false;
     }
-    if 384 < rows.len() {
+    if MOST_NUMBERS < rows.len() {
         return false;
     }
     let mut side = 0;
@@ -132,7 +135,7 @@ fn write_nets(out: &mut [u8], at: usize, rows: &[u32]) -> usize
 
 // Writes a run of one distance: distance, number of nets, nets.
 fn write_group(out: &mut [u8], at: usize, rows: &[u32]) -> usize
-    requires { ⌜ (2 < length (now rows)) × (length (now rows) ≤ 384) ⌝ }
+    requires { ⌜ (2 < length (now rows)) × (length (now rows) ≤ mostWrittenNumbers) ⌝ }
     requires { ⌜ at + length (groupOctets (rowsOf (now rows))) ≤ length (now out) ⌝ }
     ensures { λ r. ⌜ Written (groupOctets (rowsOf (now (rows .entry)))) at (now (out .entry)) (now (out .exit)) r ⌝ }
 {
@@ -143,7 +146,7 @@ fn write_group(out: &mut [u8], at: usize, rows: &[u32]) -> usize
 
 // Writes the groups of a run of one gateway.
 fn write_groups(out: &mut [u8], at: usize, rows: &[u32]) -> Sequence
-    requires { ⌜ length (now rows) ≤ 384 ⌝ }
+    requires { ⌜ length (now rows) ≤ mostWrittenNumbers ⌝ }
     requires { ⌜ at + length (groupsOctets (rowsOf (now rows))) ≤ length (now out) ⌝ }
     ensures { λ r. ⌜ Written (groupsOctets (rowsOf (now (rows .entry)))) at (now (out .entry)) (now (out .exit)) (r .end) ⌝ }
     ensures { λ r. ⌜ r .count ≡ length (distanceRuns (rowsOf (now (rows .entry)))) ⌝ }
@@ -163,7 +166,7 @@ fn write_groups(out: &mut [u8], at: usize, rows: &[u32]) -> Sequence
 
 // Writes a run of one gateway: host, number of distances, and the groups.
 fn write_block(out: &mut [u8], at: usize, net: u32, rows: &[u32]) -> usize
-    requires { ⌜ (2 < length (now rows)) × (length (now rows) ≤ 384) ⌝ }
+    requires { ⌜ (2 < length (now rows)) × (length (now rows) ≤ mostWrittenNumbers) ⌝ }
     requires { ⌜ at + length (blockOctets net (rowsOf (now rows))) ≤ length (now out) ⌝ }
     ensures { λ r. ⌜ Written (blockOctets net (rowsOf (now (rows .entry)))) at (now (out .entry)) (now (out .exit)) r ⌝ }
 {
@@ -175,7 +178,7 @@ fn write_block(out: &mut [u8], at: usize, net: u32, rows: &[u32]) -> usize
 
 // Writes the blocks of rows of one side.
 fn write_side(out: &mut [u8], at: usize, net: u32, rows: &[u32]) -> Sequence
-    requires { ⌜ length (now rows) ≤ 384 ⌝ }
+    requires { ⌜ length (now rows) ≤ mostWrittenNumbers ⌝ }
     requires { ⌜ at + length (sideOctets net (rowsOf (now rows))) ≤ length (now out) ⌝ }
     ensures { λ r. ⌜ Written (sideOctets net (rowsOf (now (rows .entry)))) at (now (out .entry)) (now (out .exit)) (r .end) ⌝ }
     ensures { λ r. ⌜ r .count ≡ length (gatewayRuns (rowsOf (now (rows .entry)))) ⌝ }

@@ -17,9 +17,8 @@ use Rattle.wire.specs.Reading as Wire
 use Rattle.wire.specs.declared.Decoded.{Decoded}
 use Rattle.wire.specs.declared.Decoded.the-variants as D
 use Rattle.wire.proofs.Decoded as DecodedType
-use Rattle.walk.specs.Body.{Walk, whole, broken, blocksOf, judged, UpdateRead, accepted, brokenAt, tooMany, updateOf}
+use Rattle.walk.specs.Body.{Walk, whole, broken, blocksOf, judged, UpdateRead, accepted, brokenAt, tooMany, updateOf, walkedOf, walkedNumber}
 use Rattle.walk.specs.Body as Body
-use Rattle.walk.specs.Walked.{walkedOf, walkedNumber}
 use Rattle.walk.specs.declared.Walked.{Walked}
 use Rattle.walk.specs.declared.Walked.the-variants.{Rows, Broken, TooMany}
 use Rattle.walk.proofs.Walked as WalkedType
@@ -38,7 +37,7 @@ pub record Accepted (net : ℕ) (o : List ℕ) (count : ℕ) : Type 0 where
 
 judged-rows : (w : Walk) (count : ℕ) → walkedOf (judged 128 w) ≡ Rows count
     → (isWhole w ≡ true) × (count ≤ 128) × (length (rowsIn w) ≡ count) × (judged 128 w ≡ accepted (rowsIn w))
-unfolding judged walkedOf isWhole rowsIn
+unfolding judged isWhole rowsIn
 judged-rows (whole rs) count e = go (leb (length rs) 128) refl e
   where
     go : (b : Bool) → leb (length rs) 128 ≡ b → walkedOf (cond b (accepted rs) tooMany) ≡ Rows count
@@ -67,7 +66,7 @@ update-read m net o count part a e = rw (a .is, e, a .number)
 -- where the walk found no rows that may be taken
 pub update-refused : (m : Message) (net : ℕ) (o : List ℕ) (w : Walked) → w ≡ walkedOf (updateOf 128 net o) → OneOf (1 ∷ 2 ∷ []) (tagOf WalkedType.the-type w)
     → refusal (walkedNumber w) ≡ updateReading m (updateOf most net o)
-unfolding updateReading walkedNumber Body.numberOf walkedOf
+unfolding updateReading Body.numberOf
 update-refused m net o w e k = go (updateOf 128 net o) w e k
   where
     go : (u : UpdateRead) (w : Walked) → w ≡ walkedOf u → OneOf (1 ∷ 2 ∷ []) (tagOf WalkedType.the-type w) → refusal (walkedNumber w) ≡ updateReading m u

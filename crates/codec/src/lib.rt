@@ -11,7 +11,6 @@ ghost use Rattle.nets.specs.Classes.{goodNet};
 ghost use Rattle.nets.specs.Rows.{rowsOf};
 ghost use Rattle.blocks.specs.Writable.{writableNumbers};
 ghost use Rattle.walk.specs.Body.{updateOf};
-ghost use Rattle.walk.specs.Walked.{walkedNumber};
 ghost use Rattle.codec.specs.Reading.{most, refusal, updateReading, meaningReading, readOf};
 ghost use Rattle.codec.specs.Octets.{updateOctets, octetsOf};
 ghost use Rattle.codec.specs.Writing.{rowsFit, roomFor, rowsAllowed, writable, writeOf, writeOctets};
@@ -146,24 +145,13 @@ fn refuse(number: u8) -> Reading
     }
 }
 
-// 01's number for what the walk over an Update's blocks found.
-fn body_number(walked: Walked) -> u8
-    ensures { λ r. ⌜ r ≡ walkedNumber walked ⌝ }
-{
-    match walked {
-        Walked::Rows(_) => 0,
-        Walked::Broken(_) => 14,
-        Walked::TooMany => 15,
-    }
-}
-
 // Reads an Update's rows: the message m is that Update's own meaning.
 fn read_update(net: u32, m: Message, message: &[u8]) -> Reading
     ensures { λ r. ⌜ r ≡ updateReading m (updateOf most net (now (message .entry))) ⌝ }
 {
     let walked = walk::walk(net, message, 128);
     let Walked::Rows(count) = walked else {
-        return refuse(body_number(walked));
+        return refuse(walk::number_of(walked));
     };
     let mut rows = [0u32; 384];
     rows::store_rows(&mut rows, net, message);

@@ -11,6 +11,7 @@ use Rattle.checks.specs.Lists.{every}
 use Rattle.checks.proofs.Laws.{cond-elim, and-left, and-right, and-both}
 use Rattle.nets.specs.Classes.{netWidth, goodNet}
 use Rattle.nets.specs.Rows.{Row}
+use Rattle.walk.proofs.Flat.{group-rows, block-rows, both-sides}
 use Rattle.walk.specs.Body.{Got, got, stop, andThen, after, many, rowOfWidth, netRow, groupRows, hostWidth, gatewayOf, blockRows, bothSides, Walk, whole, broken, nothingLeft, bodyOf, further, netAt, blocksOf, judged, updateOf, rowsRead}
 use Rattle.state.proofs.ListLaws.{every-getD}
 use Rattle.lines.specs.Listing.{markedRow}
@@ -68,23 +69,22 @@ module _ (gateway third : ℕ) (small : third ≤ 511) where
 -- 01: "distance plus 256 if external", the distance an octet
 module _ (side : ℕ) (small : side ≤ 256) where
   group-marks : (gateway : ℕ) → Marks (groupRows side gateway)
-  unfolding groupRows Fine
+  unfolding Fine
   group-marks gateway t e =
       let octet : getD t 0 0 < 256 = ltb-true (getD t 0 0) 256 (every-getD isOctet t 0 0 e refl) in
-      cond-elim Fine (ltb (length t) 2) _ _ (λ _. refl)
-      (λ _. many-marks (netRow gateway (side + getD t 0 0)) (net-marks gateway (side + getD t 0 0) (omega (arith, octet, small))) (getD t 1 0) (drop 2 t) (every-drop isOctet 2 t e))
+      rw (group-rows side gateway t) (cond-elim Fine (ltb (length t) 2) _ _ (λ _. refl)
+      (λ _. many-marks (netRow gateway (side + getD t 0 0)) (net-marks gateway (side + getD t 0 0) (omega (arith, octet, small))) (getD t 1 0) (drop 2 t) (every-drop isOctet 2 t e)))
 
   block-marks : (net : ℕ) → Marks (blockRows side net)
-  unfolding blockRows Fine
+  unfolding Fine
   block-marks net t e =
-      cond-elim Fine (leb (length t) (hostWidth net)) _ _ (λ _. refl)
-      (λ _. many-marks (groupRows side (gatewayOf net t)) (group-marks (gatewayOf net t)) (getD t (hostWidth net) 0) (drop (hostWidth net + 1) t) (every-drop isOctet (hostWidth net + 1) t e))
+      rw (block-rows side net t) (cond-elim Fine (leb (length t) (hostWidth net)) _ _ (λ _. refl)
+      (λ _. many-marks (groupRows side (gatewayOf net t)) (group-marks (gatewayOf net t)) (getD t (hostWidth net) 0) (drop (hostWidth net + 1) t) (every-drop isOctet (hostWidth net + 1) t e)))
 
 sides-marks : (net internal external : ℕ) → Marks (bothSides net internal external)
-unfolding bothSides
-sides-marks net internal external =
-    in-turn (many (blockRows 0 net) internal) (many (blockRows 256 net) external)
-    (many-marks (blockRows 0 net) (block-marks 0 (omega arith) net) internal) (many-marks (blockRows 256 net) (block-marks 256 (omega arith) net) external)
+sides-marks net internal external t e =
+    rw (both-sides net internal external t) (in-turn (many (blockRows 0 net) internal) (many (blockRows 256 net) external)
+    (many-marks (blockRows 0 net) (block-marks 0 (omega arith) net) internal) (many-marks (blockRows 256 net) (block-marks 256 (omega arith) net) external) t e)
 
 -- the rows of a walk, and of an Update
 unfoldable walkRows : Walk → List Row

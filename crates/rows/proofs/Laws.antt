@@ -3,21 +3,21 @@ use Prim.Native.Nat.{ℕ, suc, _+_, _*_, _-_, _^_, _≤_, _<_}
 use native.Mathlib.Numerals.{add-one}
 use native.Mathlib.Nat.{add-zero, sub-zero}
 use native.Mathlib.Omega.{arith}
-use borrow.Author.Tests.{leb-false}
+use borrow.Author.Tests.{ltb-false, leb-false}
 use mathlib.Core.Path.{_≡_, refl, sym, ap, subst, _∙_}
 use mathlib.Core.Bool.{true}
 use mathlib.Core.List.{List, [], _∷_, _++_, append-nil}
-use lib.Dec.{leb}
+use lib.Dec.{ltb, leb}
 use lib.ListN.{length, take, drop, getD, set, replicate, length-append, length-replicate, drop-of-length-le}
 use lib.Seq.{sets, length-sets, sets-eq, length-take-le}
 use Rattle.checks.proofs.Laws.{part-from, cond-elim}
 use Rattle.nets.specs.Classes.{netWidth, hostSpan, goodNet}
 use Rattle.nets.specs.Rows.{Row, flat}
 use Rattle.walk.specs.Body.{Got, got, stop, andThen, after, many, bigEndian, leftJustified, netRow, groupRows, hostWidth, gatewayOf, blockRows, bothSides, Walk, whole, broken, blocksOf, updateOf, accepted}
-use Rattle.walk.specs.Walked.{groupNets}
+use Rattle.walk.proofs.Flat.{group-rows, block-rows, both-sides}
 use Rattle.walk.proofs.Laws.{never, Front, Sounds, front-fits, front-rest, many-next, many-stop, many-none, many-sound, block-sound}
 use Rattle.walk.proofs.Turns.{Stepped, rowAt}
-use Rattle.walk.proofs.Groups.{net-good, Alone, group-alone}
+use Rattle.walk.proofs.Groups.{net-good}
 use Rattle.walk.proofs.Accepted.{Whole, whole-is, accepted-is}
 use Rattle.walk.proofs.Good.{justified-fits, net-of, gateway-fits}
 use Rattle.rows.specs.declared.Put.{Put}
@@ -215,43 +215,31 @@ clear-done out i n h =
 pub clear-all : (old new : List ℕ) → new ≡ sets old 0 (zeros (length old - 0)) → new ≡ zeros (length old)
 clear-all old new e = e ∙ ap (λ (n : ℕ). sets old 0 (zeros n)) (sub-zero (length old)) ∙ sets-all old (zeros (length old)) (zeros-length (length old))
 
-pub got-of : (g : Got (List Row)) → isGot g ≡ true → g ≡ got (gotRows g) (gotRest g)
-unfolding isGot gotRows gotRest
-got-of (got rs rest) h = refl
-got-of (stop left) h = never h
+-- one group
+module _ (side gateway : ℕ) (t : List ℕ) where
+  pub record Group : Type 0 where
+    pub two : 2 ≤ length t
+    pub is : groupRows side gateway t ≡ many (netRow gateway (side + getD t 0 0)) (getD t 1 0) (drop 2 t)
 
--- a reading that is the same as another, for storing
-pub same-room : (g y : Got (List Row)) (at : ℕ) (part : List ℕ) → gotRows y ≡ gotRows g → isGot y ≡ isGot g → Room g at part → Room y at part
-same-room g y at part e h r = record { good = h ∙ r .good; fits = rw e (r .fits) }
+  pub group-good : isGot (groupRows side gateway t) ≡ true → Group
+  unfolding isGot
+  group-good h =
+      cond-elim (λ x. isGot x ≡ true → Group) (ltb (length t) 2) _ _ (λ a g. never g)
+      (λ a g. record { two = ltb-false (length t) 2 a; is = group-rows side gateway t ∙ rw a }) (rw (group-rows side gateway t) at h)
 
--- one group, whose nets are stored from their part
-module _ (side gateway : ℕ) (t : List ℕ) (at : ℕ) (part : List ℕ) (r : Room (groupRows side gateway t) at part) where
-  pub group-part : Alone side gateway t (gotRows (groupRows side gateway t)) (gotRest (groupRows side gateway t))
-  group-part = group-alone side gateway t _ _ (got-of (groupRows side gateway t) (r .good))
+  module _ (at : ℕ) (part : List ℕ) (r : Room (groupRows side gateway t) at part) where
+    pub group-two : 2 ≤ length t
+    group-two = (group-good (r .good)) .two
 
-  module _ (inner : List ℕ) (n : inner ≡ groupNets t) where
-    inner-is : many (netRow gateway (side + getD t 0 0)) (getD t 1 0) inner ≡ got (gotRows (groupRows side gateway t)) []
-    inner-is = ap (many (netRow gateway (side + getD t 0 0)) (getD t 1 0)) n ∙ group-part .alone
+    group-is : many (netRow gateway (side + getD t 0 0)) (getD t 1 0) (take (length t - 2) (drop 2 t)) ≡ groupRows side gateway t
+    group-is = rw (part-from 2 t) (sym ((group-good (r .good)) .is))
 
-    inner-rows : gotRows (many (netRow gateway (side + getD t 0 0)) (getD t 1 0) inner) ≡ gotRows (groupRows side gateway t)
-    unfolding gotRows
-    inner-rows = ap gotRows inner-is
+    pub group-room : Room (many (netRow gateway (side + getD t 0 0)) (getD t 1 0) (take (length t - 2) (drop 2 t))) at part
+    group-room = rw group-is r
 
-    pub group-used : length inner + 2 ≤ length t
-    group-used = omega (arith, ap length n, group-part .used)
-
-    pub group-room : Room (many (netRow gateway (side + getD t 0 0)) (getD t 1 0) inner) at part
-    unfolding isGot
-    group-room = same-room (groupRows side gateway t) _ at part inner-rows (ap isGot inner-is ∙ sym (r .good)) r
-
-    pub group-stored : (new : List ℕ) (p : Put) → Stored (many (netRow gateway (side + getD t 0 0)) (getD t 1 0) inner) at part new p
-        → Stored (groupRows side gateway t) at part new (record { at = p .at; left = length t - (length inner + 2) })
-    group-stored new p w =
-        record {
-          numbers = w .numbers ∙ ap (λ (l : List Row). sets part at (flat l)) inner-rows;
-          next = w .next ∙ ap (λ (l : List Row). at + 3 * length l) inner-rows;
-          rest = omega (arith, ap length n, group-part .used);
-        }
+    pub group-stored : (new : List ℕ) (p : Put) → Stored (many (netRow gateway (side + getD t 0 0)) (getD t 1 0) (take (length t - 2) (drop 2 t))) at part new p
+        → Stored (groupRows side gateway t) at part new p
+    group-stored new p s = rw group-is at s
 
 -- one block
 module _ (side net : ℕ) (t : List ℕ) where
@@ -260,11 +248,11 @@ module _ (side net : ℕ) (t : List ℕ) where
     pub is : blockRows side net t ≡ many (groupRows side (gatewayOf net t)) (getD t (hostWidth net) 0) (drop (hostWidth net + 1) t)
 
   pub block-good : isGot (blockRows side net t) ≡ true → Block
-  unfolding blockRows isGot
+  unfolding isGot
   block-good h =
       let w = hostWidth net in
       cond-elim (λ x. isGot x ≡ true → Block) (leb (length t) w) _ _ (λ a g. never g)
-      (λ a g. record { some = leb-false (length t) w a; is = rw a }) h
+      (λ a g. record { some = leb-false (length t) w a; is = block-rows side net t ∙ rw a }) (rw (block-rows side net t) at h)
 
   module _ (at : ℕ) (part : List ℕ) (r : Room (blockRows side net t) at part) (host : ℕ) (w : host ≡ hostWidth net) where
     pub block-some : host < length t
@@ -308,8 +296,7 @@ pub record Halves (net internal external : ℕ) (t : List ℕ) (rs : List Row) :
   pub rows : rs ≡ inside ++ outside
 
 pub halves : (net internal external : ℕ) (t : List ℕ) (rs : List Row) → bothSides net internal external t ≡ got rs [] → Halves net internal external t rs
-unfolding bothSides
-halves net internal external t rs e = go (many (blockRows 0 net) internal t) refl e
+halves net internal external t rs e = go (many (blockRows 0 net) internal t) refl (rw (both-sides net internal external t) at e)
   where
     go : (g : Got (List Row)) → many (blockRows 0 net) internal t ≡ g → andThen g (λ xs rest. after xs (many (blockRows 256 net) external rest)) ≡ got rs []
         → Halves net internal external t rs

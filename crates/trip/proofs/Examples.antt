@@ -3,13 +3,13 @@ use Prim.Native.Nat.{ℕ}
 use mathlib.Core.Bool.{true, false}
 use mathlib.Core.Path.{_≡_, refl}
 use mathlib.Core.List.{List, [], _∷_}
-use Rattle.checks.specs.Lists.{every}
+use Rattle.checks.specs.Lists.{every, join}
 use Rattle.nets.specs.Classes.{netWidth, hostSpan, goodNet, onNet}
 use Rattle.nets.specs.Rows.{Row}
-use Rattle.walk.specs.Body.{digits, many, leftJustified, rowOfWidth, netRow, groupRows, hostWidth, gatewayOf, blockRows, bothSides, whole, nothingLeft, bodyOf}
+use Rattle.walk.specs.Body.{digits, many, leftJustified, rowOfWidth, netRow, groupAt, hostWidth, gatewayOf, blockAt, sidesAt, groupsHold, blocksHold, sidesHold, readAs, bothSides, whole, nothingLeft, bodyOf}
 use Rattle.blocks.specs.Blocks.{sideRows, joined, runs, each, addressOctets, netOctets, hostOctets, netsOctets, groupOctets, groupsOctets, blockOctets, sideOctets, blocksOf, internalBlocks, externalBlocks}
 use Rattle.blocks.specs.Writable.{ordered, writableRow, writableRows}
-use Rattle.trip.specs.Canonical.{groupAt, blockAt, some, apart, fullBlock, fullSide, fullExternal, fullSides, canonical}
+use Rattle.trip.specs.Canonical.{some, apart, fullBlock, fullSide, fullSides, canonical}
 
 -- 128.9.0.0, and its gateways 128.9.0.5 and 128.9.0.6
 net : ℕ
@@ -50,13 +50,13 @@ twice : List ℕ
 twice = 0 ∷ 5 ∷ 1 ∷ 0 ∷ 1 ∷ 10 ∷ 0 ∷ 5 ∷ 1 ∷ 0 ∷ 1 ∷ 11 ∷ []
 
 twice-read : bodyOf net 2 0 twice ≡ whole (record { net = 167772160; gateway = 2148073477; third = 0 } ∷ record { net = 184549376; gateway = 2148073477; third = 0 } ∷ [])
-unfolding net twice bodyOf nothingLeft bothSides many blockRows groupRows netRow rowOfWidth leftJustified hostWidth gatewayOf digits netWidth hostSpan
+unfolding net twice bodyOf nothingLeft bothSides sidesAt sidesHold readAs many blockAt blocksHold groupAt groupsHold join netRow rowOfWidth leftJustified hostWidth gatewayOf digits netWidth hostSpan
 twice-read = refl
 
 twice-not : canonical net 2 0 twice ≡ false
-unfolding net twice canonical fullSides fullExternal fullSide fullBlock every some apart many blockAt groupAt netRow rowOfWidth leftJustified hostWidth gatewayOf digits netWidth hostSpan
+unfolding net twice canonical fullSides fullSide fullBlock every some apart many sidesAt blockAt groupAt netRow rowOfWidth leftJustified hostWidth gatewayOf digits netWidth hostSpan
 twice-not = refl
 
 empty-not : (canonical net 1 0 (0 ∷ 5 ∷ 0 ∷ []) ≡ false) × (canonical net 1 0 (0 ∷ 5 ∷ 1 ∷ 7 ∷ 0 ∷ []) ≡ false) × (canonical net 0 0 [] ≡ true)
-unfolding net canonical fullSides fullExternal fullSide fullBlock every some apart many blockAt groupAt netRow rowOfWidth leftJustified hostWidth gatewayOf digits netWidth hostSpan
+unfolding net canonical fullSides fullSide fullBlock every some apart many sidesAt blockAt groupAt netRow rowOfWidth leftJustified hostWidth gatewayOf digits netWidth hostSpan
 empty-not = (refl, refl, refl)

@@ -12,7 +12,8 @@ use Rattle.nets.specs.Classes.{goodNet, onNet}
 use Rattle.nets.specs.Rows.{Row}
 use Rattle.blocks.specs.Blocks.{joined, runs, gatewayRuns, distanceRuns, each, groupOctets, groupsOctets, hostOctets, blockOctets, sideOctets}
 use Rattle.blocks.proofs.Runs.{runs-whole}
-use Rattle.trip.specs.Canonical.{Group, Block, some, apart, fullBlock, fullSide}
+use Rattle.walk.specs.Body.{Group, Block}
+use Rattle.trip.specs.Canonical.{some, apart, fullBlock, fullSide}
 use Rattle.trip.proofs.Readings.{AllOf, every-all, all-every, all-map, all-each, each-map, each-same}
 use Rattle.trip.proofs.Octets.{RowFact}
 use Rattle.trip.proofs.Sent.{groupSent, blockSent, blockHolds, GroupFact, BlockFact}

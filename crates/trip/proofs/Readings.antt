@@ -7,7 +7,7 @@ use native.Mathlib.Omega.{arith}
 use lib.Dec.{ltb}
 use lib.ListN.{length}
 use Rattle.checks.proofs.Laws.{and-left, and-right, and-both}
-use Rattle.checks.specs.Lists.{every}
+use Rattle.checks.specs.Lists.{every, join}
 use Rattle.walk.specs.Body.{Got, got, stop, andThen, after, many}
 use Rattle.blocks.specs.Blocks.{each}
 use Rattle.trip.specs.Trip.{octetsOnly}
@@ -95,23 +95,11 @@ unfoldable pub spread : {X Y : Type 0} → (X → List Y) → Got (List X) → G
 spread hold (got xs t) = got (each hold xs) t
 spread hold (stop left) = stop left
 
-module _ {X Y : Type 0} (hold : Y → List X) where
-  spread-after : (ys : List Y) (r : Got (List Y)) → after (each hold ys) (spread hold r) ≡ spread hold (after ys r)
-  unfolding spread
-  spread-after ys (got zs t) = ap (λ (l : List X). got l t) (sym (each-append hold ys zs))
-  spread-after ys (stop left) = refl
-
-  spread-then : (f : List ℕ → Got (List X)) (g : List ℕ → Got (List Y)) → ((t : List ℕ) → f t ≡ spread hold (g t)) → (r : Got (List Y))
-      → andThen (spread hold r) (λ xs rest. after xs (f rest)) ≡ spread hold (andThen r (λ ys rest. after ys (g rest)))
-  unfolding spread
-  spread-then f g e (got ys rest) = rw (e rest) (spread-after ys (g rest))
-  spread-then f g e (stop left) = refl
-
-  pub many-spread : (f : List ℕ → Got (List X)) (g : List ℕ → Got (List Y)) → ((t : List ℕ) → f t ≡ spread hold (g t))
-      → (n : ℕ) (t : List ℕ) → many f n t ≡ spread hold (many g n t)
-  unfolding many spread each
-  many-spread f g e zero t = refl
-  many-spread f g e (suc n) t = rw (e t) (spread-then (many f n) (many g n) (many-spread f g e n) (g t))
+module _ {A B : Type 0} where
+  pub join-each : (give : A → List B) (xs : List A) → join (map give xs) ≡ each give xs
+  unfolding join each
+  join-each give [] = refl
+  join-each give (x ∷ xs) = ap (λ (l : List B). give x ++ l) (join-each give xs)
 
 -- what was read as xs, with rest after it, is one item with a property, and these were its octets
 pub record One {X : Type 0} (enc : X → List ℕ) (P : X → Type 0) (t : List ℕ) (xs : List X) (rest : List ℕ) : Type 0 where

@@ -1,22 +1,23 @@
 -- Groups and blocks as octets, there and back. Assumes nothing.
 use Prim.Native.Nat.{ℕ, suc, _+_, _%_, _<_}
 use native.Mathlib.Numerals.{add-one}
-use mathlib.Core.Bool.{Bool, true, false, cond}
+use mathlib.Core.Bool.{true}
 use mathlib.Core.Path.{_≡_, refl, sym, ap, ap₂, subst₂, _∙_}
-use mathlib.Core.List.{List, [], _∷_, _++_, append-assoc, append-nil}
+use mathlib.Core.List.{List, [], _∷_, _++_, append-assoc}
 use native.Mathlib.Omega.{arith}
 use borrow.Author.Tests.{leb-false, le-ltb, lt-leb}
-use lib.Dec.{ltb, leb}
+use lib.Dec.{leb}
 use lib.ListN.{length, drop, getD, length-append, take-append-drop}
 use lib.Seq.{getD-at, drop-cons, drop-append-add}
+use Rattle.checks.specs.Lists.{join}
 use Rattle.checks.proofs.Laws.{cond-elim}
 use Rattle.nets.specs.Classes.{goodNet, onNet}
 use Rattle.nets.specs.Rows.{Row}
-use Rattle.walk.specs.Body.{Got, got, stop, andThen, many, netRow, groupRows, hostWidth, gatewayOf, blockRows}
+use Rattle.walk.specs.Body.{Got, got, stop, andThen, many, netRow, Group, Block, groupAt, hostWidth, gatewayOf, blockAt, groupsHold, blocksHold, readAs, blockRows}
 use Rattle.blocks.specs.Blocks.{each, netOctets, netsOctets, hostOctets}
-use Rattle.trip.specs.Canonical.{Group, Block, groupAt, blockAt}
 use Rattle.trip.specs.Trip.{octetsOnly}
-use Rattle.trip.proofs.Readings.{AllOf, all-map, each-single, Reads, many-reads, spread, many-spread, One, Several, Ones, never, many-unreads}
+use Rattle.walk.proofs.Flat.{blocks-rows}
+use Rattle.trip.proofs.Readings.{AllOf, all-map, each-single, Reads, many-reads, spread, join-each, One, Several, Ones, never, many-unreads}
 use Rattle.trip.proofs.Octets.{octet-at, octets-drop, net-reads, RowFact, net-unreads, host-length, host-reads, host-unreads}
 
 -- the octets of a group and of a block
@@ -164,28 +165,19 @@ module _ (side : ℕ) (m : side % 256 ≡ 0) where
     blocks-unread n t o blocks rest e = many-unreads (blockAt side net) (blockSent net) (BlockFact side net) block-unreads n t o blocks rest e
 
 -- the rows that the walk reads are those of the groups and blocks
-module _ (side : ℕ) where
-  group-spread : (gateway : ℕ) (t : List ℕ) → groupRows side gateway t ≡ spread (λ (group : Group). group .rows) (groupAt side gateway t)
-  unfolding groupRows groupAt spread each
-  group-spread gateway t = go (ltb (length t) 2) (many (netRow gateway (side + getD t 0 0)) (getD t 1 0) (drop 2 t))
-    where
-      go : (b : Bool) (g : Got (List Row)) → cond b (stop 0) g ≡ spread (λ (group : Group). group .rows) (cond b (stop 0) (andThen g (λ rows rest. got (record { third = side + getD t 0 0; rows = rows } ∷ []) rest)))
-      go true g = refl
-      go false (got rows rest) = ap (λ (l : List Row). got l rest) (sym (append-nil rows))
-      go false (stop left) = refl
+groups-hold : (groups : List Group) → groupsHold groups ≡ each (λ (group : Group). group .rows) groups
+unfolding groupsHold
+groups-hold groups = join-each (λ (group : Group). group .rows) groups
 
-  pub block-spread : (net : ℕ) (t : List ℕ) → blockRows side net t ≡ spread blockHolds (blockAt side net t)
-  unfolding blockRows blockAt spread each blockHolds
-  block-spread net t =
-      ap (λ (g : Got (List Row)). cond (leb (length t) (hostWidth net)) (stop 0) g)
-      (many-spread (λ (group : Group). group .rows) (groupRows side (gatewayOf net t)) (groupAt side (gatewayOf net t)) (group-spread (gatewayOf net t)) (getD t (hostWidth net) 0) (drop (hostWidth net + 1) t))
-      ∙ go (leb (length t) (hostWidth net)) (many (groupAt side (gatewayOf net t)) (getD t (hostWidth net) 0) (drop (hostWidth net + 1) t))
-    where
-      go : (b : Bool) (g : Got (List Group)) → cond b (stop 0) (spread (λ (group : Group). group .rows) g)
-          ≡ spread blockHolds (cond b (stop 0) (andThen g (λ groups rest. got (record { gateway = gatewayOf net t; groups = groups } ∷ []) rest)))
-      go true g = refl
-      go false (got groups rest) = ap (λ (l : List Row). got l rest) (sym (append-nil (each (λ (group : Group). group .rows) groups)))
-      go false (stop left) = refl
+pub blocks-held : (blocks : List Block) → blocksHold blocks ≡ each blockHolds blocks
+unfolding blocksHold each blockHolds join
+blocks-held [] = refl
+blocks-held (block ∷ blocks) = ap₂ (λ (a b : List Row). a ++ b) (groups-hold (block .groups)) (blocks-held blocks)
 
-  pub blocks-spread : (net n : ℕ) (t : List ℕ) → many (blockRows side net) n t ≡ spread blockHolds (many (blockAt side net) n t)
-  blocks-spread net n t = many-spread blockHolds (blockRows side net) (blockAt side net) (block-spread net) n t
+pub blocks-spread : (side net n : ℕ) (t : List ℕ) → many (blockRows side net) n t ≡ spread blockHolds (many (blockAt side net) n t)
+unfolding readAs spread
+blocks-spread side net n t = sym (blocks-rows side net n t) ∙ go (many (blockAt side net) n t)
+  where
+    go : (g : Got (List Block)) → readAs blocksHold g ≡ spread blockHolds g
+    go (got blocks rest) = ap (λ (l : List Row). got l rest) (blocks-held blocks)
+    go (stop left) = refl

@@ -11,11 +11,12 @@ use Rattle.checks.proofs.Laws.{and-left, and-right}
 use Rattle.checks.specs.Lists.{every}
 use Rattle.nets.specs.Classes.{goodNet, onNet}
 use Rattle.nets.specs.Rows.{Row}
-use Rattle.walk.specs.Body.{Got, got, stop, andThen, after, many, blockRows, bothSides, whole, nothingLeft, bodyOf}
+use Rattle.walk.specs.Body.{Got, got, stop, andThen, after, many, Block, blockAt, sidesAt, blockRows, bothSides, whole, nothingLeft, bodyOf}
+use Rattle.walk.proofs.Flat.{both-sides}
 use Rattle.blocks.specs.Blocks.{sideOf, sideRows, gatewayRuns, each, sideOctets, blocksOf, internalBlocks, externalBlocks}
 use Rattle.blocks.specs.Writable.{ordered, writableRow, writableRows}
 use Rattle.blocks.proofs.Claims.{writable-sides}
-use Rattle.trip.specs.Canonical.{Block, blockAt, fullSide, fullExternal, fullSides, canonical}
+use Rattle.trip.specs.Canonical.{fullSide, fullSides, canonical}
 use Rattle.trip.specs.Trip.{octetsOnly, WritesReadBack, Read, WrittenBack, ReadsWriteBack}
 use Rattle.trip.proofs.Readings.{AllOf, every-all, all-every, all-map, all-append, octets-right, Reads, spread, Several, never}
 use Rattle.trip.proofs.Plain.{blocks-plain}
@@ -69,13 +70,14 @@ module _ (net : ℕ) (good : goodNet net ≡ true) (rows : List Row) (s : Sides 
       ∙ side-reads 256 net good (sideRows 1 rows) (s .outside) []
 
   written-canonical : canonical net (internalBlocks rows) (externalBlocks rows) (blocksOf net rows) ≡ true
-  unfolding canonical fullSides fullExternal
+  unfolding canonical fullSides sidesAt
   written-canonical = rw (inside-read, outside-read, blocks-full (sideRows 0 rows), blocks-full (sideRows 1 rows))
 
   written-both : bothSides net (internalBlocks rows) (externalBlocks rows) (blocksOf net rows) ≡ got (sideRows 0 rows ++ sideRows 1 rows) []
-  unfolding bothSides spread
+  unfolding spread
   written-both =
       rw (
+        both-sides net (internalBlocks rows) (externalBlocks rows) (blocksOf net rows),
         blocks-spread 0 net (internalBlocks rows) (blocksOf net rows),
         inside-read,
         blocks-spread 256 net (externalBlocks rows) (sideOctets net (sideRows 1 rows)),
@@ -109,10 +111,10 @@ nothing-left size (stop left) rows e = let z : _≡_ {A = ℕ} 0 1 = cc in absur
 
 module _ (net internal external : ℕ) (octets : List ℕ) (rows : List Row) where
   sent : bodyOf net internal external octets ≡ whole rows → Sent net internal external octets rows
-  unfolding bodyOf bothSides spread
+  unfolding bodyOf spread
   sent e =
       go (many (blockAt 0 net) internal octets) refl
-      (rw (blocks-spread 0 net internal octets) at (nothing-left (length octets) (bothSides net internal external octets) rows e))
+      (rw (both-sides net internal external octets, blocks-spread 0 net internal octets) at (nothing-left (length octets) (bothSides net internal external octets) rows e))
     where
       go₂ : (inside : List Block) (middle : List ℕ) → many (blockAt 0 net) internal octets ≡ got inside middle → (g : Got (List Block)) → many (blockAt 256 net) external middle ≡ g
           → after (each blockHolds inside) (spread blockHolds g) ≡ got rows [] → Sent net internal external octets rows
@@ -212,7 +214,7 @@ module _ (net internal external : ℕ) (octets : List ℕ) (rows : List Row) (re
 
   module _ (full : canonical net internal external octets ≡ true) where
     both-full : (fullSide (s .inside) && fullSide (s .outside)) ≡ true
-    unfolding canonical fullSides fullExternal
+    unfolding canonical fullSides sidesAt
     both-full = rw (s .readInside, s .readOutside) at full
 
     inside-full : fullSide (s .inside) ≡ true

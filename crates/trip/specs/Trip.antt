@@ -10,7 +10,7 @@ use Rattle.nets.specs.Classes.{goodNet}
 use Rattle.nets.specs.Rows.{Row}
 use Rattle.walk.specs.Body.{bodyOf, whole}
 use Rattle.blocks.specs.Blocks.{blocksOf, internalBlocks, externalBlocks}
-use Rattle.blocks.specs.Writable.{writableRows}
+use Rattle.blocks.specs.Writable.{mostWritten, writableRows}
 use Rattle.trip.specs.Canonical.{canonical}
 
 -- a list of octets
@@ -40,7 +40,7 @@ pub record WrittenBack (net internal external : ℕ) (octets : List ℕ) (rows :
 
 -- 01: "Octets come back only where the Update was so grouped with no empty group or block": exactly there
 pub record ReadsWriteBack : Type 0 where
-  pub writable : (net internal external : ℕ) (octets : List ℕ) (rows : List Row) → Read net internal external octets rows → length rows ≤ 128 → writableRows net rows ≡ true
+  pub writable : (net internal external : ℕ) (octets : List ℕ) (rows : List Row) → Read net internal external octets rows → length rows ≤ mostWritten → writableRows net rows ≡ true
   pub grouped : (net internal external : ℕ) (octets : List ℕ) (rows : List Row) → Read net internal external octets rows
       → canonical net internal external octets ≡ true → WrittenBack net internal external octets rows
   pub only : (net internal external : ℕ) (octets : List ℕ) (rows : List Row) → Read net internal external octets rows

@@ -12,9 +12,8 @@ use Rattle.wire.specs.Reading as Wire
 use Rattle.wire.specs.declared.Decoded.{Decoded}
 use Rattle.wire.specs.declared.Decoded.the-variants as D
 use Rattle.wire.proofs.Decoded as DecodedType
-use Rattle.walk.specs.Body.{UpdateRead, accepted, brokenAt, tooMany, updateOf}
+use Rattle.walk.specs.Body.{UpdateRead, accepted, brokenAt, tooMany, updateOf, walkedOf}
 use Rattle.walk.specs.Body as Body
-use Rattle.walk.specs.Walked.{walkedOf}
 use Rattle.walk.specs.declared.Walked.the-variants.{Broken, TooMany}
 use Rattle.codec.specs.Reading.{most}
 use Rattle.codec.proofs.Laws.{OtherKind}
@@ -25,13 +24,11 @@ use Rattle.calls.specs.Verdict.{refuses, errorTo, updateVerdict, carriedOut, ph
 -- ---- what the walk said of an Update
 
 pub walk-broken : (u : UpdateRead) (offset : ℕ) → walkedOf u ≡ Broken offset → u ≡ brokenAt offset
-unfolding walkedOf
 walk-broken (accepted rs) offset e = let z : _≡_ {A = ℕ} 0 1 = cc in absurd (omega arith)
 walk-broken (brokenAt k) offset e = cc
 walk-broken tooMany offset e = let z : _≡_ {A = ℕ} 0 1 = cc in absurd (omega arith)
 
 pub walk-many : (u : UpdateRead) → walkedOf u ≡ TooMany → u ≡ tooMany
-unfolding walkedOf
 walk-many (accepted rs) e = let z : _≡_ {A = ℕ} 0 1 = cc in absurd (omega arith)
 walk-many (brokenAt k) e = let z : _≡_ {A = ℕ} 0 1 = cc in absurd (omega arith)
 walk-many tooMany e = refl

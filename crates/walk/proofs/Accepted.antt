@@ -11,8 +11,7 @@ use lib.Seq.{length-take-le}
 use Rattle.checks.proofs.Laws.{cond-elim, and-left, and-right}
 use Rattle.nets.specs.Classes.{goodNet}
 use Rattle.nets.specs.Rows.{Row}
-use Rattle.walk.specs.Body.{bigEndian, Got, got, stop, bothSides, Walk, whole, broken, nothingLeft, bodyOf, further, netAt, blocksOf, UpdateRead, accepted, brokenAt, tooMany, judged, updateOf, numberOf, rowsRead}
-use Rattle.walk.specs.Walked.{walkedOf, walkedNumber}
+use Rattle.walk.specs.Body.{bigEndian, Got, got, stop, bothSides, Walk, whole, broken, nothingLeft, bodyOf, further, netAt, blocksOf, UpdateRead, accepted, brokenAt, tooMany, judged, updateOf, walkedOf, rowsRead}
 use Rattle.walk.specs.declared.Walked.the-variants.{Rows}
 use Rattle.walk.proofs.Laws.{Front, front-fits, sides-sound}
 use Rattle.walk.proofs.Digits.{Octets, octets-drop, octets-take, big-below}
@@ -63,7 +62,7 @@ judged-is room (whole ys) rs e = go (leb (length ys) room) refl e
 judged-is room (broken k) rs e = let z : _≡_ {A = ℕ} 0 1 = cc in absurd (omega arith)
 
 counted : (u : UpdateRead) (n : ℕ) → walkedOf u ≡ Rows n → (u ≡ accepted (rowsRead u)) × (length (rowsRead u) ≡ n)
-unfolding walkedOf rowsRead
+unfolding rowsRead
 counted (accepted rs) n e = (refl, cc)
 counted (brokenAt k) n e = let z : _≡_ {A = ℕ} 0 1 = cc in absurd (omega arith)
 counted tooMany n e = let z : _≡_ {A = ℕ} 0 1 = cc in absurd (omega arith)
@@ -81,12 +80,6 @@ module _ (room net : ℕ) (message : List ℕ) where
   pub walked-rows : (n : ℕ) → walkedOf (updateOf room net message) ≡ Rows n
       → (updateOf room net message ≡ accepted (rowsRead (updateOf room net message))) × (length (rowsRead (updateOf room net message)) ≡ n)
   walked-rows n e = counted (updateOf room net message) n e
-
-pub walked-number : (u : UpdateRead) → walkedNumber (walkedOf u) ≡ numberOf u
-unfolding walkedNumber walkedOf numberOf
-walked-number (accepted rs) = refl
-walked-number (brokenAt k) = refl
-walked-number tooMany = refl
 
 module _ (net : ℕ) (message : List ℕ) (rs : List Row) (w : Whole net message rs) where
   -- no more rows than octets

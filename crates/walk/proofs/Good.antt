@@ -15,6 +15,7 @@ use Rattle.nets.specs.Classes.{netWidth, firstOctet, widthOf, hostSpan, goodNet
 use Rattle.nets.specs.Rows.{Row}
 use Rattle.nets.proofs.Laws.{span-positive}
 use Rattle.walk.specs.Body.{digits, bigEndian, Got, got, stop, andThen, after, many, leftJustified, rowOfWidth, netRow, groupRows, hostWidth, gatewayOf, blockRows, bothSides}
+use Rattle.walk.proofs.Flat.{group-rows, block-rows, both-sides}
 use Rattle.walk.proofs.Laws.{width-small, nonzero}
 use Rattle.walk.proofs.Digits.{Octets, octets-drop, octets-take, digits-split, big-below}
 
@@ -170,10 +171,9 @@ module _ (net : ℕ) where
 
   module _ (side : ℕ) (s : side ≤ 256) where
     group-gives : (gateway : ℕ) → onNet net gateway ≡ true → gateway < 4294967296 → (t : List ℕ) → Octets t → Gives (GoodRow net) (groupRows side gateway t)
-    unfolding groupRows
     group-gives gateway on b t o =
-        cond-elim (Gives (GoodRow net)) (ltb (length t) 2) _ _ (λ a. tt)
-        (λ a. many-gives (GoodRow net) (netRow gateway (side + getD t 0 0)) (net-gives gateway (side + getD t 0 0) on b (omega (arith, s, o 0))) (getD t 1 0) (drop 2 t) (octets-drop t 2 o))
+        rw (group-rows side gateway t) (cond-elim (Gives (GoodRow net)) (ltb (length t) 2) _ _ (λ a. tt)
+        (λ a. many-gives (GoodRow net) (netRow gateway (side + getD t 0 0)) (net-gives gateway (side + getD t 0 0) on b (omega (arith, s, o 0))) (getD t 1 0) (drop 2 t) (octets-drop t 2 o)))
 
     module _ (n : Net net) (f : net < 4294967296) where
       host-below : (t : List ℕ) → Octets t → hostWidth net < length t → bigEndian (take (hostWidth net) t) < 256 ^ hostWidth net
@@ -181,21 +181,20 @@ module _ (net : ℕ) where
           subst (λ (k : ℕ). bigEndian (take (hostWidth net) t) < 256 ^ k) (length-take-le (hostWidth net) t (omega arith)) (big-below (take (hostWidth net) t) (octets-take t (hostWidth net) o))
 
       block-gives : (t : List ℕ) → Octets t → Gives (GoodRow net) (blockRows side net t)
-      unfolding blockRows gatewayOf
+      unfolding gatewayOf
       block-gives t o =
           let w = hostWidth net in
           let host = bigEndian (take (hostWidth net) t) in
-          cond-elim (Gives (GoodRow net)) (leb (length t) w) _ _ (λ a. tt)
+          rw (block-rows side net t) (cond-elim (Gives (GoodRow net)) (leb (length t) w) _ _ (λ a. tt)
           (λ a. many-gives (GoodRow net) (groupRows side (net + host))
           (group-gives (net + host) (gateway-on net n host (host-below t o (leb-false (length t) w a))) (gateway-fits net n host (host-below t o (leb-false (length t) w a)) f))
-          (getD t w 0) (drop (w + 1) t) (octets-drop t (w + 1) o))
+          (getD t w 0) (drop (w + 1) t) (octets-drop t (w + 1) o)))
 
   sides-gives : Net net → net < 4294967296 → (internal external : ℕ) (t : List ℕ) → Octets t → Gives (GoodRow net) (bothSides net internal external t)
-  unfolding bothSides
   sides-gives n f internal external t o =
-      in-turn-gives (GoodRow net) (many (blockRows 0 net) internal t) (many (blockRows 256 net) external)
+      rw (both-sides net internal external t) (in-turn-gives (GoodRow net) (many (blockRows 0 net) internal t) (many (blockRows 256 net) external)
       (many-gives (GoodRow net) (blockRows 0 net) (block-gives 0 zero-le n f) internal t o)
-      (many-gives (GoodRow net) (blockRows 256 net) (block-gives 256 (le-refl 256) n f) external)
+      (many-gives (GoodRow net) (blockRows 256 net) (block-gives 256 (le-refl 256) n f) external))
 
   pub sides-good : goodNet net ≡ true → net < 4294967296 → (internal external : ℕ) (t : List ℕ) → Octets t → (rs : List Row) (rest : List ℕ)
       → bothSides net internal external t ≡ got rs rest → All (GoodRow net) rs

@@ -11,7 +11,8 @@ use Rattle.checks.proofs.Laws.{cond-elim}
 use Rattle.nets.specs.Classes.{netWidth}
 use Rattle.nets.specs.Rows.{Row}
 use Rattle.walk.specs.Body.{Got, got, stop, andThen, after, many, leftJustified, rowOfWidth, netRow, groupRows}
-use Rattle.walk.specs.Walked.{taken, groupEnd, groupNets}
+use Rattle.walk.specs.Walked.{taken, groupEnd, groupNets, NetsAlone}
+use Rattle.walk.proofs.Flat.{group-rows}
 use Rattle.walk.proofs.Laws.{nonzero, Front, front-fits, front-part, many-sound, net-sound}
 use Rattle.walk.proofs.Turns.{Stepped}
 
@@ -65,8 +66,7 @@ alike-taken t (stop k) (got ys q) a = absurd a
 alike-taken t (stop k) (stop j) a = refl
 
 group-alike : (side gateway : ℕ) (t : List ℕ) → Alike (groupRows 0 0 t) (groupRows side gateway t)
-unfolding groupRows
-group-alike side gateway t = go (ltb (length t) 2)
+group-alike side gateway t = rw (group-rows 0 0 t, group-rows side gateway t) (go (ltb (length t) 2))
   where
     go : (b : Bool) → Alike (cond b (stop 0) (many (netRow 0 (0 + getD t 0 0)) (getD t 1 0) (drop 2 t))) (cond b (stop 0) (many (netRow gateway (side + getD t 0 0)) (getD t 1 0) (drop 2 t)))
     go true = refl
@@ -84,12 +84,12 @@ pub record Alone (side gateway : ℕ) (t : List ℕ) (xs : List Row) (rest : Lis
 
 module _ (side gateway : ℕ) where
   pub group-alone : (t : List ℕ) (xs : List Row) (rest : List ℕ) → groupRows side gateway t ≡ got xs rest → Alone side gateway t xs rest
-  unfolding groupRows groupNets taken
-  group-alone [] xs rest e = let z : _≡_ {A = ℕ} 0 1 = cc in absurd (omega arith)
-  group-alone (d ∷ []) xs rest e = let z : _≡_ {A = ℕ} 0 1 = cc in absurd (omega arith)
+  unfolding groupNets taken
+  group-alone [] xs rest k = let e = rw (group-rows side gateway []) at k in let z : _≡_ {A = ℕ} 0 1 = cc in absurd (omega arith)
+  group-alone (d ∷ []) xs rest k = let e = rw (group-rows side gateway (d ∷ [])) at k in let z : _≡_ {A = ℕ} 0 1 = cc in absurd (omega arith)
   group-alone (d ∷ n ∷ t) xs rest e =
       let f = many (netRow gateway (side + d)) n in
-      let m : many (netRow gateway (side + d)) n t ≡ got xs rest = rw (le-ltb (suc (suc (length t))) 2 (omega arith)) at e in
+      let m : many (netRow gateway (side + d)) n t ≡ got xs rest = rw (group-rows side gateway (d ∷ n ∷ t), le-ltb (suc (suc (length t))) 2 (omega arith)) at e in
       let s : Front (many (netRow gateway (side + d)) n) t xs rest = rw m at (many-sound (netRow gateway (side + d)) (net-sound gateway (side + d)) n t) in
       let k : groupEnd (d ∷ n ∷ t) - 2 ≡ length t - length rest =
       omega (arith, end-any side gateway (d ∷ n ∷ t) ∙ ap (taken (d ∷ n ∷ t)) e, front-fits s) in
@@ -99,6 +99,18 @@ module _ (side gateway : ℕ) where
         alone = ap f (p ∙ sym (append-nil (s .part))) ∙ s .again [];
         used = omega (arith, ap length p, ap length (s .split), length-append (s .part) rest);
       }
+
+no-nets : (t : List ℕ) → groupEnd t ≡ 0 → groupNets t ≡ []
+unfolding groupNets
+no-nets t e = ap (λ (n : ℕ). take (n - 2) (drop 2 t)) e
+
+pub nets-alone : NetsAlone
+unfolding taken
+nets-alone =
+    record {
+      rows = λ side gateway t rs rest e. (group-alone side gateway t rs rest e) .alone;
+      none = λ side gateway t left e. no-nets t (end-any side gateway t ∙ ap (taken t) e);
+    }
 
 -- a net that was read, from its first octet
 module _ (gateway third : ℕ) where

@@ -4,7 +4,7 @@ use native.Mathlib.Nat.{le-refl}
 use native.Mathlib.Numerals.{add-one}
 use native.Mathlib.Omega.{arith}
 use borrow.Author.Tests.{ltb-false, leb-false, eqb-false, le-ltb, lt-leb, ne-eqb}
-use mathlib.Core.Path.{_≡_, refl, sym, ap, _∙_}
+use mathlib.Core.Path.{_≡_, refl, sym, ap, subst, _∙_}
 use mathlib.Core.Bool.{true, false}
 use mathlib.Core.List.{List, [], _∷_, _++_, append-assoc}
 use lib.Dec.{ltb, leb, eqb}
@@ -14,6 +14,7 @@ use Rattle.checks.proofs.Laws.{cond-elim}
 use Rattle.nets.specs.Classes.{netWidth, hostSpan}
 use Rattle.nets.specs.Rows.{Row}
 use Rattle.walk.specs.Body.{bigEndian, Got, got, stop, andThen, after, many, leftJustified, rowOfWidth, netRow, groupRows, hostWidth, gatewayOf, blockRows, bothSides}
+use Rattle.walk.proofs.Flat.{group-rows, block-rows, both-sides}
 
 pub never : {A : Type 0} → false ≡ true → A
 never e = let z : _≡_ {A = ℕ} 0 1 = cc in absurd (omega arith)
@@ -175,15 +176,13 @@ module _ (gateway third : ℕ) where
 module _ (side gateway : ℕ) where
   pub group-reads : (distance count : ℕ) (p : List ℕ) (xs : List Row)
       → Reads (many (netRow gateway (side + distance)) count) p xs → Reads (groupRows side gateway) (distance ∷ count ∷ p) xs
-  unfolding groupRows
-  group-reads distance count p xs h q = rw (le-ltb (suc (suc (length (p ++ q)))) 2 (omega arith), h q)
+  group-reads distance count p xs h q = rw (group-rows side gateway (distance ∷ count ∷ p ++ q), le-ltb (suc (suc (length (p ++ q)))) 2 (omega arith), h q)
 
   pub group-sound : Sounds (groupRows side gateway)
-  unfolding groupRows
-  group-sound [] = zero-le
-  group-sound (d ∷ []) = zero-le
+  group-sound [] = rw (group-rows side gateway []) zero-le
+  group-sound (d ∷ []) = rw (group-rows side gateway (d ∷ [])) zero-le
   group-sound (d ∷ n ∷ t) =
-      rw (le-ltb (suc (suc (length t))) 2 (omega arith))
+      rw (group-rows side gateway (d ∷ n ∷ t), le-ltb (suc (suc (length t))) 2 (omega arith))
       (go (many (netRow gateway (side + d)) n t) (many-sound (netRow gateway (side + d)) (net-sound gateway (side + d)) n t))
     where
       go : (g : Got (List Row)) → Sound (many (netRow gateway (side + d)) n) t g → Sound (groupRows side gateway) (d ∷ n ∷ t) g
@@ -199,10 +198,11 @@ module _ (side gateway : ℕ) where
 module _ (side net : ℕ) where
   pub block-reads : (host : List ℕ) (count : ℕ) (p : List ℕ) (xs : List Row) → length host ≡ hostWidth net
       → Reads (many (groupRows side (net + bigEndian host)) count) p xs → Reads (blockRows side net) (host ++ (count ∷ p)) xs
-  unfolding blockRows gatewayOf
+  unfolding gatewayOf
   block-reads host count p xs n h q =
       let k : length host < length (host ++ (count ∷ (p ++ q))) = simp length-append (omega arith) in
       rw (
+        block-rows side net ((host ++ (count ∷ p)) ++ q),
         append-assoc host (count ∷ p) q,
         ← n,
         lt-leb (length (host ++ (count ∷ (p ++ q)))) (length host) k,
@@ -228,12 +228,11 @@ module _ (side net : ℕ) where
       }
 
   pub block-sound : Sounds (blockRows side net)
-  unfolding blockRows
   block-sound t =
       let w = hostWidth net in
-      cond-elim (Sound (blockRows side net) t) (leb (length t) w) _ _ (λ a. zero-le)
+      rw (block-rows side net t) (cond-elim (Sound (blockRows side net) t) (leb (length t) w) _ _ (λ a. zero-le)
       (λ a. go (leb-false (length t) w a) (many (groupRows side (gatewayOf net t)) (getD t w 0) (drop (w + 1) t))
-      (many-sound (groupRows side (gatewayOf net t)) (group-sound side (gatewayOf net t)) (getD t w 0) (drop (w + 1) t)))
+      (many-sound (groupRows side (gatewayOf net t)) (group-sound side (gatewayOf net t)) (getD t w 0) (drop (w + 1) t))))
     where
       go : hostWidth net < length t → (g : Got (List Row)) → Sound (many (groupRows side (gatewayOf net t)) (getD t (hostWidth net) 0)) (drop (hostWidth net + 1) t) g
           → Sound (blockRows side net) t g
@@ -241,7 +240,7 @@ module _ (side net : ℕ) where
       go h (stop left) a = omega (arith, a, length-drop (hostWidth net + 1) t)
 
 pub sides-sound : (net internal external : ℕ) → Sounds (bothSides net internal external)
-unfolding bothSides
 sides-sound net internal external =
-    in-turn-sound (many (blockRows 0 net) internal) (many (blockRows 256 net) external)
-    (many-sound (blockRows 0 net) (block-sound 0 net) internal) (many-sound (blockRows 256 net) (block-sound 256 net) external)
+    subst (λ (f : List ℕ → Got (List Row)). Sounds f) (λ i. λ t. (sym (both-sides net internal external t)) i)
+    (in-turn-sound (many (blockRows 0 net) internal) (many (blockRows 256 net) external)
+    (many-sound (blockRows 0 net) (block-sound 0 net) internal) (many-sound (blockRows 256 net) (block-sound 256 net) external))

@@ -5,3 +5,4 @@ pub mod Groups
 pub mod Good
 pub mod Accepted
 pub mod Cases
+pub mod Flat

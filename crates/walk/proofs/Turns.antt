@@ -1,5 +1,5 @@
 -- The turns of the walk's loops: what is left to skip, and how far that comes. Assumes nothing.
-use Prim.Native.Nat.{ℕ, suc, zero-le, _+_, _-_, _≤_, _<_}
+use Prim.Native.Nat.{ℕ, suc, _+_, _-_, _≤_, _<_}
 use native.Mathlib.Nat.{le-refl, zero-add, add-zero}
 use native.Mathlib.Omega.{arith}
 use borrow.Author.Tests.{ltb-true, ltb-false, lt-ltb, le-ltb, le-leb, lt-leb, eq-eqb, ne-eqb}
@@ -11,12 +11,13 @@ use lib.ListN.{length, take, drop, getD, length-append, length-drop}
 use Rattle.checks.proofs.Laws.{part-from, cond-elim}
 use Rattle.nets.specs.Classes.{netWidth, goodNet}
 use Rattle.nets.specs.Rows.{Row}
-use Rattle.walk.specs.Body.{Got, got, stop, after, many, leftJustified, rowOfWidth, netRow, groupRows, hostWidth, gatewayOf, blockRows, bothSides, nothingLeft, bodyOf, further, netAt, blocksOf, judged, updateOf, bigEndian, accepted, tooMany}
-use Rattle.walk.specs.Walked.{skipOf, netStep, verdict, WithinEnd, taken, groupEnd, walkedOf}
+use Rattle.walk.specs.Body.{Got, got, stop, after, many, leftJustified, rowOfWidth, netRow, groupRows, hostWidth, gatewayOf, blockRows, bothSides, nothingLeft, bodyOf, further, netAt, blocksOf, judged, updateOf, bigEndian, accepted, tooMany, walkedOf}
+use Rattle.walk.specs.Walked.{skipOf, netStep, verdict, WithinEnd, taken, groupEnd, groupNets}
 use Rattle.walk.specs.declared.Skip.{Skip}
 use Rattle.walk.specs.declared.Skip.the-variants.{Past, Stop}
 use Rattle.walk.specs.declared.Walked.the-variants.{Rows, Broken, TooMany}
-use Rattle.walk.proofs.Laws.{nonzero, width-small, Sound, Sounds, front-fits, front-rest, many-next, many-stop, many-none, many-sound, block-sound, sides-sound}
+use Rattle.walk.proofs.Flat.{group-rows, block-rows, both-sides}
+use Rattle.walk.proofs.Laws.{nonzero, width-small, Sound, Sounds, front-fits, front-rest, many-next, many-stop, many-none, many-sound, net-sound, block-sound, sides-sound}
 
 -- so many rows more
 unfoldable pub plus : ℕ → Skip → Skip
@@ -173,35 +174,24 @@ module _ (end : ℕ) (s : Skip) (left : ℕ) (e : s ≡ Stop left) where
 -- one group and one block, from what the walk of their parts came to
 module _ (t : List ℕ) where
   pub group-short : length t < 2 → (side gateway : ℕ) → Stop 0 ≡ skipOf (groupRows side gateway t)
-  unfolding groupRows skipOf
-  group-short h side gateway = rw (lt-ltb (length t) 2 h)
+  unfolding skipOf
+  group-short h side gateway = rw (group-rows side gateway t, lt-ltb (length t) 2 h)
 
   pub group-skips : (s : Skip) → 2 ≤ length t → ((gateway third : ℕ) → s ≡ skipOf (many (netRow gateway third) (getD t 1 0) (take (length t - 2) (drop 2 t))))
       → (side gateway : ℕ) → s ≡ skipOf (groupRows side gateway t)
-  unfolding groupRows
-  group-skips s h e side gateway = rw (le-ltb (length t) 2 h) (rw (part-from 2 t) at (e gateway (side + getD t 0 0)))
+  group-skips s h e side gateway = rw (group-rows side gateway t, le-ltb (length t) 2 h) (rw (part-from 2 t) at (e gateway (side + getD t 0 0)))
 
   pub block-short : (net host : ℕ) → host ≡ hostWidth net → length t ≤ host → (side : ℕ) → Stop 0 ≡ skipOf (blockRows side net t)
-  unfolding blockRows skipOf
-  block-short net host w h side = rw (← w, le-leb (length t) host h)
+  unfolding skipOf
+  block-short net host w h side = rw (block-rows side net t, ← w, le-leb (length t) host h)
 
   pub block-skips : (s : Skip) (net host : ℕ) → host ≡ hostWidth net → host < length t
       → ((side gateway : ℕ) → s ≡ skipOf (many (groupRows side gateway) (getD t host 0) (take (length t - (host + 1)) (drop (host + 1) t))))
       → (side : ℕ) → s ≡ skipOf (blockRows side net t)
-  unfolding blockRows
-  block-skips s net host w h e side = rw (← w, lt-leb (length t) host h) (rw (part-from (host + 1) t) at (e side (gatewayOf net t)))
+  block-skips s net host w h e side = rw (block-rows side net t, ← w, lt-leb (length t) host h) (rw (part-from (host + 1) t) at (e side (gatewayOf net t)))
 
 -- the nets of one group
 module _ (t : List ℕ) where
-  taken-within : (g : Got (List Row)) → taken t g ≤ length t
-  unfolding taken
-  taken-within (got rs rest) = omega arith
-  taken-within (stop left) = zero-le
-
-  pub end-within : groupEnd t ≤ length t
-  unfolding groupEnd
-  end-within = taken-within (groupRows 0 0 t)
-
   pub end-stop : (left : ℕ) → skipOf (groupRows 0 0 t) ≡ Stop left → 0 ≡ groupEnd t
   unfolding groupEnd taken
   end-stop left e = rw (stopped (groupRows 0 0 t) left e)
@@ -215,11 +205,39 @@ module _ (t : List ℕ) where
   unfolding groupEnd
   end-past m left e = past-taken (groupRows 0 0 t) m left e
 
+  -- a group that was passed has its distance and its number of nets
+  pub past-two : (m left : ℕ) → skipOf (groupRows 0 0 t) ≡ Past m left → 2 + left ≤ length t
+  unfolding skipOf
+  past-two m left e =
+      let f = netRow 0 (0 + getD t 0 0) in
+      cond-elim (λ (g : Got (List Row)). skipOf g ≡ Past m left → 2 + left ≤ length t) (ltb (length t) 2) _ _
+      (λ a h. let z : _≡_ {A = ℕ} 0 1 = cc in absurd (omega arith))
+      (λ a h. omega (
+        arith,
+        ltb-false (length t) 2 a,
+        length-drop 2 t,
+        (passed (many f (getD t 1 0)) (drop 2 t) (many f (getD t 1 0) (drop 2 t)) m left (many-sound f (net-sound 0 (0 + getD t 0 0)) (getD t 1 0) (drop 2 t)) h) .fits,
+      ))
+      (rw (group-rows 0 0 t) at e)
+
+  module _ (s : Skip) (k : s ≡ skipOf (groupRows 0 0 t)) where
+    module _ (m left : ℕ) (e : s ≡ Past m left) where
+      pub nets-two : 2 + left ≤ length t
+      nets-two = past-two m left (sym k ∙ e)
+
+      pub nets-past : take (length t - left - 2) (drop 2 t) ≡ groupNets t
+      unfolding groupNets
+      nets-past = ap (λ (n : ℕ). take (n - 2) (drop 2 t)) (end-past m left (sym k ∙ e))
+
+    pub nets-stop : (left : ℕ) → s ≡ Stop left → [] ≡ groupNets t
+    unfolding groupNets
+    nets-stop left e = ap (λ (n : ℕ). take (n - 2) (drop 2 t)) (end-stop left (sym k ∙ e))
+
 -- both sides
 module _ (net internal external : ℕ) (t : List ℕ) where
   pub sides-stop : (left : ℕ) → skipOf (many (blockRows 0 net) internal t) ≡ Stop left → Stop left ≡ skipOf (bothSides net internal external t)
-  unfolding bothSides skipOf
-  sides-stop left e = rw (stopped (many (blockRows 0 net) internal t) left e)
+  unfolding skipOf
+  sides-stop left e = rw (both-sides net internal external t, stopped (many (blockRows 0 net) internal t) left e)
 
   module _ (m left : ℕ) (e : skipOf (many (blockRows 0 net) internal t) ≡ Past m left) where
     pub sides-room : m + left ≤ length t
@@ -227,12 +245,11 @@ module _ (net internal external : ℕ) (t : List ℕ) where
 
     sides-is : (y : Skip) → y ≡ skipOf (many (blockRows 256 net) external (take (length t - (length t - left)) (drop (length t - left) t)))
         → skipOf (bothSides net internal external t) ≡ plus m y
-    unfolding bothSides
     sides-is y h =
         let p = passed _ t _ m left (many-sound (blockRows 0 net) (block-sound 0 net) internal t) e in
         let g = many (blockRows 256 net) external (drop (length t - left) t) in
         let k : y ≡ skipOf (many (blockRows 256 net) external (drop (length t - left) t)) = rw (part-from (length t - left) t) at h in
-        rw (p .is) (plus-zero (skipOf (after (p .items) g)) ∙ plus-after 0 (p .items) g ∙ ap (λ (n : ℕ). plus n (skipOf g)) (zero-add (length (p .items)) ∙ p .count) ∙ ap (plus m) (sym k))
+        rw (both-sides net internal external t, p .is) (plus-zero (skipOf (after (p .items) g)) ∙ plus-after 0 (p .items) g ∙ ap (λ (n : ℕ). plus n (skipOf g)) (zero-add (length (p .items)) ∙ p .count) ∙ ap (plus m) (sym k))
 
     pub sides-stop-2 : (y : Skip) (left′ : ℕ) → y ≡ skipOf (many (blockRows 256 net) external (take (length t - (length t - left)) (drop (length t - left) t)))
         → y ≡ Stop left′ → y ≡ skipOf (bothSides net internal external t)
@@ -259,29 +276,28 @@ pub within-end : (end : ℕ) (s : Skip) (f : List ℕ → Got (List Row)) (t : L
 within-end end s f t g e k h = rw e (within end f t g k h)
 
 counted : (b : Bool) (rs : List Row) → cond b (Rows (length rs)) TooMany ≡ walkedOf (cond b (accepted rs) tooMany)
-unfolding walkedOf
 counted true rs = refl
 counted false rs = refl
 
 -- the whole message, from what the walk of its blocks came to
 module _ (room net : ℕ) (message : List ℕ) where
   pub walk-short : length message < 16 → Broken (length message) ≡ walkedOf (updateOf room net message)
-  unfolding updateOf blocksOf judged walkedOf
+  unfolding updateOf blocksOf judged
   walk-short h = rw (lt-ltb (length message) 16 h)
 
   module _ (h : 16 ≤ length message) where
     pub walk-classless : false ≡ goodNet net → Broken 12 ≡ walkedOf (updateOf room net message)
-    unfolding updateOf blocksOf judged walkedOf
+    unfolding updateOf blocksOf judged
     walk-classless g = rw (le-ltb (length message) 16 h, ← g)
 
     module _ (g : true ≡ goodNet net) where
       pub walk-other : (said : ℕ) → said ≡ bigEndian (take 4 (drop 12 message)) → (said ≡ net → ⊥) → Broken 12 ≡ walkedOf (updateOf room net message)
-      unfolding updateOf blocksOf judged walkedOf netAt
+      unfolding updateOf blocksOf judged netAt
       walk-other said e n = rw (le-ltb (length message) 16 h, ← g, ← e, ne-eqb said net n)
 
       judge-is : (y : Got (List Row)) → WithinEnd (length (drop 16 message)) (skipOf y)
           → verdict (length message) room (skipOf y) ≡ walkedOf (judged room (further 16 (nothingLeft (length (drop 16 message)) y)))
-      unfolding verdict skipOf walkedOf judged further nothingLeft
+      unfolding verdict skipOf judged further nothingLeft
       judge-is (got rs []) b = counted (leb (length rs) room) rs
       judge-is (got rs (o ∷ rest)) b =
           let e : length message - suc (length rest) ≡ length (drop 16 message) - suc (length rest) + 16 = omega (arith, length-drop 16 message) in

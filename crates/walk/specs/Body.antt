@@ -1,11 +1,14 @@
 -- The gateway blocks of an Update: what their octets say, for any list of octets.
 use Prim.Native.Nat.{ℕ, zero, suc, _+_, _-_, _*_}
 use mathlib.Core.Bool.{cond, _&&_}
-use mathlib.Core.List.{List, [], _∷_, _++_}
+use mathlib.Core.List.{List, [], _∷_, _++_, map}
 use lib.Dec.{ltb, leb, eqb}
 use lib.ListN.{length, take, drop, getD}
+use Rattle.checks.specs.Lists.{join}
 use Rattle.nets.specs.Classes.{netWidth, widthOf, hostSpan, goodNet}
 use Rattle.nets.specs.Rows.{Row}
+use Rattle.walk.specs.declared.Walked.{Walked}
+use Rattle.walk.specs.declared.Walked.the-variants.{Rows, Broken, TooMany}
 
 -- 01: "All numbers are big-endian": the number n, continued by these octets
 unfoldable pub digits : ℕ → List ℕ → ℕ
@@ -47,10 +50,27 @@ rowOfWidth gateway third width t =
 unfoldable pub netRow : ℕ → ℕ → List ℕ → Got (List Row)
 netRow gateway third t = cond (eqb (length t) 0) (stop 0) (rowOfWidth gateway third (netWidth (getD t 0 0)) t)
 
--- 01: "for each, distance, number of nets, nets"; third number: "distance plus 256 if external", side being 0 or 256
-unfoldable pub groupRows : ℕ → ℕ → List ℕ → Got (List Row)
-groupRows side gateway t =
-    cond (ltb (length t) 2) (stop 0) (many (netRow gateway (side + getD t 0 0)) (getD t 1 0) (drop 2 t))
+-- the nets of one distance, as rows; third number: "distance plus 256 if external", side being 0 or 256
+pub record Group : Type 0 where
+  pub third : ℕ
+  pub rows : List Row
+
+-- the distances of one gateway
+pub record Block : Type 0 where
+  pub gateway : ℕ
+  pub groups : List Group
+
+-- the blocks of an Update
+pub record Sides : Type 0 where
+  pub inside : List Block
+  pub outside : List Block
+
+-- 01: "for each, distance, number of nets, nets"
+unfoldable pub groupAt : ℕ → ℕ → List ℕ → Got (List Group)
+groupAt side gateway t =
+    cond (ltb (length t) 2) (stop 0)
+    (andThen (many (netRow gateway (side + getD t 0 0)) (getD t 1 0) (drop 2 t))
+    (λ rows rest. got (record { third = side + getD t 0 0; rows = rows } ∷ []) rest))
 
 -- 01: "a gateway takes the host part of the common net, 3, 2 or 1" octets
 unfoldable pub hostWidth : ℕ → ℕ
@@ -61,15 +81,42 @@ unfoldable pub gatewayOf : ℕ → List ℕ → ℕ
 gatewayOf net t = net + bigEndian (take (hostWidth net) t)
 
 -- 01: "host, number of distances; for each, .."
-unfoldable pub blockRows : ℕ → ℕ → List ℕ → Got (List Row)
-blockRows side net t =
+unfoldable pub blockAt : ℕ → ℕ → List ℕ → Got (List Block)
+blockAt side net t =
     cond (leb (length t) (hostWidth net)) (stop 0)
-    (many (groupRows side (gatewayOf net t)) (getD t (hostWidth net) 0) (drop (hostWidth net + 1) t))
+    (andThen (many (groupAt side (gatewayOf net t)) (getD t (hostWidth net) 0) (drop (hostWidth net + 1) t))
+    (λ groups rest. got (record { gateway = gatewayOf net t; groups = groups } ∷ []) rest))
 
 -- 01: "Internal blocks come first."
+unfoldable pub sidesAt : ℕ → ℕ → ℕ → List ℕ → Got Sides
+sidesAt net internal external t =
+    andThen (many (blockAt 0 net) internal t)
+    (λ inside rest. andThen (many (blockAt 256 net) external rest) (λ outside last. got (record { inside = inside; outside = outside }) last))
+
+-- 01: "Rows go in message order": the rows of groups, of blocks, of both sides
+unfoldable pub groupsHold : List Group → List Row
+groupsHold groups = join (map (λ group. group .rows) groups)
+
+unfoldable pub blocksHold : List Block → List Row
+blocksHold blocks = join (map (λ block. groupsHold (block .groups)) blocks)
+
+unfoldable pub sidesHold : Sides → List Row
+sidesHold sides = blocksHold (sides .inside) ++ blocksHold (sides .outside)
+
+-- a reading, and of what was read only what it holds
+unfoldable pub readAs : {A B : Type 0} → (A → B) → Got A → Got B
+readAs hold (got a t) = got (hold a) t
+readAs hold (stop left) = stop left
+
+-- the rows of one group, of one block, of all blocks: the flattening of what is read there
+unfoldable pub groupRows : ℕ → ℕ → List ℕ → Got (List Row)
+groupRows side gateway t = readAs groupsHold (groupAt side gateway t)
+
+unfoldable pub blockRows : ℕ → ℕ → List ℕ → Got (List Row)
+blockRows side net t = readAs blocksHold (blockAt side net t)
+
 unfoldable pub bothSides : ℕ → ℕ → ℕ → List ℕ → Got (List Row)
-bothSides net internal external t =
-    andThen (many (blockRows 0 net) internal t) (λ xs rest. after xs (many (blockRows 256 net) external rest))
+bothSides net internal external t = readAs sidesHold (sidesAt net internal external t)
 
 -- all of the rows, or the offset of the first octet that can't be right
 pub data Walk : Type 0 where
@@ -110,7 +157,7 @@ pub data UpdateRead : Type 0 where
   brokenAt : ℕ → UpdateRead
   tooMany : UpdateRead
 
--- 01: "such an Update, otherwise good, of more than 128 rows", room being 128
+-- 01: "such an Update, otherwise good, of more than 128 rows", room being the rows that may be accepted
 unfoldable pub judged : ℕ → Walk → UpdateRead
 judged room (whole rs) = cond (leb (length rs) room) (accepted rs) tooMany
 judged room (broken offset) = brokenAt offset
@@ -118,11 +165,20 @@ judged room (broken offset) = brokenAt offset
 unfoldable pub updateOf : ℕ → ℕ → List ℕ → UpdateRead
 updateOf room net message = judged room (blocksOf net message)
 
--- 01's answer numbers 0, 14 and 15
+-- how many rows an Update has, or the offset where it breaks: the answer that the code gives
+abbrev pub walkedOf : UpdateRead → Walked
+walkedOf (accepted rs) = Rows (length rs)
+walkedOf (brokenAt offset) = Broken offset
+walkedOf tooMany = TooMany
+
+-- 01's answer numbers 0, 14 and 15, one for each case of that answer
+abbrev pub walkedNumber : Walked → ℕ
+walkedNumber (Rows count) = 0
+walkedNumber (Broken offset) = 14
+walkedNumber TooMany = 15
+
 unfoldable pub numberOf : UpdateRead → ℕ
-numberOf (accepted rs) = 0
-numberOf (brokenAt offset) = 14
-numberOf tooMany = 15
+numberOf update = walkedNumber (walkedOf update)
 
 -- the rows of an accepted Update, none otherwise
 unfoldable pub rowsRead : UpdateRead → List Row

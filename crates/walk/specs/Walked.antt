@@ -1,12 +1,13 @@
 -- What the functions of the walk answer, in numbers: rows counted, octets left, offsets.
-use Prim.Native.Nat.{ℕ, _-_, _≤_}
+use Prim.Native.Nat.{ℕ, _+_, _-_, _≤_}
 use mathlib.Core.Bool.{cond}
-use mathlib.Core.List.{List}
+use mathlib.Core.Path.{_≡_}
+use mathlib.Core.List.{List, []}
 use lib.Dec.{ltb, leb, eqb}
 use lib.ListN.{length, take, drop, getD}
 use Rattle.nets.specs.Classes.{netWidth}
 use Rattle.nets.specs.Rows.{Row}
-use Rattle.walk.specs.Body.{Got, got, stop, groupRows, UpdateRead, accepted, brokenAt, tooMany}
+use Rattle.walk.specs.Body.{Got, got, stop, many, netRow, groupRows}
 use Rattle.walk.specs.declared.Skip.{Skip}
 use Rattle.walk.specs.declared.Skip.the-variants.{Past, Stop}
 use Rattle.walk.specs.declared.Walked.{Walked}
@@ -30,26 +31,22 @@ taken t (stop left) = 0
 unfoldable pub groupEnd : List ℕ → ℕ
 groupEnd t = taken t (groupRows 0 0 t)
 
--- 01: "The nets of one distance are handed back as a part of the received octets"; none where the group is bad
+-- 01: "The nets of one distance are handed back as a part of the received octets"; none where the group is bad,
+-- which `skipOf` of its reading tells
 unfoldable pub groupNets : List ℕ → List ℕ
 groupNets t = take (groupEnd t - 2) (drop 2 t)
 
--- how many rows an Update has, or the offset where it breaks
-unfoldable pub walkedOf : UpdateRead → Walked
-walkedOf (accepted rs) = Rows (length rs)
-walkedOf (brokenAt offset) = Broken offset
-walkedOf tooMany = TooMany
+-- the part is the nets and nothing else: read alone it gives the group's rows, and nothing is left (proofs/Groups)
+pub record NetsAlone : Type 0 where
+  pub rows : (side gateway : ℕ) (t : List ℕ) (rs : List Row) (rest : List ℕ) → groupRows side gateway t ≡ got rs rest
+      → many (netRow gateway (side + getD t 0 0)) (getD t 1 0) (groupNets t) ≡ got rs []
+  -- and a bad group has none, whatever side and gateway are
+  pub none : (side gateway : ℕ) (t : List ℕ) (left : ℕ) → groupRows side gateway t ≡ stop left → groupNets t ≡ []
 
--- the same from what the walk counted, the message's end and the room for rows
+-- what the walk answers, from what it counted, the message's end and the room for rows
 unfoldable pub verdict : ℕ → ℕ → Skip → Walked
 verdict end room (Past count left) = cond (eqb left 0) (cond (leb count room) (Rows count) TooMany) (Broken (end - left))
 verdict end room (Stop left) = Broken (end - left)
-
--- 01's answer numbers 0, 14 and 15
-unfoldable pub walkedNumber : Walked → ℕ
-walkedNumber (Rows count) = 0
-walkedNumber (Broken offset) = 14
-walkedNumber TooMany = 15
 
 -- the octets that are left stand before the end
 abbrev pub WithinEnd : ℕ → Skip → Type 0

@@ -2,11 +2,11 @@
 ghost use mathlib.Core.Path.{_≡_};
 ghost use Prim.Native.Nat.{ℕ, _^_, _≤_, _<_};
 ghost use lib.ListN.{length};
-ghost use Rattle.walk.specs.Body.{bigEndian, many, netRow, groupRows, hostWidth, blockRows, bothSides, updateOf};
-ghost use Rattle.walk.specs.Walked.{skipOf, netStep, groupEnd, groupNets, verdict, walkedOf, WithinEnd};
+ghost use Rattle.walk.specs.Body.{bigEndian, many, netRow, groupRows, hostWidth, blockRows, bothSides, updateOf, walkedOf, walkedNumber};
+ghost use Rattle.walk.specs.Walked.{skipOf, netStep, groupNets, verdict, WithinEnd};
 
 // How far a part of the walk came: past so many rows, or to a stop; and how many octets are left there.
-pub enum Skip {
+enum Skip {
     Past { rows: usize, left: usize },
     Stop(usize),
 }
@@ -16,6 +16,12 @@ pub enum Walked {
     Rows(usize),
     Broken(usize),
     TooMany,
+}
+
+// The nets of one distance group as a part of the received octets, and how far the group was read.
+struct Nets<'a> {
+    octets: &'a [u8],
+    skip: Skip,
 }
 
 // The number that at most four octets make, big-endian.
@@ -80,14 +86,54 @@ fn skip_nets(t: &[u8], count: u8) -> Skip
     }
 }
 
-// Past one distance group: distance, number of nets, nets.
-fn skip_group(t: &[u8]) -> Skip
+// How far the distance group at the front is read: distance, number of nets, nets.
+fn read_group(t: &[u8]) -> Skip
     ensures { λ r. ⌜ ((side gateway : ℕ) → r ≡ skipOf (groupRows side gateway (now (t .entry)))) ⌝ }
 {
     if t.len() < 2 {
         return Skip::Stop(0);
     }
     skip_nets(&t[2..], t[1])
+}
+
+// The nets of the distance group at the front, which was read so far; none where it is bad.
+fn nets_of(t: &[u8], skip: Skip) -> &[u8]
+    requires { ⌜ skip ≡ skipOf (groupRows 0 0 (now t)) ⌝ }
+    ensures { λ r. ⌜ now r ≡ groupNets (now (t .entry)) ⌝ }
+{
+    match skip {
+        Skip::Past { rows: _, left } => {
+            let end = t.len() - left;
+            &t[2..end]
+        }
+        Skip::Stop(_) => &t[..0],
+    }
+}
+
+// The nets of the distance group at the front, uncopied, and whether it is good: a group of no nets is `Past` with
+// 0 rows, a bad one a `Stop`.
+fn group_nets<'a>(t: &'a [u8]) -> Nets<'a>
+    ensures { λ r. ⌜ (now (r .octets) ≡ groupNets (now (t .entry))) × ((side gateway : ℕ) → r .skip ≡ skipOf (groupRows side gateway (now (t .entry)))) ⌝ }
+{
+    let skip = read_group(t);
+    Nets {
+        octets: nets_of(t, skip),
+        skip,
+    }
+}
+
+// How far the group of these nets was read.
+fn reach<'a>(nets: Nets<'a>) -> Skip
+    ensures { λ r. ⌜ r ≡ nets .entry .skip ⌝ }
+{
+    nets.skip
+}
+
+// Past one distance group.
+fn skip_group(t: &[u8]) -> Skip
+    ensures { λ r. ⌜ ((side gateway : ℕ) → r ≡ skipOf (groupRows side gateway (now (t .entry)))) ⌝ }
+{
+    reach(group_nets(t))
 }
 
 // Past the distance groups of one gateway block.
@@ -208,24 +254,13 @@ pub fn walk(net: u32, message: &[u8], room: usize) -> Walked
     judge(end, room, s)
 }
 
-// Where the distance group at the front ends; 0 where it is bad.
-pub fn group_end(t: &[u8]) -> usize
-    ensures { λ r. ⌜ r ≡ groupEnd (now (t .entry)) ⌝ }
+// 01's number for what the walk found.
+pub fn number_of(walked: Walked) -> u8
+    ensures { λ r. ⌜ r ≡ walkedNumber walked ⌝ }
 {
-    let s = skip_group(t);
-    let Skip::Past { rows: _, left } = s else {
-        return 0;
-    };
-    t.len() - left
-}
-
-// The nets of the distance group at the front, as a part of the octets; none where the group is bad.
-pub fn group_nets(t: &[u8]) -> &[u8]
-    ensures { λ r. ⌜ now r ≡ groupNets (now (t .entry)) ⌝ }
-{
-    let end = group_end(t);
-    if end < 2 {
-        return &t[..0];
+    match walked {
+        Walked::Rows(_) => 0,
+        Walked::Broken(_) => 14,
+        Walked::TooMany => 15,
     }
-    &t[2..end]
 }

@@ -7,7 +7,6 @@ use Rattle.codec.proofs.read_update.Statement.{statement}
 use Rattle.codec.proofs.read_update.Tie as tie
 use Rattle.codec.proofs.read_update.Reads as reads
 use Rattle.codec.proofs.read_update.Lts as lts
-use Rattle.codec.proofs.body_number.Reads as body-number-reads
 use Rattle.codec.proofs.refuse.Reads as refuse-reads
 use Rattle.rows.proofs.store_rows.Reads as store-rows-reads
 use Rattle.walk.proofs.walk.Reads as walk-reads
@@ -21,8 +20,8 @@ enum-known-walked : tie.Need-enum-known-walked
 enum-known-walked c = search needs
 
 -- src/lib.rt:166:23
-body-number-requires : tie.Need-body-number-requires
-body-number-requires c κs = search needs
+number-of-requires : tie.Need-number-of-requires
+number-of-requires c κs = search needs
 
 -- src/lib.rt:166:9
 refuse-requires : tie.Need-refuse-requires
@@ -30,7 +29,7 @@ refuse-requires c κs = search needs
 
 -- src/lib.rt:166:9
 returns : tie.Need-returns
-returns c = c .refuse .ensures ∙ ap refusal (c .before .body-number .ensures) ∙ update-refused _ _ _ _ (c .before .before .before .walk .ensures) (c .before .before .match .keys2)
+returns c = c .refuse .ensures ∙ ap refusal (c .before .number-of .ensures) ∙ update-refused _ _ _ _ (c .before .before .before .walk .ensures) (c .before .before .match .keys2)
 
 -- src/lib.rt:169:22
 slice-aggregate-store-rows : tie.Need-slice-aggregate-store-rows
@@ -54,7 +53,7 @@ read-update-spec =
     (tie.spec
     walk-requires
     enum-known-walked
-    body-number-requires
+    number-of-requires
     refuse-requires
     returns
     slice-aggregate-store-rows

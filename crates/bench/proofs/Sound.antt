@@ -15,7 +15,7 @@ use Rattle.codec.specs.declared.Meaning.{Meaning}
 use Rattle.codec.specs.declared.Meaning.the-variants.{Good, Refused}
 use Rattle.codec.specs.declared.Reading.{Reading}
 use Rattle.codec.specs.Reading.{readOf}
-use Rattle.codec.specs.Octets.{octetsOf}
+use Rattle.writing.specs.Octets.{octetsOf}
 use Rattle.codec.specs.Writing.{writable}
 use Rattle.neighbour.specs.declared.Phase.{Phase}
 use Rattle.neighbour.specs.declared.Phase.the-variants as Phase

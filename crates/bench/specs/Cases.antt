@@ -10,7 +10,7 @@ use Rattle.rows.specs.Storing.{padded}
 use Rattle.codec.specs.declared.Meaning.the-variants.{Good, Refused}
 use Rattle.codec.specs.declared.Reading.{Reading}
 use Rattle.codec.specs.Reading.{mostNumbers, readOf}
-use Rattle.codec.specs.Octets.{octetsOf}
+use Rattle.writing.specs.Octets.{octetsOf}
 use Rattle.codec.specs.Writing.{writable}
 use Rattle.neighbour.specs.declared.Settings.{Settings}
 use Rattle.neighbour.specs.declared.Neighbour.{Neighbour}

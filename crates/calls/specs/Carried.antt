@@ -5,7 +5,7 @@ use lib.ListN.{length, take, drop}
 use Rattle.octets.specs.Buffer.{over}
 use Rattle.nets.specs.Rows.{Row, rowsOf, flat}
 use Rattle.message.specs.declared.Message.{Message}
-use Rattle.codec.specs.Octets.{octetsOf}
+use Rattle.writing.specs.Octets.{octetsOf}
 use Rattle.codec.specs.Reading.{mostNumbers}
 use Rattle.rows.specs.Storing.{zeros, padded}
 use Rattle.machine.specs.declared.Reply.{Reply}

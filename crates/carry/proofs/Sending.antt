@@ -14,9 +14,9 @@ use Rattle.octets.proofs.Laws.{over-length, over-nothing}
 use Rattle.nets.specs.Rows.{rowsOf}
 use Rattle.message.specs.declared.Message.{Message}
 use Rattle.message.specs.declared.Message.the-variants.{Request, Confirm, Refuse, Cease, CeaseAck, Hello, IHeardYou, Poll, Update, Error}
-use Rattle.codec.specs.Octets.{octetsOf}
-use Rattle.codec.specs.Writing.{rowsFit, roomFor}
-use Rattle.codec.proofs.Laws.{octets-fit, room-most}
+use Rattle.writing.specs.Octets.{octetsOf}
+use Rattle.writing.specs.Room.{rowsFit, roomFor}
+use Rattle.writing.proofs.Laws.{octets-fit, room-most}
 use Rattle.machine.specs.declared.Reply.{Reply}
 use Rattle.machine.specs.declared.Reply.the-variants.{Nothing, One, Two}
 use Rattle.calls.specs.Carried.{firstOctets, secondOctets, replyOctets, bufferAfter}

@@ -7,7 +7,7 @@ use lib.ListN.{length}
 use Rattle.nets.specs.Rows.{Row}
 use Rattle.message.specs.declared.Message.{Message}
 use Rattle.walk.specs.Body.{UpdateRead, accepted, brokenAt, tooMany}
-use Rattle.codec.specs.Writing.{rowsFit, roomFor}
+use Rattle.writing.specs.Room.{rowsFit, roomFor}
 use Rattle.machine.specs.declared.Reply.{Reply}
 use Rattle.machine.specs.declared.Reply.the-variants.{Nothing, One, Two}
 use Rattle.calls.specs.declared.Effect.{Effect}

@@ -33,15 +33,15 @@ fn send(buffer: &mut [u8], reply: Reply, home: &[u32]) -> Lengths
             second: 0,
         },
         Reply::One(m) => {
-            let first = codec::write_message(buffer, m, home);
+            let first = writing::write_message(buffer, m, home);
             Lengths {
                 first: first as u16,
                 second: 0,
             }
         }
         Reply::Two(m, next) => {
-            let first = codec::write_message(buffer, m, home);
-            let second = codec::write_message(&mut buffer[first..], next, home);
+            let first = writing::write_message(buffer, m, home);
+            let second = writing::write_message(&mut buffer[first..], next, home);
             Lengths {
                 first: first as u16,
                 second: second as u16,

@@ -18,9 +18,9 @@ use Rattle.message.specs.declared.Message.the-variants as M
 use Rattle.wire.specs.Reading.{statusAt}
 use Rattle.blocks.specs.Blocks.{sideOf}
 use Rattle.blocks.specs.Writable.{writableRow, ordered, writableRows, writableNumbers}
-use Rattle.codec.specs.Octets.{octetsOf}
-use Rattle.codec.specs.Writing.{rowsFit, roomFor}
-use Rattle.codec.proofs.Laws.{octets-fit, room-most}
+use Rattle.writing.specs.Octets.{octetsOf}
+use Rattle.writing.specs.Room.{rowsFit, roomFor}
+use Rattle.writing.proofs.Laws.{octets-fit, room-most}
 use Rattle.neighbour.specs.declared.Settings.{Settings}
 use Rattle.neighbour.specs.declared.Neighbour.{Neighbour}
 use Rattle.neighbour.specs.Record.{isIdle, acquired}

@@ -3,17 +3,10 @@ use message::Message;
 use walk::Walked;
 use wire::Decoded;
 ghost use mathlib.Core.Path.{_≡_};
-ghost use mathlib.Core.Bool.{true};
-ghost use Prim.Native.Nat.{_≤_};
-ghost use lib.ListN.{length};
 ghost use Rattle.octets.specs.Buffer.{over};
-ghost use Rattle.nets.specs.Classes.{goodNet};
-ghost use Rattle.nets.specs.Rows.{rowsOf};
-ghost use Rattle.blocks.specs.Writable.{writableNumbers};
 ghost use Rattle.walk.specs.Body.{updateOf};
 ghost use Rattle.codec.specs.Reading.{most, refusal, updateReading, meaningReading, readOf};
-ghost use Rattle.codec.specs.Octets.{updateOctets, octetsOf};
-ghost use Rattle.codec.specs.Writing.{rowsFit, roomFor, rowsAllowed, writable, writeOf, writeOctets};
+ghost use Rattle.codec.specs.Writing.{rowsAllowed, writable, writeOf, writeOctets};
 
 // What reading alone finds: the message, or 01's number.
 pub enum Meaning {
@@ -32,54 +25,6 @@ pub struct Reading {
 pub struct Written {
     pub answer: u8,
     pub length: u16,
-}
-
-// Writes an Update at the front of the buffer, its rows given as numbers, three a row, and says how long it is.
-fn write_update(
-    buffer: &mut [u8],
-    asn: u16,
-    sequence: u16,
-    status: u8,
-    net: u32,
-    rows: &[u32],
-) -> usize
-    requires { ⌜ (goodNet net ≡ true) × (writableNumbers net (now rows) ≡ true) ⌝ }
-    requires { ⌜ 1168 ≤ length (now buffer) ⌝ }
-    ensures { λ r. ⌜ r ≡ length (updateOctets asn sequence status net (rowsOf (now (rows .entry)))) ⌝ }
-    ensures { λ _. ⌜ now (buffer .exit) ≡ over (updateOctets asn sequence status net (rowsOf (now (rows .entry)))) (now (buffer .entry)) ⌝ }
-{
-    let blocks = blocks::write_blocks(buffer, 16, net, rows);
-    fixed::store_head(
-        buffer,
-        blocks.internal,
-        blocks.external,
-        asn,
-        sequence,
-        status,
-        net,
-    );
-    let end = blocks.end;
-    octets::seal(&mut buffer[..end]);
-    end
-}
-
-// Writes a message at the front of the buffer, an Update with these rows, and says how long it is. What may be written is judged above.
-pub fn write_message(buffer: &mut [u8], message: Message, rows: &[u32]) -> usize
-    requires { ⌜ rowsFit message (now rows) ≡ true ⌝ }
-    requires { ⌜ roomFor message ≤ length (now buffer) ⌝ }
-    ensures { λ r. ⌜ r ≡ length (octetsOf message (rowsOf (now (rows .entry)))) ⌝ }
-    ensures { λ _. ⌜ now (buffer .exit) ≡ over (octetsOf message (rowsOf (now (rows .entry)))) (now (buffer .entry)) ⌝ }
-{
-    if let Message::Update {
-        asn,
-        sequence,
-        status,
-        net,
-    } = message {
-        write_update(buffer, asn, sequence, status, net, rows)
-    } else {
-        fixed::write_fixed(buffer, message)
-    }
 }
 
 // Whether these rows may stand beside a message.
@@ -127,7 +72,7 @@ pub fn write(buffer: &mut [u8], message: Message, rows: &[u32]) -> Written
             length: 0,
         };
     }
-    let length = write_message(buffer, message, rows);
+    let length = writing::write_message(buffer, message, rows);
     Written {
         answer: 0,
         length: length as u16,

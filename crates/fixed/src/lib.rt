@@ -1,110 +1,55 @@
-// The messages of a fixed length, and an Update's head, written.
+// The messages of a fixed length, and an Update's head, written at the front of a lent buffer.
 use message::Kind;
-use message::Message;
 ghost use mathlib.Core.Path.{_≡_};
+ghost use mathlib.Core.List.{[], _∷_, _++_};
 ghost use Prim.Native.Nat.{_≤_};
-ghost use lib.ListN.{length};
+ghost use lib.ListN.{length, take, drop};
 ghost use Rattle.octets.specs.Buffer.{over};
 ghost use Rattle.octets.specs.Checksum.{sealed};
 ghost use Rattle.octets.specs.Numbers.{octets16, octets32};
-ghost use Rattle.fixed.specs.Writing.{headed, headOf, fixedOctets};
-ghost use Rattle.message.specs.declared.Kind.the-variants.{Error};
-ghost use mathlib.Core.List.{[], _∷_};
+ghost use Rattle.fixed.specs.Writing.{headed, headOf};
+ghost use Rattle.message.specs.declared.Kind.the-variants.{Poll, Error};
 
-// Writes a message at the front of the buffer, and says how long it is. An Update is written with no rows.
-pub fn write_fixed(buffer: &mut [u8], message: Message) -> usize
-    requires { ⌜ 24 ≤ length (now buffer) ⌝ }
-    ensures { λ r. ⌜ r ≡ length (fixedOctets message) ⌝ }
-    ensures { λ _. ⌜ now (buffer .exit) ≡ over (fixedOctets message) (now (buffer .entry)) ⌝ }
+// The header of every message, its checksum not yet filled in.
+fn header(kind: Kind, asn: u16, sequence: u16, status: u8) -> [u8; 10]
+    ensures { λ r. ⌜ r ≡ headed kind asn sequence status [] ⌝ }
 {
-    match message {
-        Message::Request {
-            asn,
-            sequence,
-            status,
-            hello,
-            poll,
-        } => write_intervals(buffer, Kind::Request, asn, sequence, status, hello, poll),
-        Message::Confirm {
-            asn,
-            sequence,
-            status,
-            hello,
-            poll,
-        } => write_intervals(buffer, Kind::Confirm, asn, sequence, status, hello, poll),
-        Message::Refuse {
-            asn,
-            sequence,
-            status,
-        } => write_short(buffer, Kind::Refuse, asn, sequence, status),
-        Message::Cease {
-            asn,
-            sequence,
-            status,
-        } => write_short(buffer, Kind::Cease, asn, sequence, status),
-        Message::CeaseAck {
-            asn,
-            sequence,
-            status,
-        } => write_short(buffer, Kind::CeaseAck, asn, sequence, status),
-        Message::Hello {
-            asn,
-            sequence,
-            status,
-        } => write_short(buffer, Kind::Hello, asn, sequence, status),
-        Message::IHeardYou {
-            asn,
-            sequence,
-            status,
-        } => write_short(buffer, Kind::IHeardYou, asn, sequence, status),
-        Message::Poll {
-            asn,
-            sequence,
-            status,
-            net,
-        } => write_net(buffer, Kind::Poll, asn, sequence, status, net),
-        Message::Update {
-            asn,
-            sequence,
-            status,
-            net,
-        } => write_net(buffer, Kind::Update, asn, sequence, status, net),
-        Message::Error {
-            asn,
-            sequence,
-            status,
-            reason,
-            first,
-            second,
-            third,
-        } => write_error(buffer, asn, sequence, status, reason, first, second, third),
-    }
-}
-
-// A message of ten octets: nothing but the header.
-fn write_short(buffer: &mut [u8], kind: Kind, asn: u16, sequence: u16, status: u8) -> usize
-    requires { ⌜ 24 ≤ length (now buffer) ⌝ }
-    ensures { λ r. ⌜ r ≡ 10 ⌝ }
-    ensures { λ _. ⌜ now (buffer .exit) ≡ over (sealed (headed kind asn sequence status [])) (now (buffer .entry)) ⌝ }
-{
-    let mut octets = [
+    [
         2,
         message::type_of(kind),
         message::code_of(kind),
         status,
         0,
         0,
-        (asn / 256 % 256) as u8,
-        (asn % 256) as u8,
-        (sequence / 256 % 256) as u8,
-        (sequence % 256) as u8,
-    ];
-    octets::seal(&mut octets);
-    octets::store(buffer, &octets)
+        split::high(asn),
+        split::low(asn),
+        split::high(sequence),
+        split::low(sequence),
+    ]
+}
+
+// Fills in the checksum of the message in the first octets of the buffer, and says how many they are.
+pub fn seal_front(buffer: &mut [u8], end: usize) -> usize
+    requires { ⌜ end ≤ length (now buffer) ⌝ }
+    ensures { λ r. ⌜ r ≡ end ⌝ }
+    ensures { λ _. ⌜ now (buffer .exit) ≡ sealed (take end (now (buffer .entry))) ++ drop end (now (buffer .entry)) ⌝ }
+{
+    octets::seal(&mut buffer[..end]);
+    end
+}
+
+// A message of ten octets: nothing but the header.
+pub fn write_short(buffer: &mut [u8], kind: Kind, asn: u16, sequence: u16, status: u8) -> usize
+    requires { ⌜ 10 ≤ length (now buffer) ⌝ }
+    ensures { λ r. ⌜ r ≡ 10 ⌝ }
+    ensures { λ _. ⌜ now (buffer .exit) ≡ over (sealed (headed kind asn sequence status [])) (now (buffer .entry)) ⌝ }
+{
+    octets::store(buffer, &header(kind, asn, sequence, status));
+    seal_front(buffer, 10)
 }
 
 // A message of fourteen octets: the header and the two intervals.
-fn write_intervals(
+pub fn write_intervals(
     buffer: &mut [u8],
     kind: Kind,
     asn: u16,
@@ -113,60 +58,30 @@ fn write_intervals(
     hello: u16,
     poll: u16,
 ) -> usize
-    requires { ⌜ 24 ≤ length (now buffer) ⌝ }
+    requires { ⌜ 14 ≤ length (now buffer) ⌝ }
     ensures { λ r. ⌜ r ≡ 14 ⌝ }
     ensures { λ _. ⌜ now (buffer .exit) ≡ over (sealed (headed kind asn sequence status (octets16 hello (octets16 poll [])))) (now (buffer .entry)) ⌝ }
 {
-    let mut octets = [
-        2,
-        message::type_of(kind),
-        message::code_of(kind),
-        status,
-        0,
-        0,
-        (asn / 256 % 256) as u8,
-        (asn % 256) as u8,
-        (sequence / 256 % 256) as u8,
-        (sequence % 256) as u8,
-        (hello / 256 % 256) as u8,
-        (hello % 256) as u8,
-        (poll / 256 % 256) as u8,
-        (poll % 256) as u8,
-    ];
-    octets::seal(&mut octets);
-    octets::store(buffer, &octets)
+    octets::store(buffer, &header(kind, asn, sequence, status));
+    octets::put16(buffer, 10, hello);
+    octets::put16(buffer, 12, poll);
+    seal_front(buffer, 14)
 }
 
-// A message of sixteen octets: the header, two octets of 0 and a net.
-fn write_net(buffer: &mut [u8], kind: Kind, asn: u16, sequence: u16, status: u8, net: u32) -> usize
-    requires { ⌜ 24 ≤ length (now buffer) ⌝ }
+// A Poll, of sixteen octets: the header, two octets of 0 and a net.
+pub fn write_poll(buffer: &mut [u8], asn: u16, sequence: u16, status: u8, net: u32) -> usize
+    requires { ⌜ 16 ≤ length (now buffer) ⌝ }
     ensures { λ r. ⌜ r ≡ 16 ⌝ }
-    ensures { λ _. ⌜ now (buffer .exit) ≡ over (sealed (headed kind asn sequence status (0 ∷ 0 ∷ octets32 net []))) (now (buffer .entry)) ⌝ }
+    ensures { λ _. ⌜ now (buffer .exit) ≡ over (sealed (headed Poll asn sequence status (0 ∷ 0 ∷ octets32 net []))) (now (buffer .entry)) ⌝ }
 {
-    let mut octets = [
-        2,
-        message::type_of(kind),
-        message::code_of(kind),
-        status,
-        0,
-        0,
-        (asn / 256 % 256) as u8,
-        (asn % 256) as u8,
-        (sequence / 256 % 256) as u8,
-        (sequence % 256) as u8,
-        0,
-        0,
-        (net / 16777216 % 256) as u8,
-        (net / 65536 % 256) as u8,
-        (net / 256 % 256) as u8,
-        (net % 256) as u8,
-    ];
-    octets::seal(&mut octets);
-    octets::store(buffer, &octets)
+    octets::store(buffer, &header(Kind::Poll, asn, sequence, status));
+    octets::put16(buffer, 10, 0);
+    octets::put32(buffer, 12, net);
+    seal_front(buffer, 16)
 }
 
-// A message of twenty-four octets: the header, a reason and three words.
-fn write_error(
+// An Error, of twenty-four octets: the header, a reason and three words.
+pub fn write_error(
     buffer: &mut [u8],
     asn: u16,
     sequence: u16,
@@ -180,34 +95,12 @@ fn write_error(
     ensures { λ r. ⌜ r ≡ 24 ⌝ }
     ensures { λ _. ⌜ now (buffer .exit) ≡ over (sealed (headed Error asn sequence status (octets16 reason (octets32 first (octets32 second (octets32 third [])))))) (now (buffer .entry)) ⌝ }
 {
-    let mut octets = [
-        2,
-        8,
-        0,
-        status,
-        0,
-        0,
-        (asn / 256 % 256) as u8,
-        (asn % 256) as u8,
-        (sequence / 256 % 256) as u8,
-        (sequence % 256) as u8,
-        (reason / 256 % 256) as u8,
-        (reason % 256) as u8,
-        (first / 16777216 % 256) as u8,
-        (first / 65536 % 256) as u8,
-        (first / 256 % 256) as u8,
-        (first % 256) as u8,
-        (second / 16777216 % 256) as u8,
-        (second / 65536 % 256) as u8,
-        (second / 256 % 256) as u8,
-        (second % 256) as u8,
-        (third / 16777216 % 256) as u8,
-        (third / 65536 % 256) as u8,
-        (third / 256 % 256) as u8,
-        (third % 256) as u8,
-    ];
-    octets::seal(&mut octets);
-    octets::store(buffer, &octets)
+    octets::store(buffer, &header(Kind::Error, asn, sequence, status));
+    octets::put16(buffer, 10, reason);
+    octets::put32(buffer, 12, first);
+    octets::put32(buffer, 16, second);
+    octets::put32(buffer, 20, third);
+    seal_front(buffer, 24)
 }
 
 // Stores an Update's head, with the numbers of its internal and external blocks; its checksum waits for the blocks.
@@ -219,28 +112,12 @@ pub fn store_head(
     sequence: u16,
     status: u8,
     net: u32,
-) -> usize
+)
     requires { ⌜ 16 ≤ length (now buffer) ⌝ }
-    ensures { λ r. ⌜ r ≡ 16 ⌝ }
     ensures { λ _. ⌜ now (buffer .exit) ≡ over (headOf internal external asn sequence status net) (now (buffer .entry)) ⌝ }
 {
-    let octets = [
-        2,
-        1,
-        0,
-        status,
-        0,
-        0,
-        (asn / 256 % 256) as u8,
-        (asn % 256) as u8,
-        (sequence / 256 % 256) as u8,
-        (sequence % 256) as u8,
-        internal,
-        external,
-        (net / 16777216 % 256) as u8,
-        (net / 65536 % 256) as u8,
-        (net / 256 % 256) as u8,
-        (net % 256) as u8,
-    ];
-    octets::store(buffer, &octets)
+    octets::store(buffer, &header(Kind::Update, asn, sequence, status));
+    buffer[10] = internal;
+    buffer[11] = external;
+    octets::put32(buffer, 12, net);
 }

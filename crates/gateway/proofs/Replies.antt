@@ -19,7 +19,7 @@ use Rattle.calls.specs.declared.Effect.{Effect}
 use Rattle.calls.specs.declared.Verdict.{Verdict}
 use Rattle.calls.specs.Verdict.{effectOf, stepped, refuses, headAt, errorTo, refuseTo, updateVerdict, carriedOut, phaseVerdict, bodyVerdict, kindVerdict, receiveVerdict}
 use Rattle.blocks.specs.Writable.{writableNumbers}
-use Rattle.codec.specs.Writing.{rowsFit, roomFor}
+use Rattle.writing.specs.Room.{rowsFit, roomFor}
 use Rattle.neighbour.specs.declared.Phase.{Phase}
 use Rattle.neighbour.specs.declared.Settings.{Settings}
 use Rattle.neighbour.specs.declared.Neighbour.{Neighbour}

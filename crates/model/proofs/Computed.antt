@@ -22,7 +22,7 @@ use Rattle.machine.specs.Table as Table
 use Rattle.machine.specs.Tick as Tick
 use Rattle.machine.specs.Step as Step
 use Rattle.checks.specs.Lists as Lists
-use Rattle.codec.specs.Octets as Octets
+use Rattle.writing.specs.Octets as Octets
 use Rattle.calls.specs.Home as Home
 use Rattle.model.specs.Model as Model
 use Rattle.model.specs.Model.{tick, free, used, step, modelFrom, empty}
@@ -114,7 +114,7 @@ pub record Computed : Type 0 where
   pub lost : History.isUpSlot (Model.slotIn (modelFrom justUp (slow 2 2)) 0) ≡ false
 
 pub computed : Computed
-unfolding someSettings lent classA ticks saysHello reporting eight polled almostUp slow justUp History.isUpSlot History.saysUpdate History.accepts History.rowsSaid Theorem.cell Windows.isIndication Windows.isEvaluation Windows.isRestart Windows.recordIn Windows.saidEvent Windows.doneFor Windows.eventFor Windows.holdsOf Windows.brings restartsNone windows latest atRest alone eightSlots Model.empty Model.slotIn Model.put Model.isFree Model.hasAddress Model.index Model.placeOf Model.isPresent Model.vacancy Model.silent Model.spoken Model.whenOk Model.addable Model.addAnswer Model.addTurn Model.noMove Model.rowsIn Model.moved Model.noOctets Model.eventMove Model.bodyAnswer Model.isUpdate Model.kindAnswer Model.answerTo Model.firstTwelve Model.errorReply Model.refuseReply Model.refusalReply Model.afterMessage Model.rowsAfter Model.messageMove Model.eventAnswer Model.messageAnswer Model.turnAt Model.eventTurn Model.messageTurn Model.step Model.modelFrom Model.model check Wire.headerAnswer Wire.meaningOf Wire.decodeAs Wire.decodeOf Wire.numberOf Writing.headOf Writing.plainOctets Writing.fixedOctets Body.digits Body.many Body.leftJustified Body.rowOfWidth Body.netRow Body.groupRows Body.hostWidth Body.gatewayOf Body.blockRows Body.groupAt Body.blockAt Body.sidesAt Body.groupsHold Body.blocksHold Body.sidesHold Body.readAs Body.bothSides Body.nothingLeft Body.bodyOf Body.further Body.netAt Body.blocksOf Body.judged Body.updateOf Body.numberOf Body.rowsRead Blocks.sideRows Blocks.joined Blocks.runs Blocks.each Blocks.addressOctets Blocks.netOctets Blocks.hostOctets Blocks.netsOctets Blocks.groupOctets Blocks.groupsOctets Blocks.blockOctets Blocks.sideOctets Blocks.blocksOf Blocks.internalBlocks Blocks.externalBlocks Record.under Record.withNumbers Record.withTimers Record.withReach Record.idle Record.leftIdle Record.waiting Record.initialised Record.heardFrom Record.shifted Record.enterUp Record.leaveUp Record.polled Rules.inSequence Rules.commanded Rules.indicates Rules.noted Rules.helloInterval Rules.pollInterval Rules.unacceptable Rules.modeOf Rules.offerOf Rules.onesOf Rules.goesUp Rules.goesDown Rules.judged Table.followed Table.quiet Table.answers Table.says Table.helloIf Table.doesA Table.doesB Table.ceases Table.repeatsCease Table.acquires Table.stray Table.onRequest Table.settles Table.onConfirm Table.onRefuse Table.onCease Table.onCeaseAck Table.onHello Table.onIHeardYou Table.answersPoll Table.onPoll Table.onUpdate Table.onStart Table.onStop Tick.expired Tick.repeats Tick.listens Tick.polls Tick.pollsOnEntry Tick.takesT2 Tick.pollsInUp Tick.runs Tick.onTick Step.onMessage Step.stepOf Kinds.kindAt Kinds.plainStatus Kinds.refusalStatus Kinds.markedStatus Checksum.onesAdd Checksum.onesSum Checksum.checksumOf Checksum.sealed Checksum.wordTotal Checksum.folded Classes.netWidth Classes.hostSpan Classes.goodNet Classes.onNet Home.homeRow Home.ownFirst Home.goodHome Octets.updateOctets Octets.octetsOf Rows.flat Rows.rowsOf Storing.zeros Storing.padded Storing.isWhole Storing.rowsIn Storing.isGot Storing.gotRows Storing.gotRest Lists.first Lists.every Lists.distinct Lists.join
+unfolding someSettings lent classA ticks saysHello reporting eight polled almostUp slow justUp History.isUpSlot History.saysUpdate History.accepts History.rowsSaid Theorem.cell Windows.isIndication Windows.isEvaluation Windows.isRestart Windows.recordIn Windows.saidEvent Windows.doneFor Windows.eventFor Windows.holdsOf Windows.brings restartsNone windows latest atRest alone eightSlots Model.empty Model.slotIn Model.put Model.isFree Model.hasAddress Model.index Model.placeOf Model.isPresent Model.vacancy Model.silent Model.spoken Model.whenOk Model.addable Model.addAnswer Model.addTurn Model.noMove Model.rowsIn Model.moved Model.noOctets Model.eventMove Model.bodyAnswer Model.isUpdate Model.kindAnswer Model.answerTo Model.firstTwelve Model.errorReply Model.refuseReply Model.refusalReply Model.afterMessage Model.rowsAfter Model.messageMove Model.eventAnswer Model.messageAnswer Model.turnAt Model.eventTurn Model.messageTurn Model.step Model.modelFrom Model.model check Wire.headerAnswer Wire.meaningOf Wire.decodeAs Wire.decodeOf Wire.numberOf Writing.headOf Octets.plainOctets Body.digits Body.many Body.leftJustified Body.rowOfWidth Body.netRow Body.groupRows Body.hostWidth Body.gatewayOf Body.blockRows Body.groupAt Body.blockAt Body.sidesAt Body.groupsHold Body.blocksHold Body.sidesHold Body.readAs Body.bothSides Body.nothingLeft Body.bodyOf Body.further Body.netAt Body.blocksOf Body.judged Body.updateOf Body.numberOf Body.rowsRead Blocks.sideRows Blocks.joined Blocks.runs Blocks.each Blocks.addressOctets Blocks.netOctets Blocks.hostOctets Blocks.netsOctets Blocks.groupOctets Blocks.groupsOctets Blocks.blockOctets Blocks.sideOctets Blocks.blocksOf Blocks.internalBlocks Blocks.externalBlocks Record.under Record.withNumbers Record.withTimers Record.withReach Record.idle Record.leftIdle Record.waiting Record.initialised Record.heardFrom Record.shifted Record.enterUp Record.leaveUp Record.polled Rules.inSequence Rules.commanded Rules.indicates Rules.noted Rules.helloInterval Rules.pollInterval Rules.unacceptable Rules.modeOf Rules.offerOf Rules.onesOf Rules.goesUp Rules.goesDown Rules.judged Table.followed Table.quiet Table.answers Table.says Table.helloIf Table.doesA Table.doesB Table.ceases Table.repeatsCease Table.acquires Table.stray Table.onRequest Table.settles Table.onConfirm Table.onRefuse Table.onCease Table.onCeaseAck Table.onHello Table.onIHeardYou Table.answersPoll Table.onPoll Table.onUpdate Table.onStart Table.onStop Tick.expired Tick.repeats Tick.listens Tick.polls Tick.pollsOnEntry Tick.takesT2 Tick.pollsInUp Tick.runs Tick.onTick Step.onMessage Step.stepOf Kinds.kindAt Kinds.plainStatus Kinds.refusalStatus Kinds.markedStatus Checksum.onesAdd Checksum.onesSum Checksum.checksumOf Checksum.sealed Checksum.wordTotal Checksum.folded Classes.netWidth Classes.hostSpan Classes.goodNet Classes.onNet Home.homeRow Home.ownFirst Home.goodHome Octets.octetsOf Rows.flat Rows.rowsOf Storing.zeros Storing.padded Storing.isWhole Storing.rowsIn Storing.isGot Storing.gotRows Storing.gotRest Lists.first Lists.every Lists.distinct Lists.join
 computed =
     record {
       all-up = refl;

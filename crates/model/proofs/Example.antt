@@ -24,8 +24,8 @@ use Rattle.fixed.specs.Writing as Writing
 use Rattle.wire.specs.declared.Decoded.the-variants as D
 use Rattle.walk.specs.Body as Body
 use Rattle.blocks.specs.Blocks as Blocks
-use Rattle.codec.specs.Octets as Octets
-use Rattle.codec.specs.Octets.{octetsOf}
+use Rattle.writing.specs.Octets as Octets
+use Rattle.writing.specs.Octets.{octetsOf}
 use Rattle.neighbour.specs.declared.Mode.the-variants.{Passive}
 use Rattle.neighbour.specs.declared.Settings.{Settings}
 use Rattle.neighbour.specs.declared.Neighbour.{Neighbour}
@@ -151,7 +151,7 @@ pub record ReadBack : Type 0 where
   pub body : Body.updateOf 128 2148073472 (octetsOf (Update 7 0 1 2148073472) (classA 10 1)) ≡ Body.accepted (classA 10 1)
 
 read-back : ReadBack
-unfolding check Wire.headerAnswer Wire.meaningOf Wire.decodeAs Wire.decodeOf Wire.numberOf Writing.headOf Writing.plainOctets Writing.fixedOctets Blocks.sideRows Blocks.joined Blocks.runs Blocks.each Blocks.addressOctets Blocks.netOctets Blocks.hostOctets Blocks.netsOctets Blocks.groupOctets Blocks.groupsOctets Blocks.blockOctets Blocks.sideOctets Blocks.blocksOf Blocks.internalBlocks Blocks.externalBlocks Kinds.kindAt Kinds.plainStatus Kinds.refusalStatus Kinds.markedStatus Checksum.onesAdd Checksum.onesSum Checksum.checksumOf Checksum.sealed Checksum.wordTotal Checksum.folded Octets.updateOctets Octets.octetsOf Classes.netWidth Classes.hostSpan Classes.goodNet Classes.onNet Body.digits Body.many Body.leftJustified Body.rowOfWidth Body.netRow Body.groupRows Body.hostWidth Body.gatewayOf Body.blockRows Body.groupAt Body.blockAt Body.sidesAt Body.groupsHold Body.blocksHold Body.sidesHold Body.readAs Body.bothSides Body.nothingLeft Body.bodyOf Body.further Body.netAt Body.blocksOf Body.judged Body.updateOf Body.numberOf Body.rowsRead classA someSettings join
+unfolding check Wire.headerAnswer Wire.meaningOf Wire.decodeAs Wire.decodeOf Wire.numberOf Writing.headOf Octets.plainOctets Blocks.sideRows Blocks.joined Blocks.runs Blocks.each Blocks.addressOctets Blocks.netOctets Blocks.hostOctets Blocks.netsOctets Blocks.groupOctets Blocks.groupsOctets Blocks.blockOctets Blocks.sideOctets Blocks.blocksOf Blocks.internalBlocks Blocks.externalBlocks Kinds.kindAt Kinds.plainStatus Kinds.refusalStatus Kinds.markedStatus Checksum.onesAdd Checksum.onesSum Checksum.checksumOf Checksum.sealed Checksum.wordTotal Checksum.folded Octets.octetsOf Classes.netWidth Classes.hostSpan Classes.goodNet Classes.onNet Body.digits Body.many Body.leftJustified Body.rowOfWidth Body.netRow Body.groupRows Body.hostWidth Body.gatewayOf Body.blockRows Body.groupAt Body.blockAt Body.sidesAt Body.groupsHold Body.blocksHold Body.sidesHold Body.readAs Body.bothSides Body.nothingLeft Body.bodyOf Body.further Body.netAt Body.blocksOf Body.judged Body.updateOf Body.numberOf Body.rowsRead classA someSettings join
 read-back =
     record {
       cease = record { header = refl; from = refl; meaning = refl };

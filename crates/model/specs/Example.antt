@@ -9,7 +9,7 @@ use lib.ListN.{length}
 use Rattle.nets.specs.Rows.{Row}
 use Rattle.rows.specs.Storing.{zeros}
 use Rattle.message.specs.declared.Message.the-variants.{Request, Cease, Hello, Update}
-use Rattle.codec.specs.Octets.{octetsOf}
+use Rattle.writing.specs.Octets.{octetsOf}
 use Rattle.neighbour.specs.declared.Settings.{Settings}
 use Rattle.neighbour.specs.Rules.{onesOf, goesDown}
 use Rattle.model.specs.Model.{Call, add, tick, receive, model}

@@ -14,7 +14,7 @@ use Rattle.wire.specs.Reading.{headerAnswer, asnAt, statusAt, sequenceAt, decod
 use Rattle.wire.specs.declared.Decoded.{Decoded}
 use Rattle.wire.specs.declared.Decoded.the-variants as D
 use Rattle.walk.specs.Body.{UpdateRead, accepted, brokenAt, tooMany, updateOf, rowsRead}
-use Rattle.codec.specs.Octets.{octetsOf}
+use Rattle.writing.specs.Octets.{octetsOf}
 use Rattle.neighbour.specs.declared.Phase.{Phase}
 use Rattle.neighbour.specs.declared.Settings.{Settings}
 use Rattle.neighbour.specs.declared.Neighbour.{Neighbour}

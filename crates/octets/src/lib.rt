@@ -1,21 +1,23 @@
 // Octets: big-endian numbers, the one's complement checksum, and storing octets at the front of a lent buffer.
 ghost use mathlib.Core.Path.{_≡_};
 ghost use Prim.Native.Nat.{_+_, _/_, _%_, _<_, _≤_};
+ghost use mathlib.Core.List.{[]};
 ghost use lib.ListN.{length, getD, drop};
-ghost use Rattle.octets.specs.Numbers.{pairOf, quadOf, word16, word32};
+ghost use lib.Seq.{sets};
+ghost use Rattle.octets.specs.Numbers.{pairOf, quadOf, word16, word32, octets16, octets32};
 ghost use Rattle.octets.specs.Buffer.{over};
 ghost use Rattle.octets.specs.Checksum.{checksumOf, sealed, folded};
 ghost use Rattle.octets.specs.Wide.{wideTotal, roomy};
 
 // The 16-bit number whose octets are a and b.
-pub fn pair(a: u8, b: u8) -> u16
+fn pair(a: u8, b: u8) -> u16
     ensures { λ r. ⌜ r ≡ pairOf a b ⌝ }
 {
     a as u16 * 256 + b as u16
 }
 
 // The 32-bit number whose octets are a, b, c and d.
-pub fn quad(a: u8, b: u8, c: u8, d: u8) -> u32
+fn quad(a: u8, b: u8, c: u8, d: u8) -> u32
     ensures { λ r. ⌜ r ≡ quadOf a b c d ⌝ }
 {
     ((a as u32 * 256 + b as u32) * 256 + c as u32) * 256 + d as u32
@@ -32,24 +34,58 @@ pub fn octet(octets: &[u8], i: usize) -> u8
 }
 
 // The 16-bit number at index i, octets past the end read as 0.
-pub fn word16_at(octets: &[u8], i: u8) -> u16
+pub fn word16_at(octets: &[u8], i: usize) -> u16
     ensures { λ r. ⌜ r ≡ word16 (now (octets .entry)) i ⌝ }
 {
-    let at = i as usize;
-    pair(octet(octets, at), octet(octets, at + 1))
+    if octets.len() <= i {
+        return 0;
+    }
+    pair(octets[i], octet(octets, i + 1))
+}
+
+// The 32-bit number at the front of a few last octets, those that are missing read as 0.
+fn last_word(octets: &[u8]) -> u32
+    ensures { λ r. ⌜ r ≡ word32 (now (octets .entry)) 0 ⌝ }
+{
+    quad(
+        octet(octets, 0),
+        octet(octets, 1),
+        octet(octets, 2),
+        octet(octets, 3),
+    )
 }
 
 // The 32-bit number at index i, octets past the end read as 0.
-pub fn word32_at(octets: &[u8], i: u8) -> u32
+pub fn word32_at(octets: &[u8], i: usize) -> u32
     ensures { λ r. ⌜ r ≡ word32 (now (octets .entry)) i ⌝ }
 {
-    let at = i as usize;
-    quad(
-        octet(octets, at),
-        octet(octets, at + 1),
-        octet(octets, at + 2),
-        octet(octets, at + 3),
-    )
+    if octets.len() <= i {
+        return 0;
+    }
+    if octets.len() - i < 4 {
+        return last_word(&octets[i..]);
+    }
+    quad(octets[i], octets[i + 1], octets[i + 2], octets[i + 3])
+}
+
+// Writes a 16-bit number from index at on.
+pub fn put16(out: &mut [u8], at: usize, number: u16)
+    requires { ⌜ at + 2 ≤ length (now out) ⌝ }
+    ensures { λ _. ⌜ now (out .exit) ≡ sets (now (out .entry)) at (octets16 number []) ⌝ }
+{
+    out[at] = split::high(number);
+    out[at + 1] = split::low(number);
+}
+
+// Writes a 32-bit number from index at on.
+pub fn put32(out: &mut [u8], at: usize, number: u32)
+    requires { ⌜ at + 4 ≤ length (now out) ⌝ }
+    ensures { λ _. ⌜ now (out .exit) ≡ sets (now (out .entry)) at (octets32 number []) ⌝ }
+{
+    out[at] = split::first_of(number);
+    out[at + 1] = split::second_of(number);
+    out[at + 2] = split::third_of(number);
+    out[at + 3] = split::fourth_of(number);
 }
 
 // Lays octets over the front of buffer, and says how many.
@@ -176,9 +212,9 @@ pub fn seal(message: &mut [u8])
     if message.len() < 5 {
         return;
     }
-    message[4] = (sum / 256 % 256) as u8;
+    message[4] = split::high(sum);
     if message.len() < 6 {
         return;
     }
-    message[5] = (sum % 256) as u8;
+    message[5] = split::low(sum);
 }

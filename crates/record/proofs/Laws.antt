@@ -10,7 +10,7 @@ use lib.Seq.{sets, length-sets, sets-eq, drop-cons}
 use Rattle.checks.proofs.Laws.{part-from}
 use Rattle.octets.specs.Numbers.{word32, octets32}
 use Rattle.octets.specs.Buffer.{over}
-use Rattle.state_block.proofs.Laws.{sets-append, sets-over}
+use Rattle.octets.proofs.Numbers.{sets-append, sets-over}
 use Rattle.record.specs.Numbers.{numbersOf, octetsOf, filled}
 
 sets-all : (l vs : List ℕ) → length vs ≡ length l → sets l 0 vs ≡ vs

@@ -7,11 +7,8 @@ use split::low;
 use split::second_of;
 use split::third_of;
 ghost use mathlib.Core.Path.{_≡_};
-ghost use mathlib.Core.List.{[]};
-ghost use Prim.Native.Nat.{_+_, _*_, _≤_};
+ghost use Prim.Native.Nat.{_*_, _≤_};
 ghost use lib.ListN.{length};
-ghost use lib.Seq.{sets};
-ghost use Rattle.octets.specs.Numbers.{octets32};
 ghost use Rattle.octets.specs.Buffer.{over};
 ghost use Rattle.record.specs.Numbers.{numbersOf, octetsOf, filled};
 ghost use Rattle.record.specs.Records.{headAt, answerOctets};
@@ -89,17 +86,6 @@ pub fn read_numbers(numbers: &mut [u32], octets: &[u8])
     }
 }
 
-// Writes a number's octets from index at on.
-fn put_number(out: &mut [u8], at: usize, number: u32)
-    requires { ⌜ at + 4 ≤ length (now out) ⌝ }
-    ensures { λ _. ⌜ now (out .exit) ≡ sets (now (out .entry)) at (octets32 number []) ⌝ }
-{
-    out[at] = first_of(number);
-    out[at + 1] = second_of(number);
-    out[at + 2] = third_of(number);
-    out[at + 3] = fourth_of(number);
-}
-
 // Writes numbers at the front of out, four octets each.
 pub fn write_numbers(out: &mut [u8], numbers: &[u32])
     requires { ⌜ length (now numbers) * 4 ≤ length (now out) ⌝ }
@@ -108,7 +94,7 @@ pub fn write_numbers(out: &mut [u8], numbers: &[u32])
     let mut i = 0;
     let mut at = 0;
     while i < numbers.len() {
-        put_number(out, at, numbers[i]);
+        octets::put32(out, at, numbers[i]);
         at += 4;
         i += 1;
     }

@@ -10,10 +10,12 @@ use mathlib.Core.List.{List, [], _∷_, _++_}
 use lib.Dec.{ltb, leb, eqb}
 use lib.ListN.{length, take, drop, getD}
 use lib.Seq.{drop-cons, take-at}
-use Rattle.checks.proofs.Laws.{and-left, and-right, and-both}
+use Rattle.checks.specs.Checks.{check, ifOk}
+use Rattle.checks.proofs.Laws.{and-left, and-right, and-both, check-passed, check-holds, ifOk-new}
 use Rattle.checks.specs.Lists.{every}
 use Rattle.octets.specs.Numbers.{Octets, word16, word32}
 use Rattle.octets.specs.Checksum.{checksumOf, sealed, blanked}
+use Rattle.octets.specs.Buffer.{over}
 use Rattle.octets.proofs.Laws.{sealed-right, sealed-blanked}
 use Rattle.nets.specs.Classes.{goodNet}
 use Rattle.nets.specs.Rows.{Row, flat, rowsOf}
@@ -26,7 +28,10 @@ use Rattle.message.proofs.Laws.{kind-pair}
 use Rattle.wire.specs.declared.Decoded.{Decoded}
 use Rattle.wire.specs.declared.Decoded.the-variants as D
 use Rattle.wire.specs.Reading.{statusAt, asnAt, sequenceAt, headerAnswer, meaningOf, decodeAs, decodeOf}
-use Rattle.fixed.specs.Writing.{headOf, fixedOctets}
+use Rattle.fixed.specs.Writing.{headOf}
+use Rattle.writing.specs.Octets.{plainOctets, octetsOf}
+use Rattle.writing.specs.Room.{rowsFit}
+use Rattle.writing.proofs.Laws.{writable-rows, rows-few, blocks-few}
 use Rattle.wire.proofs.Laws.{header-passed}
 use Rattle.walk.specs.Body.{digits, got, bothSides, whole, nothingLeft, bodyOf, further, netAt, UpdateRead, accepted, brokenAt, tooMany, updateOf}
 use Rattle.walk.specs.Body as Walk
@@ -41,16 +46,15 @@ use Rattle.trip.specs.Canonical.{canonical}
 use Rattle.trip.specs.Trip.{octetsOnly, Read}
 use Rattle.trip.proofs.Readings.{every-all, all-every, all-map}
 use Rattle.trip.proofs.Trip as Trip
-use Rattle.codec.specs.Octets.{updateOctets, octetsOf}
-use Rattle.codec.specs.Writing.{rowsAllowed, writable}
+use Rattle.codec.specs.Writing.{rowsAllowed, writable, writeAnswer, writeOctets, writeOf}
 use Rattle.codec.specs.Reading.{mostNumbers, refusal, rowless, updateReading, meaningReading, kindReading, readOf}
 use Rattle.codec.specs.declared.Meaning.the-variants.{Good}
 use Rattle.codec.specs.declared.Reading.{Reading}
-use Rattle.codec.proofs.Laws.{writable-rows, rows-few, blocks-few, octets-short}
+use Rattle.codec.proofs.Laws.{octets-short}
 use Rattle.codec.proofs.ReadLaws.{read-kind-good}
-use Rattle.roundtrip.specs.Fixed.{HeadFits, Fits, Allowed, ReservedZero}
-use Rattle.roundtrip.specs.Exchange.{handedBack, Common, MeaningsReadBack, Reads, ComesBack, OctetsComeBack, Bound}
-use Rattle.roundtrip.proofs.Fixed.{word-back, quad-back, sealed-passes, writes-read-back, reads-write-back, ReadAs, read-as, spell, high, low, first-of, second-of, third-of, fourth-of, kind-read}
+use Rattle.roundtrip.specs.Widths.{HeadFits, Fits}
+use Rattle.roundtrip.specs.Exchange.{handedBack, Common, MeaningsReadBack, Reads, ComesBack, OctetsComeBack, handedOver, CallsUndoEachOther, Bound}
+use Rattle.roundtrip.proofs.Fixed.{Allowed, ReservedZero, word-back, quad-back, sealed-passes, passes, decodes, ReadAs, read-as, spell, high, low, first-of, second-of, third-of, fourth-of, kind-read, read-allowed, fixed-back}
 
 -- ---- rows and their numbers
 
@@ -104,44 +108,46 @@ rowless-is m = refl
 
 -- ---- a meaning that was written, of a kind without rows
 
-rowless-back : (net : ℕ) (m : Message) (numbers : List ℕ) → Fits m → Allowed m → eqb (length numbers) 0 ≡ true → meaningReading net (fixedOctets m) m ≡ rowless m
-    → readOf net (fixedOctets m) ≡ handedBack m (length (rowsOf numbers)) numbers
+rowless-back : (net : ℕ) (m : Message) (numbers : List ℕ) → 1 < typeOf (kindOf m) → Fits m → Allowed m → eqb (length numbers) 0 ≡ true
+    → ((o : List ℕ) → meaningReading net o m ≡ rowless m) → readOf net (octetsOf m (rowsOf numbers)) ≡ handedBack m (length (rowsOf numbers)) numbers
 unfolding rowsOf
-rowless-back net m numbers f w z r =
-    rw (none-of numbers (eqb-true (length numbers) 0 z))
-    (passed net (fixedOctets m) m (writes-read-back .passes m f w) (writes-read-back .same m f w) ∙ r ∙ rowless-is m)
+rowless-back net m numbers t f w z r =
+    let u : kindOf m ≡ K.Update → ⊥ = λ e. omega (arith, ap typeOf e) in
+    let n : numbers ≡ [] = none-of numbers (eqb-true (length numbers) 0 z) in
+    passed net (octetsOf m (rowsOf numbers)) m (passes m (rowsOf numbers) u) (decodes m (rowsOf numbers) u f w)
+    ∙ r (octetsOf m (rowsOf numbers)) ∙ rowless-is m ∙ ap (λ (l : List ℕ). handedBack m (length (rowsOf l)) l) (sym n)
 
 -- ---- an Update that was written
 
 module _ (a q s net : ℕ) (rows : List Row) where
-  at-ten : getD (updateOctets a q s net rows) 10 0 ≡ internalBlocks rows
-  unfolding updateOctets headOf sealed
+  at-ten : getD (octetsOf (Update a q s net) rows) 10 0 ≡ internalBlocks rows
+  unfolding octetsOf plainOctets headOf sealed
   at-ten = refl
 
-  at-eleven : getD (updateOctets a q s net rows) 11 0 ≡ externalBlocks rows
-  unfolding updateOctets headOf sealed
+  at-eleven : getD (octetsOf (Update a q s net) rows) 11 0 ≡ externalBlocks rows
+  unfolding octetsOf plainOctets headOf sealed
   at-eleven = refl
 
-  after-head : drop 16 (updateOctets a q s net rows) ≡ blocksOf net rows
-  unfolding updateOctets headOf sealed
+  after-head : drop 16 (octetsOf (Update a q s net) rows) ≡ blocksOf net rows
+  unfolding octetsOf plainOctets headOf sealed
   after-head = refl
 
-  update-long : 16 ≤ length (updateOctets a q s net rows)
-  unfolding updateOctets headOf sealed
+  update-long : 16 ≤ length (octetsOf (Update a q s net) rows)
+  unfolding octetsOf plainOctets headOf sealed
   update-long = omega arith
 
-  net-said : net < 4294967296 → netAt (updateOctets a q s net rows) ≡ net
-  unfolding updateOctets headOf sealed netAt digits
+  net-said : net < 4294967296 → netAt (octetsOf (Update a q s net) rows) ≡ net
+  unfolding octetsOf plainOctets headOf sealed netAt digits
   net-said h = rw (zero-add (net / 16777216 % 256)) (quad-back net h)
 
-  update-passes : length (blocksOf net rows) ≤ 1152 → headerAnswer (updateOctets a q s net rows) ≡ 0
-  unfolding updateOctets headOf
+  update-passes : length (blocksOf net rows) ≤ 1152 → headerAnswer (octetsOf (Update a q s net) rows) ≡ 0
+  unfolding octetsOf plainOctets headOf
   update-passes h = sealed-passes _ (omega arith) (omega arith) refl
 
-  update-decodes : HeadFits a q s → net < 4294967296 → statusAllowed K.Update s ≡ true → decodeOf (updateOctets a q s net rows) ≡ D.Good (Update a q s net)
-  unfolding decodeOf decodeAs meaningOf kindAt updateOctets headOf sealed
+  update-decodes : HeadFits a q s → net < 4294967296 → statusAllowed K.Update s ≡ true → decodeOf (octetsOf (Update a q s net) rows) ≡ D.Good (Update a q s net)
+  unfolding decodeOf decodeAs meaningOf kindAt octetsOf plainOctets headOf sealed
   update-decodes f n e =
-      let l : leb 16 (length (updateOctets a q s net rows)) ≡ true = le-leb 16 (length (updateOctets a q s net rows)) update-long in
+      let l : leb 16 (length (octetsOf (Update a q s net) rows)) ≡ true = le-leb 16 (length (octetsOf (Update a q s net) rows)) update-long in
       rw (e, l, word-back a (f .asn16), word-back q (f .sequence16), quad-back net n)
 
 -- the blocks behind a head that says these counts and the common net
@@ -152,34 +158,34 @@ blocks-whole net internal external o blocks rs l g n p q d b =
     rw (le-ltb (length o) 16 l, g, eq-eqb (netAt o) net n, p, q, d, b)
 
 update-back : (a q s net : ℕ) (numbers : List ℕ) → HeadFits a q s → net < 4294967296 → statusAllowed K.Update s ≡ true → goodNet net ≡ true → writableNumbers net numbers ≡ true
-    → readOf net (updateOctets a q s net (rowsOf numbers)) ≡ handedBack (Update a q s net) (length (rowsOf numbers)) numbers
+    → readOf net (octetsOf (Update a q s net) (rowsOf numbers)) ≡ handedBack (Update a q s net) (length (rowsOf numbers)) numbers
 unfolding meaningReading updateReading handedBack
 update-back a q s net numbers f n e g w =
     let rows = rowsOf numbers in
-    let o = updateOctets a q s net (rowsOf numbers) in
-    let b : Walk.blocksOf net (updateOctets a q s net (rowsOf numbers)) ≡ whole (rowsOf numbers) =
+    let o = octetsOf (Update a q s net) (rowsOf numbers) in
+    let b : Walk.blocksOf net (octetsOf (Update a q s net) (rowsOf numbers)) ≡ whole (rowsOf numbers) =
     blocks-whole net (internalBlocks rows) (externalBlocks rows) o (blocksOf net rows) rows (update-long a q s net rows) g (net-said a q s net rows n)
     (at-ten a q s net rows) (at-eleven a q s net rows) (after-head a q s net rows) (Trip.writes-read-back .rows net g rows (writable-rows net numbers w)) in
-    let u : updateOf 128 net (updateOctets a q s net (rowsOf numbers)) ≡ accepted (rowsOf numbers) =
+    let u : updateOf 128 net (octetsOf (Update a q s net) (rowsOf numbers)) ≡ accepted (rowsOf numbers) =
     accepted-of 128 net o rows (record { is = b; fits = rows-few net numbers w }) in
     passed net o (Update a q s net) (update-passes a q s net rows (blocks-few net numbers g w)) (update-decodes a q s net rows f n e)
     ∙ rw (u, whole-numbers net numbers w)
 
 same : (net : ℕ) (m : Message) (numbers : List ℕ) → Fits m → Allowed m → rowsAllowed m numbers ≡ true → Common net m
     → readOf net (octetsOf m (rowsOf numbers)) ≡ handedBack m (length (rowsOf numbers)) numbers
-unfolding octetsOf rowsAllowed meaningReading
-same net (Request a q s h p) numbers f w z c = rowless-back net (Request a q s h p) numbers f w z refl
-same net (Confirm a q s h p) numbers f w z c = rowless-back net (Confirm a q s h p) numbers f w z refl
-same net (Refuse a q s) numbers f w z c = rowless-back net (Refuse a q s) numbers f w z refl
-same net (Cease a q s) numbers f w z c = rowless-back net (Cease a q s) numbers f w z refl
-same net (CeaseAck a q s) numbers f w z c = rowless-back net (CeaseAck a q s) numbers f w z refl
-same net (Hello a q s) numbers f w z c = rowless-back net (Hello a q s) numbers f w z refl
-same net (IHeardYou a q s) numbers f w z c = rowless-back net (IHeardYou a q s) numbers f w z refl
-same net (Poll a q s n) numbers f w z c = rowless-back net (Poll a q s n) numbers f w z refl
+unfolding rowsAllowed rowsFit meaningReading
+same net (Request a q s h p) numbers f w z c = rowless-back net (Request a q s h p) numbers (omega arith) f w z (λ o. refl)
+same net (Confirm a q s h p) numbers f w z c = rowless-back net (Confirm a q s h p) numbers (omega arith) f w z (λ o. refl)
+same net (Refuse a q s) numbers f w z c = rowless-back net (Refuse a q s) numbers (omega arith) f w z (λ o. refl)
+same net (Cease a q s) numbers f w z c = rowless-back net (Cease a q s) numbers (omega arith) f w z (λ o. refl)
+same net (CeaseAck a q s) numbers f w z c = rowless-back net (CeaseAck a q s) numbers (omega arith) f w z (λ o. refl)
+same net (Hello a q s) numbers f w z c = rowless-back net (Hello a q s) numbers (omega arith) f w z (λ o. refl)
+same net (IHeardYou a q s) numbers f w z c = rowless-back net (IHeardYou a q s) numbers (omega arith) f w z (λ o. refl)
+same net (Poll a q s n) numbers f w z c = rowless-back net (Poll a q s n) numbers (omega arith) f w z (λ o. refl)
 same net (Update a q s own) numbers f w z c =
     rw c
     (update-back a q s own numbers (f .0) (f .1) w (and-left (goodNet own) (writableNumbers own numbers) z) (and-right (goodNet own) (writableNumbers own numbers) z))
-same net (Error a q s r x y w) numbers f w′ z c = rowless-back net (Error a q s r x y w) numbers f w′ z refl
+same net (Error a q s r x y w) numbers f w′ z c = rowless-back net (Error a q s r x y w) numbers (omega arith) f w′ z (λ o. refl)
 
 pub meanings-read-back : MeaningsReadBack
 unfolding writable
@@ -280,20 +286,20 @@ unfolding rowless handedBack
 rowless-none m rs e = none-of rs (sym (ap (λ (r : Reading). r .count) e))
 
 module _ (net : ℕ) (o : List ℕ) (m : Message) (rs : List Row) (oct : Octets o) (r : Reads net o m rs) where
-  fixed-back : (kindOf m ≡ K.Update → ⊥) → (fixedOctets m ≡ o) ↔ ReservedZero m o
-  fixed-back u = let f = reads-good net o m rs r in reads-write-back .back o m oct (f .header) (f .kind) u
+  reserved-back : (kindOf m ≡ K.Update → ⊥) → (octetsOf m rs ≡ o) ↔ ReservedZero m o
+  reserved-back u = let f = reads-good net o m rs r in fixed-back o m oct (f .header) (f .kind) u rs
 
-  other-back : 2 < typeOf (kindOf m) → (fixedOctets m ≡ o) ↔ Unit {0}
-  other-back h = let k = others (kindOf m) h in (λ e. tt, λ z. fixed-back (k .0) .1 (λ i. absurd (k .1 i)))
+  other-back : 2 < typeOf (kindOf m) → (octetsOf m rs ≡ o) ↔ Unit {0}
+  other-back h = let k = others (kindOf m) h in (λ e. tt, λ z. reserved-back (k .0) .1 (λ i. absurd (k .1 i)))
 
-  read-allowed : Fits m × Allowed m
-  read-allowed = reads-write-back .allowed o m oct (reads-good net o m rs r .kind)
+  good-allowed : Fits m × Allowed m
+  good-allowed = read-allowed o m oct (reads-good net o m rs r .kind)
 
   other-writes : meaningReading net o m ≡ rowless m → rowsAllowed m [] ≡ true → Common net m → Fits m × Common net m × (writable m (flat rs) ≡ true)
   unfolding writable flat
   other-writes n w c =
       let z : rs ≡ [] = rowless-none m rs (sym (reads-good net o m rs r .is ∙ n) ∙ r) in
-      (read-allowed .0, c, rw z (and-both (statusAllowed (kindOf m) (statusOf m)) (rowsAllowed m []) (read-allowed .1) w))
+      (good-allowed .0, c, rw z (and-both (statusAllowed (kindOf m) (statusOf m)) (rowsAllowed m []) (good-allowed .1) w))
 
 -- ---- an Update that was read
 
@@ -401,8 +407,8 @@ update-found net o a q s own rs oct r =
     }
 
 module _ (net : ℕ) (o : List ℕ) (a q s own : ℕ) (rs : List Row) (oct : Octets o) (f : UpdateFound net o a q s own rs) where
-  update-comes : canonical net (getD o 10 0) (getD o 11 0) (drop 16 o) ≡ true → updateOctets a q s own rs ≡ o
-  unfolding updateOctets
+  update-comes : canonical net (getD o 10 0) (getD o 11 0) (drop 16 o) ≡ true → octetsOf (Update a q s own) rs ≡ o
+  unfolding octetsOf plainOctets
   update-comes full =
       let w = Trip.reads-write-back .grouped net (getD o 10 0) (getD o 11 0) (drop 16 o) rs (f .read) full in
       let six : 6 ≤ length o = omega (arith, f .long) in
@@ -413,7 +419,7 @@ module _ (net : ℕ) (o : List ℕ) (a q s own : ℕ) (rs : List Row) (oct : Oct
       ∙ sealed-blanked o six
       ∙ sealed-right o six (oct 4) (oct 5) (f .field)
 
-  update-only : updateOctets a q s own rs ≡ o → canonical net (getD o 10 0) (getD o 11 0) (drop 16 o) ≡ true
+  update-only : octetsOf (Update a q s own) rs ≡ o → canonical net (getD o 10 0) (getD o 11 0) (drop 16 o) ≡ true
   update-only e =
       Trip.reads-write-back .only net (getD o 10 0) (getD o 11 0) (drop 16 o) rs (f .read)
       (record {
@@ -431,7 +437,7 @@ module _ (net : ℕ) (o : List ℕ) (a q s own : ℕ) (rs : List Row) (oct : Oct
 -- ---- octets that were read, of any kind
 
 writes : (net : ℕ) (o : List ℕ) (m : Message) (rs : List Row) → Octets o → Reads net o m rs → Fits m × Common net m × (writable m (flat rs) ≡ true)
-unfolding meaningReading rowsAllowed writable
+unfolding meaningReading rowsAllowed rowsFit writable
 writes net o (Request a q s h p) rs oct r = other-writes net o (Request a q s h p) rs oct r refl refl tt
 writes net o (Confirm a q s h p) rs oct r = other-writes net o (Confirm a q s h p) rs oct r refl refl tt
 writes net o (Refuse a q s) rs oct r = other-writes net o (Refuse a q s) rs oct r refl refl tt
@@ -442,12 +448,11 @@ writes net o (IHeardYou a q s) rs oct r = other-writes net o (IHeardYou a q s) r
 writes net o (Poll a q s n) rs oct r = other-writes net o (Poll a q s n) rs oct r refl refl tt
 writes net o (Update a q s own) rs oct r =
     let f = update-found net o a q s own rs oct r in
-    let k = read-allowed net o (Update a q s own) rs oct r in
+    let k = good-allowed net o (Update a q s own) rs oct r in
     (k .0, sym (f .common), and-both (statusAllowed K.Update s) (goodNet own && writableNumbers own (flat rs)) (k .1) (update-writable net o a q s own rs oct f))
 writes net o (Error a q s n x y z) rs oct r = other-writes net o (Error a q s n x y z) rs oct r refl refl tt
 
 back : (net : ℕ) (o : List ℕ) (m : Message) (rs : List Row) → Octets o → Reads net o m rs → (octetsOf m rs ≡ o) ↔ ComesBack net o m
-unfolding octetsOf
 back net o (Request a q s h p) rs oct r = other-back net o (Request a q s h p) rs oct r (omega arith)
 back net o (Confirm a q s h p) rs oct r = other-back net o (Confirm a q s h p) rs oct r (omega arith)
 back net o (Refuse a q s) rs oct r = other-back net o (Refuse a q s) rs oct r (omega arith)
@@ -457,7 +462,7 @@ back net o (Hello a q s) rs oct r = other-back net o (Hello a q s) rs oct r (ome
 back net o (IHeardYou a q s) rs oct r = other-back net o (IHeardYou a q s) rs oct r (omega arith)
 back net o (Poll a q s n) rs oct r =
     let u : K.Poll ≡ K.Update → ⊥ = λ e. omega (arith, ap typeOf e) in
-    let b = fixed-back net o (Poll a q s n) rs oct r u in
+    let b = reserved-back net o (Poll a q s n) rs oct r u in
     (λ e. b .0 e refl, λ z. b .1 (λ i. z))
 back net o (Update a q s own) rs oct r =
     let f = update-found net o a q s own rs oct r in
@@ -466,6 +471,50 @@ back net o (Error a q s n x y z) rs oct r = other-back net o (Error a q s n x y 
 
 pub octets-come-back : OctetsComeBack
 octets-come-back = record { rows = rows; writes = writes; back = back }
+
+-- ---- through the public calls
+
+-- 0 is answered where the buffer is long enough and the meaning may be written, and only there
+module _ (m : Message) (numbers buffer : List ℕ) where
+  answered-0 : writeAnswer m numbers buffer ≡ 0 → writable m numbers ≡ true
+  unfolding writeAnswer
+  answered-0 e =
+      check-passed (writable m numbers) 16 0 refl
+      (check-passed (leb 2048 (length buffer)) 3 (check (writable m numbers) 16 0) refl e .1) .0
+
+  answers-0 : 2048 ≤ length buffer → writable m numbers ≡ true → writeAnswer m numbers buffer ≡ 0
+  unfolding writeAnswer
+  answers-0 h w =
+      check-holds (leb 2048 (length buffer)) 3 (check (writable m numbers) 16 0) (le-leb 2048 (length buffer) h)
+      ∙ check-holds (writable m numbers) 16 0 w
+
+  handed-over : writeAnswer m numbers buffer ≡ 0 → handedOver m numbers buffer ≡ octetsOf m (rowsOf numbers)
+  unfolding writeOf over writeOctets
+  handed-over e =
+      rw (ifOk-new (writeAnswer m numbers buffer) (octetsOf m (rowsOf numbers)) [] e)
+      (take-at (octetsOf m (rowsOf numbers)) (drop (length (octetsOf m (rowsOf numbers))) buffer) (length (octetsOf m (rowsOf numbers))) refl)
+
+calls-written : (net : ℕ) (m : Message) (numbers buffer : List ℕ) → Fits m → Common net m → (writeOf m numbers buffer) .answer ≡ 0
+    → readOf net (handedOver m numbers buffer) ≡ handedBack m (length (rowsOf numbers)) numbers
+unfolding writeOf
+calls-written net m numbers buffer f c e =
+    ap (readOf net) (handed-over m numbers buffer e) ∙ meanings-read-back .same net m numbers f (answered-0 m numbers buffer e) c
+
+calls-taken : (net : ℕ) (o : List ℕ) (m : Message) (rs : List Row) (buffer : List ℕ) → Octets o → Reads net o m rs
+    → 2048 ≤ length buffer → (writeOf m (flat rs) buffer) .answer ≡ 0
+unfolding writeOf
+calls-taken net o m rs buffer oct r h = answers-0 m (flat rs) buffer h (writes net o m rs oct r .2)
+
+calls-read : (net : ℕ) (o : List ℕ) (m : Message) (rs : List Row) (buffer : List ℕ) → Octets o → Reads net o m rs
+    → 2048 ≤ length buffer → (handedOver m (flat rs) buffer ≡ o) ↔ ComesBack net o m
+calls-read net o m rs buffer oct r h =
+    let e : handedOver m (flat rs) buffer ≡ octetsOf m rs =
+    handed-over m (flat rs) buffer (answers-0 m (flat rs) buffer h (writes net o m rs oct r .2)) ∙ ap (octetsOf m) (rows-flat rs) in
+    let b = back net o m rs oct r in
+    (λ k. b .0 (sym e ∙ k), λ k. e ∙ b .1 k)
+
+pub calls-undo-each-other : CallsUndoEachOther
+calls-undo-each-other = record { written = calls-written; taken = calls-taken; read = calls-read }
 
 -- ---- how much an Update that may be written takes
 
@@ -509,7 +558,7 @@ unfolding writable
 allowed-rows m numbers w = and-right (statusAllowed (kindOf m) (statusOf m)) (rowsAllowed m numbers) w
 
 update-numbers : (a q s net : ℕ) (numbers : List ℕ) → writable (Update a q s net) numbers ≡ true → writableNumbers net numbers ≡ true
-unfolding rowsAllowed
+unfolding rowsAllowed rowsFit
 update-numbers a q s net numbers w = and-right (goodNet net) (writableNumbers net numbers) (allowed-rows (Update a q s net) numbers w)
 
 pub bound : Bound

@@ -1,9 +1,10 @@
--- Reading and writing undo each other. Assumes nothing.
+-- Reading and writing undo each other, an Update's blocks left out. Assumes nothing.
 use Prim.Native.Nat.{ℕ, zero, suc, _+_, _/_, _%_, _≤_, _<_}
 use native.Mathlib.Nat.{div-div-eq-div-mul, div-add-mod', mod-eq-of-lt}
 use native.Mathlib.Omega.{arith}
 use borrow.Author.Tests.{eqb-true}
 use mathlib.Core.Path.{_≡_, refl, sym, ap, _∙_}
+use mathlib.Core.Logic.{_↔_}
 use mathlib.Core.Bool.{Bool, true, false, cond}
 use mathlib.Core.List.{List, [], _∷_}
 use lib.ListN.{length, getD, drop, drop-of-length-le}
@@ -21,9 +22,19 @@ use Rattle.message.specs.declared.Message.{Message}
 use Rattle.message.specs.declared.Message.the-variants.{Request, Confirm, Refuse, Cease, CeaseAck, Hello, IHeardYou, Poll, Update, Error}
 use Rattle.wire.specs.declared.Decoded.the-variants.{Good, BadStatus, BadLength}
 use Rattle.wire.specs.Reading.{statusAt, asnAt, sequenceAt, headerAnswer, meaningOf, decodeAs, decodeOf}
-use Rattle.fixed.specs.Writing.{headed, headOf, plainOctets, fixedOctets}
-use Rattle.roundtrip.specs.Fixed.{HeadFits, Fits, Allowed, ReservedZero, WritesReadBack, ReadsWriteBack}
+use Rattle.nets.specs.Rows.{Row}
+use Rattle.fixed.specs.Writing.{headed, headOf}
+use Rattle.writing.specs.Octets.{plainOctets, octetsOf}
+use Rattle.roundtrip.specs.Widths.{HeadFits, Fits}
 use Rattle.wire.proofs.Laws.{header-good, header-passed}
+
+-- the status is one that the reader lets through
+abbrev pub Allowed : Message → Type 0
+Allowed m = statusAllowed (kindOf m) (statusOf m) ≡ true
+
+-- 01: octets come back only "where a Poll's reserved octets are 0"
+abbrev pub ReservedZero : Message → List ℕ → Type 0
+ReservedZero m o = kindOf m ≡ K.Poll → (getD o 10 0 ≡ 0) × (getD o 11 0 ≡ 0)
 
 -- ---- numbers and their octets
 
@@ -45,37 +56,34 @@ sealed-passes l low high v =
     sym (header-good (sealed l) (rw (sealed-length l) low) (rw (sealed-length l) high) (getD (sealed l) 0 0) refl (sealed-first l six ∙ v)
     (word16 (sealed l) 4) (checksumOf (sealed l)) refl refl (field-sealed l six))
 
-passes : (m : Message) → headerAnswer (fixedOctets m) ≡ 0
-unfolding fixedOctets plainOctets headOf
-passes (Request a q s h p) = sealed-passes _ (omega arith) (omega arith) refl
-passes (Confirm a q s h p) = sealed-passes _ (omega arith) (omega arith) refl
-passes (Refuse a q s) = sealed-passes _ (omega arith) (omega arith) refl
-passes (Cease a q s) = sealed-passes _ (omega arith) (omega arith) refl
-passes (CeaseAck a q s) = sealed-passes _ (omega arith) (omega arith) refl
-passes (Hello a q s) = sealed-passes _ (omega arith) (omega arith) refl
-passes (IHeardYou a q s) = sealed-passes _ (omega arith) (omega arith) refl
-passes (Poll a q s n) = sealed-passes _ (omega arith) (omega arith) refl
-passes (Update a q s n) = sealed-passes _ (omega arith) (omega arith) refl
-passes (Error a q s r x y z) = sealed-passes _ (omega arith) (omega arith) refl
+pub passes : (m : Message) (rows : List Row) → (kindOf m ≡ K.Update → ⊥) → headerAnswer (octetsOf m rows) ≡ 0
+unfolding octetsOf plainOctets
+passes (Request a q s h p) rows u = sealed-passes _ (omega arith) (omega arith) refl
+passes (Confirm a q s h p) rows u = sealed-passes _ (omega arith) (omega arith) refl
+passes (Refuse a q s) rows u = sealed-passes _ (omega arith) (omega arith) refl
+passes (Cease a q s) rows u = sealed-passes _ (omega arith) (omega arith) refl
+passes (CeaseAck a q s) rows u = sealed-passes _ (omega arith) (omega arith) refl
+passes (Hello a q s) rows u = sealed-passes _ (omega arith) (omega arith) refl
+passes (IHeardYou a q s) rows u = sealed-passes _ (omega arith) (omega arith) refl
+passes (Poll a q s n) rows u = sealed-passes _ (omega arith) (omega arith) refl
+passes (Update a q s n) rows u = absurd (u refl)
+passes (Error a q s r x y z) rows u = sealed-passes _ (omega arith) (omega arith) refl
 
 -- ---- and reads to the same meaning
 
-same : (m : Message) → Fits m → Allowed m → decodeOf (fixedOctets m) ≡ Good m
-unfolding decodeOf decodeAs meaningOf kindAt fixedOctets plainOctets headOf sealed
-same (Request a q s h p) f e = rw (e, word-back a (f .0 .asn16), word-back q (f .0 .sequence16), word-back h (f .1), word-back p (f .2))
-same (Confirm a q s h p) f e = rw (e, word-back a (f .0 .asn16), word-back q (f .0 .sequence16), word-back h (f .1), word-back p (f .2))
-same (Refuse a q s) f e = rw (e, word-back a (f .asn16), word-back q (f .sequence16))
-same (Cease a q s) f e = rw (e, word-back a (f .asn16), word-back q (f .sequence16))
-same (CeaseAck a q s) f e = rw (e, word-back a (f .asn16), word-back q (f .sequence16))
-same (Hello a q s) f e = rw (e, word-back a (f .asn16), word-back q (f .sequence16))
-same (IHeardYou a q s) f e = rw (e, word-back a (f .asn16), word-back q (f .sequence16))
-same (Poll a q s n) f e = rw (e, word-back a (f .0 .asn16), word-back q (f .0 .sequence16), quad-back n (f .1))
-same (Update a q s n) f e = rw (e, word-back a (f .0 .asn16), word-back q (f .0 .sequence16), quad-back n (f .1))
-same (Error a q s r x y z) f e =
+pub decodes : (m : Message) (rows : List Row) → (kindOf m ≡ K.Update → ⊥) → Fits m → Allowed m → decodeOf (octetsOf m rows) ≡ Good m
+unfolding decodeOf decodeAs meaningOf kindAt octetsOf plainOctets sealed
+decodes (Request a q s h p) rows u f e = rw (e, word-back a (f .0 .asn16), word-back q (f .0 .sequence16), word-back h (f .1), word-back p (f .2))
+decodes (Confirm a q s h p) rows u f e = rw (e, word-back a (f .0 .asn16), word-back q (f .0 .sequence16), word-back h (f .1), word-back p (f .2))
+decodes (Refuse a q s) rows u f e = rw (e, word-back a (f .asn16), word-back q (f .sequence16))
+decodes (Cease a q s) rows u f e = rw (e, word-back a (f .asn16), word-back q (f .sequence16))
+decodes (CeaseAck a q s) rows u f e = rw (e, word-back a (f .asn16), word-back q (f .sequence16))
+decodes (Hello a q s) rows u f e = rw (e, word-back a (f .asn16), word-back q (f .sequence16))
+decodes (IHeardYou a q s) rows u f e = rw (e, word-back a (f .asn16), word-back q (f .sequence16))
+decodes (Poll a q s n) rows u f e = rw (e, word-back a (f .0 .asn16), word-back q (f .0 .sequence16), quad-back n (f .1))
+decodes (Update a q s n) rows u f e = absurd (u refl)
+decodes (Error a q s r x y z) rows u f e =
     rw (e, word-back a (f .0 .asn16), word-back q (f .0 .sequence16), word-back r (f .1), quad-back x (f .2), quad-back y (f .3), quad-back z (f .4))
-
-pub writes-read-back : WritesReadBack
-writes-read-back = record { passes = λ m f e. passes m; same = same }
 
 -- ---- what a good reading says of the octets
 
@@ -165,18 +173,18 @@ module _ (o : List ℕ) (oct : Octets o) (k : Kind) (v : getD o 0 0 ≡ 2) (t : 
 -- the octets of what was read as kind k, but for the checksum's field; an Update's blocks are left out
 plain-back : (o : List ℕ) → Octets o → (k : Kind) → getD o 0 0 ≡ 2 → getD o 1 0 ≡ typeOf k → getD o 2 0 ≡ codeOf k
     → lengthAllowed k (length o) ≡ true → (k ≡ K.Update → ⊥) → (k ≡ K.Poll → (getD o 10 0 ≡ 0) × (getD o 11 0 ≡ 0))
-    → plainOctets (meaningOf k o) ≡ blanked o
+    → (rows : List Row) → plainOctets (meaningOf k o) rows ≡ blanked o
 unfolding plainOctets meaningOf
-plain-back o oct K.Request v t c n u z = intervals o oct K.Request v t c (eqb-true (length o) 14 n)
-plain-back o oct K.Confirm v t c n u z = intervals o oct K.Confirm v t c (eqb-true (length o) 14 n)
-plain-back o oct K.Refuse v t c n u z = short o oct K.Refuse v t c (eqb-true (length o) 10 n)
-plain-back o oct K.Cease v t c n u z = short o oct K.Cease v t c (eqb-true (length o) 10 n)
-plain-back o oct K.CeaseAck v t c n u z = short o oct K.CeaseAck v t c (eqb-true (length o) 10 n)
-plain-back o oct K.Hello v t c n u z = short o oct K.Hello v t c (eqb-true (length o) 10 n)
-plain-back o oct K.IHeardYou v t c n u z = short o oct K.IHeardYou v t c (eqb-true (length o) 10 n)
-plain-back o oct K.Poll v t c n u z = netted o oct K.Poll v t c (eqb-true (length o) 16 n) (z refl)
-plain-back o oct K.Update v t c n u z = absurd (u refl)
-plain-back o oct K.Error v t c n u z = errored o oct K.Error v t c (eqb-true (length o) 24 n)
+plain-back o oct K.Request v t c n u z rows = intervals o oct K.Request v t c (eqb-true (length o) 14 n)
+plain-back o oct K.Confirm v t c n u z rows = intervals o oct K.Confirm v t c (eqb-true (length o) 14 n)
+plain-back o oct K.Refuse v t c n u z rows = short o oct K.Refuse v t c (eqb-true (length o) 10 n)
+plain-back o oct K.Cease v t c n u z rows = short o oct K.Cease v t c (eqb-true (length o) 10 n)
+plain-back o oct K.CeaseAck v t c n u z rows = short o oct K.CeaseAck v t c (eqb-true (length o) 10 n)
+plain-back o oct K.Hello v t c n u z rows = short o oct K.Hello v t c (eqb-true (length o) 10 n)
+plain-back o oct K.IHeardYou v t c n u z rows = short o oct K.IHeardYou v t c (eqb-true (length o) 10 n)
+plain-back o oct K.Poll v t c n u z rows = netted o oct K.Poll v t c (eqb-true (length o) 16 n) (z refl)
+plain-back o oct K.Update v t c n u z rows = absurd (u refl)
+plain-back o oct K.Error v t c n u z rows = errored o oct K.Error v t c (eqb-true (length o) 24 n)
 
 -- reading keeps the kind
 pub kind-read : (k : Kind) (o : List ℕ) → kindOf (meaningOf k o) ≡ k
@@ -206,30 +214,30 @@ status-read K.Update o = refl
 status-read K.Error o = refl
 
 -- a Poll is written with reserved octets 0
-poll-zero : (m : Message) (o : List ℕ) → fixedOctets m ≡ o → ReservedZero m o
-unfolding fixedOctets plainOctets headOf sealed
-poll-zero (Request a q s h p) o e i = let z : _≡_ {A = ℕ} 0 1 = cc in absurd (omega arith)
-poll-zero (Confirm a q s h p) o e i = let z : _≡_ {A = ℕ} 0 1 = cc in absurd (omega arith)
-poll-zero (Refuse a q s) o e i = let z : _≡_ {A = ℕ} 0 1 = cc in absurd (omega arith)
-poll-zero (Cease a q s) o e i = let z : _≡_ {A = ℕ} 0 1 = cc in absurd (omega arith)
-poll-zero (CeaseAck a q s) o e i = let z : _≡_ {A = ℕ} 0 1 = cc in absurd (omega arith)
-poll-zero (Hello a q s) o e i = let z : _≡_ {A = ℕ} 0 1 = cc in absurd (omega arith)
-poll-zero (IHeardYou a q s) o e i = let z : _≡_ {A = ℕ} 0 1 = cc in absurd (omega arith)
-poll-zero (Update a q s n) o e i = let z : _≡_ {A = ℕ} 0 1 = cc in absurd (omega arith)
-poll-zero (Error a q s r x y z) o e i = let z : _≡_ {A = ℕ} 0 1 = cc in absurd (omega arith)
-poll-zero (Poll a q s n) o e i = (ap (λ (l : List ℕ). getD l 10 0) (sym e), ap (λ (l : List ℕ). getD l 11 0) (sym e))
+poll-zero : (m : Message) (rows : List Row) (o : List ℕ) → octetsOf m rows ≡ o → ReservedZero m o
+unfolding octetsOf plainOctets sealed
+poll-zero (Request a q s h p) rows o e i = let z : _≡_ {A = ℕ} 0 1 = cc in absurd (omega arith)
+poll-zero (Confirm a q s h p) rows o e i = let z : _≡_ {A = ℕ} 0 1 = cc in absurd (omega arith)
+poll-zero (Refuse a q s) rows o e i = let z : _≡_ {A = ℕ} 0 1 = cc in absurd (omega arith)
+poll-zero (Cease a q s) rows o e i = let z : _≡_ {A = ℕ} 0 1 = cc in absurd (omega arith)
+poll-zero (CeaseAck a q s) rows o e i = let z : _≡_ {A = ℕ} 0 1 = cc in absurd (omega arith)
+poll-zero (Hello a q s) rows o e i = let z : _≡_ {A = ℕ} 0 1 = cc in absurd (omega arith)
+poll-zero (IHeardYou a q s) rows o e i = let z : _≡_ {A = ℕ} 0 1 = cc in absurd (omega arith)
+poll-zero (Update a q s n) rows o e i = let z : _≡_ {A = ℕ} 0 1 = cc in absurd (omega arith)
+poll-zero (Error a q s r x y z) rows o e i = let z : _≡_ {A = ℕ} 0 1 = cc in absurd (omega arith)
+poll-zero (Poll a q s n) rows o e i = (ap (λ (l : List ℕ). getD l 10 0) (sym e), ap (λ (l : List ℕ). getD l 11 0) (sym e))
 
 -- octets that were read come back where no reserved octet was lost
 come-back : (o : List ℕ) (m : Message) → Octets o → headerAnswer o ≡ 0 → (k : Kind) → ReadAs o m k → (kindOf m ≡ K.Update → ⊥)
-    → ReservedZero m o → fixedOctets m ≡ o
-unfolding fixedOctets
-come-back o m oct h k r u z =
+    → (rows : List Row) → ReservedZero m o → octetsOf m rows ≡ o
+unfolding octetsOf
+come-back o m oct h k r u rows z =
     let g = header-passed o h in
     let six : 6 ≤ length o = omega (arith, g .low) in
     let same-kind : kindOf m ≡ k = ap kindOf (r .meaning) ∙ kind-read k o in
     let p = kind-pair (getD o 1 0) (getD o 2 0) k (r .is) in
-    ap (λ (x : Message). sealed (plainOctets x)) (r .meaning)
-    ∙ ap sealed (plain-back o oct k (g .version) (p .0) (p .1) (r .long) (λ e. u (same-kind ∙ e)) (λ e. z (same-kind ∙ e)))
+    ap (λ (x : Message). sealed (plainOctets x rows)) (r .meaning)
+    ∙ ap sealed (plain-back o oct k (g .version) (p .0) (p .1) (r .long) (λ e. u (same-kind ∙ e)) (λ e. z (same-kind ∙ e)) rows)
     ∙ sealed-blanked o six
     ∙ sealed-right o six (oct 4) (oct 5) (g .field)
 
@@ -256,12 +264,15 @@ read-fits K.Poll o oct = (head-fits o oct, quad-fits o oct 12)
 read-fits K.Update o oct = (head-fits o oct, quad-fits o oct 12)
 read-fits K.Error o oct = (head-fits o oct, word-fits o oct 10, quad-fits o oct 12, quad-fits o oct 16, quad-fits o oct 20)
 
-read-allowed : (o : List ℕ) (m : Message) (k : Kind) → Octets o → ReadAs o m k → Fits m × Allowed m
-read-allowed o m k oct r =
+as-allowed : (o : List ℕ) (m : Message) (k : Kind) → Octets o → ReadAs o m k → Fits m × Allowed m
+as-allowed o m k oct r =
     rw (r .meaning) (read-fits k o oct, rw (kind-read k o, status-read k o) (r .status))
 
-pub reads-write-back : ReadsWriteBack
-reads-write-back = record {
-  back = λ o m oct h e u. (poll-zero m o, λ z. come-back o m oct h (read-as o m e .0) (read-as o m e .1) u z);
-  allowed = λ o m oct e. read-allowed o m (read-as o m e .0) oct (read-as o m e .1);
-}
+-- whatever was read may be written
+pub read-allowed : (o : List ℕ) (m : Message) → Octets o → decodeOf o ≡ Good m → Fits m × Allowed m
+read-allowed o m oct e = as-allowed o m (read-as o m e .0) oct (read-as o m e .1)
+
+-- writing what was read gives the octets back, exactly where no reserved octet was lost
+pub fixed-back : (o : List ℕ) (m : Message) → Octets o → headerAnswer o ≡ 0 → decodeOf o ≡ Good m → (kindOf m ≡ K.Update → ⊥)
+    → (rows : List Row) → (octetsOf m rows ≡ o) ↔ ReservedZero m o
+fixed-back o m oct h e u rows = (poll-zero m rows o, λ z. come-back o m oct h (read-as o m e .0) (read-as o m e .1) u rows z)

@@ -5,21 +5,22 @@ use mathlib.Core.Logic.{_↔_}
 use mathlib.Core.Bool.{true}
 use mathlib.Core.List.{List}
 use lib.Dec.{leb}
-use lib.ListN.{length, drop, getD}
+use lib.ListN.{length, take, drop, getD}
 use Rattle.checks.specs.Lists.{every}
 use Rattle.octets.specs.Numbers.{Octets}
+use Rattle.octets.specs.Buffer.{over}
 use Rattle.nets.specs.Rows.{Row, flat, rowsOf}
 use Rattle.message.specs.declared.Message.{Message}
 use Rattle.message.specs.declared.Message.the-variants.{Request, Confirm, Refuse, Cease, CeaseAck, Hello, IHeardYou, Poll, Update, Error}
 use Rattle.rows.specs.Storing.{padded}
 use Rattle.blocks.specs.Blocks.{sideRows, gatewayRuns, distanceRuns, internalBlocks, externalBlocks}
 use Rattle.trip.specs.Canonical.{canonical}
-use Rattle.codec.specs.Octets.{octetsOf}
-use Rattle.codec.specs.Writing.{writable}
+use Rattle.writing.specs.Octets.{octetsOf}
+use Rattle.codec.specs.Writing.{writable, writeOf, writeOctets}
 use Rattle.codec.specs.Reading.{readOf, mostNumbers}
 use Rattle.codec.specs.declared.Meaning.the-variants.{Good}
 use Rattle.codec.specs.declared.Reading.{Reading}
-use Rattle.roundtrip.specs.Fixed.{Fits}
+use Rattle.roundtrip.specs.Widths.{Fits}
 
 -- a good reading: this message, the number of its rows, and the rows' numbers with zeros after them
 unfoldable pub handedBack : Message → ℕ → List ℕ → Reading
@@ -69,6 +70,22 @@ pub record OctetsComeBack : Type 0 where
   -- writing it gives the octets back exactly there
   pub back : (net : ℕ) (o : List ℕ) (m : Message) (rs : List Row) → Octets o → Reads net o m rs
       → (octetsOf m rs ≡ o) ↔ ComesBack net o m
+
+-- the octets that a call of `write` hands over: of the buffer that it leaves, as many as it answers
+abbrev pub handedOver : Message → List ℕ → List ℕ → List ℕ
+handedOver m numbers buffer = take ((writeOf m numbers buffer) .length) (over (writeOctets m numbers buffer) buffer)
+
+-- The round trip through the public calls, in the words of their promises, whatever buffer was lent
+pub record CallsUndoEachOther : Type 0 where
+  -- what `write` answered with 0 and left in the buffer, `read` gives back: the message, how many rows, and the rows
+  pub written : (net : ℕ) (m : Message) (numbers buffer : List ℕ) → Fits m → Common net m → (writeOf m numbers buffer) .answer ≡ 0
+      → readOf net (handedOver m numbers buffer) ≡ handedBack m (length (rowsOf numbers)) numbers
+  -- what `read` gave, `write` takes into any buffer of 2,048 octets
+  pub taken : (net : ℕ) (o : List ℕ) (m : Message) (rs : List Row) (buffer : List ℕ) → Octets o → Reads net o m rs
+      → 2048 ≤ length buffer → (writeOf m (flat rs) buffer) .answer ≡ 0
+  -- and leaves the octets that were read, exactly where they come back
+  pub read : (net : ℕ) (o : List ℕ) (m : Message) (rs : List Row) (buffer : List ℕ) → Octets o → Reads net o m rs
+      → 2048 ≤ length buffer → (handedOver m (flat rs) buffer ≡ o) ↔ ComesBack net o m
 
 -- 01 refuses "more than 128 rows" and has no refusal for a length or a count: neither can be too large
 pub record Bound : Type 0 where

@@ -15,6 +15,19 @@ use Rattle.neighbour.specs.declared.Settings.{Settings}
 use Rattle.state.specs.declared.Slot.{Slot}
 use Rattle.state.specs.declared.State.{State}
 
+-- "own AS (2), own address (4), capability (1), common net (4)"
+abbrev pub settingsSize : ℕ
+settingsSize = 11
+
+-- "each slot's address (4), AS, S, R, T1, T2, t1, t2, t3, row count (2 each), state, mode, register, heard, cause
+-- (1 each)"
+abbrev pub slotSize : ℕ
+slotSize = 27
+
+-- where the octets of slot i begin; that of the slot after the last is where the block ends, 227
+abbrev pub slotStart : ℕ → ℕ
+slotStart i = settingsSize + i * slotSize
+
 -- "states from 0 as listed": idle, acquisition, down, up, cease
 abbrev pub phaseAt : ℕ → Phase
 phaseAt n = cond (eqb n 1) Acquisition (cond (eqb n 2) Down (cond (eqb n 3) Up (cond (eqb n 4) Cease Idle)))
@@ -35,11 +48,11 @@ modeNumber Unset = 0
 modeNumber Active = 1
 modeNumber Passive = 2
 
--- "own AS (2), own address (4), capability (1), common net (4)"
+-- the settings at the front of a block
 unfoldable pub settingsAt : List ℕ → Settings
 settingsAt l = record { asn = word16 l 0; own = word32 l 2; capability = getD l 6 0; net = word32 l 7 }
 
--- "each slot's address (4), AS, S, R, T1, T2, t1, t2, t3, row count (2 each), state, mode, register, heard, cause (1 each)"
+-- the slot whose octets begin at index at
 unfoldable pub slotAt : List ℕ → ℕ → Slot
 slotAt l at =
     record {
@@ -69,7 +82,8 @@ stateAt l =
     record {
       settings = settingsAt l;
       slots =
-          slotAt l 11 ∷ slotAt l 38 ∷ slotAt l 65 ∷ slotAt l 92 ∷ slotAt l 119 ∷ slotAt l 146 ∷ slotAt l 173 ∷ slotAt l 200 ∷ [];
+          slotAt l (slotStart 0) ∷ slotAt l (slotStart 1) ∷ slotAt l (slotStart 2) ∷ slotAt l (slotStart 3)
+          ∷ slotAt l (slotStart 4) ∷ slotAt l (slotStart 5) ∷ slotAt l (slotStart 6) ∷ slotAt l (slotStart 7) ∷ [];
     }
 
 unfoldable pub settingsOctets : Settings → List ℕ

@@ -6,11 +6,11 @@ use neighbour::Settings;
 use state::Slot;
 use state::State;
 ghost use mathlib.Core.Path.{_≡_};
-ghost use Prim.Native.Nat.{_+_, _/_, _%_, _≤_};
-ghost use lib.ListN.{length, getD};
+ghost use Prim.Native.Nat.{_+_, _≤_};
+ghost use lib.ListN.{length};
 ghost use lib.Seq.{sets};
 ghost use Rattle.octets.specs.Buffer.{over};
-ghost use Rattle.state_block.specs.Block.{phaseAt, modeAt, phaseNumber, modeNumber, settingsAt, slotAt, stateAt, settingsOctets, slotOctets, slotsOctets, blockOf};
+ghost use Rattle.state_block.specs.Block.{slotSize, slotStart, phaseAt, modeAt, phaseNumber, modeNumber, settingsAt, slotAt, stateAt, settingsOctets, slotOctets, slotsOctets, blockOf};
 
 // The state that a number stands for, counted from 0 in 01's order. Records carry no other numbers.
 fn phase_at(number: u8) -> Phase
@@ -77,15 +77,17 @@ fn read_settings(block: &[u8]) -> Settings
     }
 }
 
-fn octet_at(octets: &[u8], i: u8) -> u8
-    ensures { λ r. ⌜ r ≡ getD (now (octets .entry)) i 0 ⌝ }
+// Where the octets of slot i begin: the settings take 11, each slot 27.
+fn slot_start(i: usize) -> usize
+    requires { ⌜ i ≤ 8 ⌝ }
+    ensures { λ r. ⌜ r ≡ slotStart i ⌝ }
 {
-    octets::octet(octets, i as usize)
+    11 + i * 27
 }
 
-// The slot whose 27 octets begin at index at.
-fn read_slot(block: &[u8], at: u8) -> Slot
-    requires { ⌜ at ≤ 200 ⌝ }
+// The slot whose octets begin at index at.
+fn read_slot(block: &[u8], at: usize) -> Slot
+    requires { ⌜ at ≤ slotStart 8 ⌝ }
     ensures { λ r. ⌜ r ≡ slotAt (now (block .entry)) at ⌝ }
 {
     let neighbour = Neighbour {
@@ -96,11 +98,11 @@ fn read_slot(block: &[u8], at: u8) -> Slot
         t1: octets::word16_at(block, at + 14),
         t2: octets::word16_at(block, at + 16),
         t3: octets::word16_at(block, at + 18),
-        phase: phase_at(octet_at(block, at + 22)),
-        mode: mode_at(octet_at(block, at + 23)),
-        register: octet_at(block, at + 24),
-        heard: octet_at(block, at + 25),
-        cause: octet_at(block, at + 26),
+        phase: phase_at(octets::octet(block, at + 22)),
+        mode: mode_at(octets::octet(block, at + 23)),
+        register: octets::octet(block, at + 24),
+        heard: octets::octet(block, at + 25),
+        cause: octets::octet(block, at + 26),
     };
     Slot {
         address: octets::word32_at(block, at),
@@ -110,20 +112,20 @@ fn read_slot(block: &[u8], at: u8) -> Slot
     }
 }
 
-// The state whose block this is: the settings, then eight slots of 27 octets each.
+// The state whose block this is: the settings, then the eight slots.
 pub fn read_state(block: &[u8]) -> State
     ensures { λ r. ⌜ r ≡ stateAt (now (block .entry)) ⌝ }
 {
     let settings = read_settings(block);
     let slots = [
-        read_slot(block, 11),
-        read_slot(block, 38),
-        read_slot(block, 65),
-        read_slot(block, 92),
-        read_slot(block, 119),
-        read_slot(block, 146),
-        read_slot(block, 173),
-        read_slot(block, 200),
+        read_slot(block, slot_start(0)),
+        read_slot(block, slot_start(1)),
+        read_slot(block, slot_start(2)),
+        read_slot(block, slot_start(3)),
+        read_slot(block, slot_start(4)),
+        read_slot(block, slot_start(5)),
+        read_slot(block, slot_start(6)),
+        read_slot(block, slot_start(7)),
     ];
     State { settings, slots }
 }
@@ -132,21 +134,18 @@ pub fn read_state(block: &[u8]) -> State
 fn settings_octets(s: Settings) -> [u8; 11]
     ensures { λ r. ⌜ r ≡ settingsOctets s ⌝ }
 {
-    let asn = s.asn;
-    let own = s.own;
-    let net = s.net;
     [
-        (asn / 256 % 256) as u8,
-        (asn % 256) as u8,
-        (own / 16777216 % 256) as u8,
-        (own / 65536 % 256) as u8,
-        (own / 256 % 256) as u8,
-        (own % 256) as u8,
+        split::high(s.asn),
+        split::low(s.asn),
+        split::first_of(s.own),
+        split::second_of(s.own),
+        split::third_of(s.own),
+        split::fourth_of(s.own),
         s.capability,
-        (net / 16777216 % 256) as u8,
-        (net / 65536 % 256) as u8,
-        (net / 256 % 256) as u8,
-        (net % 256) as u8,
+        split::first_of(s.net),
+        split::second_of(s.net),
+        split::third_of(s.net),
+        split::fourth_of(s.net),
     ]
 }
 
@@ -190,30 +189,28 @@ fn slot_octets(slot: Slot) -> [u8; 27]
 
 // Writes a slot's octets from index at on.
 fn put_slot(out: &mut [u8], at: usize, slot: Slot)
-    requires { ⌜ at + 27 ≤ length (now out) ⌝ }
+    requires { ⌜ at + slotSize ≤ length (now out) ⌝ }
     ensures { λ _. ⌜ now (out .exit) ≡ sets (now (out .entry)) at (slotOctets slot) ⌝ }
 {
     octets::store(&mut out[at..], &slot_octets(slot));
 }
 
-// Writes the octets of the slots, one after the other, from index 11 on.
+// Writes the octets of the slots, one after the other, behind those of the settings.
 fn put_slots(out: &mut [u8], st: State)
-    requires { ⌜ 227 ≤ length (now out) ⌝ }
-    ensures { λ _. ⌜ now (out .exit) ≡ sets (now (out .entry)) 11 (slotsOctets (st .slots)) ⌝ }
+    requires { ⌜ slotStart 8 ≤ length (now out) ⌝ }
+    ensures { λ _. ⌜ now (out .exit) ≡ sets (now (out .entry)) (slotStart 0) (slotsOctets (st .slots)) ⌝ }
 {
     let mut i = 0;
-    let mut at = 11;
     while i < 8 {
         let slot = st.slots[i];
-        put_slot(out, at, slot);
-        at += 27;
+        put_slot(out, slot_start(i), slot);
         i += 1;
     }
 }
 
 // Writes a state's block at the front of out.
 pub fn write_state(out: &mut [u8], st: State)
-    requires { ⌜ 227 ≤ length (now out) ⌝ }
+    requires { ⌜ slotStart 8 ≤ length (now out) ⌝ }
     ensures { λ _. ⌜ now (out .exit) ≡ over (blockOf st) (now (out .entry)) ⌝ }
 {
     let settings = st.settings;

@@ -6,7 +6,7 @@ use Rattle.carry.proofs.send.Statement.{statement}
 use Rattle.carry.proofs.send.Tie as tie
 use Rattle.carry.proofs.send.Reads as reads
 use Rattle.carry.proofs.send.Lts as lts
-use Rattle.codec.proofs.write_message.Reads as write-message-reads
+use Rattle.writing.proofs.write_message.Reads as write-message-reads
 
 -- src/lib.rt:32:27
 enum-told : tie.Need-enum-told

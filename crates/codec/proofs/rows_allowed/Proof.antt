@@ -1,5 +1,6 @@
 use mathlib.Core.Path.{sym}
-use Rattle.codec.specs.Writing.{rowsAllowed, writable}
+use Rattle.codec.specs.Writing.{rowsAllowed}
+use Rattle.writing.specs.Room.{rowsFit}
 use Rattle.codec.proofs.Laws.{other-rows}
 use borrow.Author.Needs.{needs}
 use Rattle.codec.proofs.rows_allowed.Statement.{statement}
@@ -23,12 +24,12 @@ writable-requires c κs = search needs
 
 -- src/lib.rt:79:13
 returns : tie.Need-returns
-unfolding rowsAllowed
+unfolding rowsAllowed rowsFit
 returns c = rw (c .before .before .before .before .message .given .1, ← c .before .before .good-net .ensures, c .before .if1 .taken) (c .writable .ensures)
 
 -- src/lib.rt:81:9
 returns-2 : tie.Need-returns-2
-unfolding rowsAllowed
+unfolding rowsAllowed rowsFit
 returns-2 c = rw (c .before .before .before .message .given .1, ← c .before .good-net .ensures, c .if1 .left)
 
 -- src/lib.rt:69:1

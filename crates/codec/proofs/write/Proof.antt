@@ -1,4 +1,5 @@
-use Rattle.codec.proofs.Laws.{room-most, allowed-fits}
+use Rattle.writing.proofs.Laws.{room-most}
+use Rattle.codec.proofs.Laws.{allowed-fits}
 use mathlib.Core.Path.{_∙_, sym}
 use borrow.Author.Tests.{not-true, not-false}
 use Rattle.codec.proofs.Laws.{octets-short, write-3, write-16, write-0, write-rows}
@@ -9,7 +10,7 @@ use Rattle.codec.proofs.write.Tie as tie
 use Rattle.codec.proofs.write.Reads as reads
 use Rattle.codec.proofs.write.Lts as lts
 use Rattle.codec.proofs.is_writable.Reads as is-writable-reads
-use Rattle.codec.proofs.write_message.Reads as write-message-reads
+use Rattle.writing.proofs.write_message.Reads as write-message-reads
 
 -- src/lib.rt:102:9
 returns : tie.Need-returns

@@ -14,8 +14,8 @@ same-length c = search needs
 returns : tie.Need-returns
 returns c = sealed-none _ (c .if1 .taken)
 
-cast-message : tie.Need-cast-message
-cast-message c = search needs
+high-requires : tie.Need-high-requires
+high-requires c κs = search needs
 
 slice-write-message : tie.Need-slice-write-message
 slice-write-message c = search needs
@@ -24,10 +24,10 @@ same-length-2 : tie.Need-same-length-2
 same-length-2 c = search needs
 
 returns-2 : tie.Need-returns-2
-returns-2 c = sealed-half _ _ (c .before .before .checksum .ensures) (rw length-set at (c .if2 .taken))
+returns-2 c = rw (c .before .high .ensures) (sealed-half _ _ (c .before .before .before .checksum .ensures) (rw length-set at (c .if2 .taken)))
 
-cast-message-2 : tie.Need-cast-message-2
-cast-message-2 c = search needs
+low-requires : tie.Need-low-requires
+low-requires c κs = search needs
 
 slice-write-message-2 : tie.Need-slice-write-message-2
 slice-write-message-2 c = search needs
@@ -37,7 +37,7 @@ same-length-3 c = search needs
 
 returns-3 : tie.Need-returns-3
 unfolding sealed
-returns-3 c = rw (c .before .before .checksum .ensures)
+returns-3 c = rw (c .before .before .high .ensures, c .low .ensures, c .before .before .before .before .checksum .ensures)
 
 pub seal-spec : {M : Type 1} → statement M
 seal-spec =
@@ -46,11 +46,11 @@ seal-spec =
     checksum-requires
     same-length
     returns
-    cast-message
+    high-requires
     slice-write-message
     same-length-2
     returns-2
-    cast-message-2
+    low-requires
     slice-write-message-2
     same-length-3
     returns-3)

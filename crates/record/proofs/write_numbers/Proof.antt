@@ -17,14 +17,14 @@ abbrev μ-loop : tie.MeasureT-loop
 loop-holds : tie.Need-loop-holds Inv-loop μ-loop
 loop-holds c = (omega arith, refl, refl, refl)
 
-mul-put-number : tie.Need-mul-put-number Inv-loop μ-loop
-mul-put-number c = omega (arith, c .before .before .before .before .before .good .0)
+mul-put32 : tie.Need-mul-put32 Inv-loop μ-loop
+mul-put32 c = omega (arith, c .before .before .before .before .before .good .0)
 
-shared-slice-read-put-number : tie.Need-shared-slice-read-put-number Inv-loop μ-loop
-shared-slice-read-put-number c = omega arith
+shared-slice-read-put32 : tie.Need-shared-slice-read-put32 Inv-loop μ-loop
+shared-slice-read-put32 c = omega arith
 
-put-number-requires : tie.Need-put-number-requires Inv-loop μ-loop
-put-number-requires c κs = omega (arith, c .before .before .before .before .before .before .pre)
+put32-requires : tie.Need-put32-requires Inv-loop μ-loop
+put32-requires c κs = omega (arith, c .before .before .before .before .before .before .pre)
 
 add-at : tie.Need-add-at Inv-loop μ-loop
 add-at c = omega arith
@@ -36,7 +36,7 @@ loop-less : tie.Need-loop-less Inv-loop μ-loop
 loop-less c = omega arith
 
 loop-again : tie.Need-loop-again Inv-loop μ-loop
-loop-again c = let l = c .before .before .before .before .before .before .loop in (omega arith, omega arith, number-kept (l .out) _ (l .at) _ (c .before .before .put-number .ensures) ∙ l .inv .2, l .inv .3 ∙ numbers-turn (l .out) _ (l .at) (c .before .before .before .before .before .before .before .before .before .args .numbers .now) (l .i) (omega arith) (c .before .before .put-number .ensures))
+loop-again c = let l = c .before .before .before .before .before .before .loop in (omega arith, omega arith, number-kept (l .out) _ (l .at) _ (c .before .before .put32 .ensures) ∙ l .inv .2, l .inv .3 ∙ numbers-turn (l .out) _ (l .at) (c .before .before .before .before .before .before .before .before .before .args .numbers .now) (l .i) (omega arith) (c .before .before .put32 .ensures))
 
 same-length : tie.Need-same-length Inv-loop μ-loop
 same-length c = omega arith
@@ -51,9 +51,9 @@ write-numbers-spec =
     Inv-loop
     μ-loop
     loop-holds
-    mul-put-number
-    shared-slice-read-put-number
-    put-number-requires
+    mul-put32
+    shared-slice-read-put32
+    put32-requires
     add-at
     add-i
     loop-less

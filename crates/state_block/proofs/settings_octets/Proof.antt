@@ -1,55 +1,55 @@
-use mathlib.Core.Path.{refl}
 use Rattle.state_block.specs.Block.{settingsOctets}
 use borrow.Author.Needs.{needs}
 use Rattle.state_block.proofs.settings_octets.Statement.{statement}
 use Rattle.state_block.proofs.settings_octets.Tie as tie
 
-cast-t7 : tie.Need-cast-t7
-cast-t7 c = search needs
+high-requires : tie.Need-high-requires
+high-requires c κs = search needs
 
-cast-t9 : tie.Need-cast-t9
-cast-t9 c = search needs
+low-requires : tie.Need-low-requires
+low-requires c κs = search needs
 
-cast-t12 : tie.Need-cast-t12
-cast-t12 c = search needs
+first-of-requires : tie.Need-first-of-requires
+first-of-requires c κs = search needs
 
-cast-t15 : tie.Need-cast-t15
-cast-t15 c = search needs
+second-of-requires : tie.Need-second-of-requires
+second-of-requires c κs = search needs
 
-cast-t18 : tie.Need-cast-t18
-cast-t18 c = search needs
+third-of-requires : tie.Need-third-of-requires
+third-of-requires c κs = search needs
 
-cast-t20 : tie.Need-cast-t20
-cast-t20 c = search needs
+fourth-of-requires : tie.Need-fourth-of-requires
+fourth-of-requires c κs = search needs
 
-cast-t23 : tie.Need-cast-t23
-cast-t23 c = search needs
+first-of-requires-2 : tie.Need-first-of-requires-2
+first-of-requires-2 c κs = search needs
 
-cast-t26 : tie.Need-cast-t26
-cast-t26 c = search needs
+second-of-requires-2 : tie.Need-second-of-requires-2
+second-of-requires-2 c κs = search needs
 
-cast-t29 : tie.Need-cast-t29
-cast-t29 c = search needs
+third-of-requires-2 : tie.Need-third-of-requires-2
+third-of-requires-2 c κs = search needs
 
-cast-t31 : tie.Need-cast-t31
-cast-t31 c = search needs
+fourth-of-requires-2 : tie.Need-fourth-of-requires-2
+fourth-of-requires-2 c κs = search needs
 
 returns : tie.Need-returns
 unfolding settingsOctets
-returns c = refl
+returns c =
+    rw (c .before .before .before .before .before .before .before .before .before .high .ensures, c .before .before .before .before .before .before .before .before .low .ensures, c .before .before .before .before .before .before .before .first-of .ensures, c .before .before .before .before .before .before .second-of .ensures, c .before .before .before .before .before .third-of .ensures, c .before .before .before .before .fourth-of .ensures, c .before .before .before .first-of2 .ensures, c .before .before .second-of2 .ensures, c .before .third-of2 .ensures, c .fourth-of2 .ensures)
 
 pub settings-octets-spec : {M : Type 1} → statement M
 settings-octets-spec =
     tie.close
     (tie.spec
-    cast-t7
-    cast-t9
-    cast-t12
-    cast-t15
-    cast-t18
-    cast-t20
-    cast-t23
-    cast-t26
-    cast-t29
-    cast-t31
+    high-requires
+    low-requires
+    first-of-requires
+    second-of-requires
+    third-of-requires
+    fourth-of-requires
+    first-of-requires-2
+    second-of-requires-2
+    third-of-requires-2
+    fourth-of-requires-2
     returns)

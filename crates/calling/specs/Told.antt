@@ -5,7 +5,7 @@ use lib.ListN.{length}
 use Rattle.rows.specs.Storing.{zeros}
 use Rattle.state.specs.declared.State.{State}
 use Rattle.calling.specs.declared.Called.{Called}
-use Rattle.model.specs.Model.{Call, add, remove, start, stop, tick, receive, listing}
+use Rattle.model.specs.Model.{Call, add, remove, happen, receive, listing}
 use Rattle.model.specs.Theorem.{Gateway, outcomeOf, seenOf}
 unfoldable pub use Rattle.reply_lines.specs.Replies.{txText, repliesText}
 
@@ -17,9 +17,7 @@ lent = zeros 2048
 unfoldable pub addressOf : Call → ℕ
 addressOf (add a asn) = a
 addressOf (remove a) = a
-addressOf (start a buffer) = a
-addressOf (stop a buffer) = a
-addressOf (tick a buffer) = a
+addressOf (happen event a buffer) = a
 addressOf (receive a o home buffer) = a
 addressOf (listing buffer) = 0
 

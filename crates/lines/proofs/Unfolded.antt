@@ -19,5 +19,5 @@ use Rattle.lines.specs.Listing as Listing
 use Rattle.lines.specs.Cases as Cases
 
 unfoldable pub opened : ℕ
-unfolding Checks.check Checks.ifOk Lists.every Lists.distinct Lists.join Buffer.over Classes.netWidth Classes.hostSpan Classes.goodNet Classes.onNet Rows.rowsOf Storing.zeros Record.under Record.idle WellformedFormed.allZero WellformedFormed.idleFormed WellformedFormed.timersBelow WellformedFormed.timersRun WellformedFormed.t2Formed WellformedFormed.registerFormed WellformedFormed.agreed WellformedFormed.intervalsFormed WellformedFormed.causeFormed WellformedFormed.wellFormed Slots.freeSlot Slots.addresses Slots.clash StateFormed.goodSettings StateFormed.goodPeer StateFormed.rowsFormed StateFormed.freeFormed StateFormed.usedFormed StateFormed.slotFormed StateFormed.stateFormed Outcomes.refusedOf Carried.partAt Text.text Text.digit Text.digits Text.decimal Text.dotted Text.line Lines.stateWord Lines.modeWord Lines.distanceIn Lines.sideWord Lines.headLines Lines.rowLines Lines.rowText Lines.entryText Lines.listingText Listing.usedRows Listing.entryOf Listing.entriesFrom Listing.entries Listing.markedRow Listing.listable Listing.listingChecks Listing.listingOutcome Listing.listingBuffer Cases.settings Cases.acquired Cases.waiting Cases.slot Cases.stateU Cases.tableU Cases.stateMixed Cases.tableMixed
+unfolding Checks.check Checks.ifOk Lists.every Lists.distinct Lists.join Buffer.over Classes.netWidth Classes.hostSpan Classes.goodNet Classes.onNet Rows.rowsOf Storing.zeros Record.under Record.withNumbers Record.withTimers Record.withReach Record.idle Record.waiting Record.initialised WellformedFormed.allZero WellformedFormed.idleFormed WellformedFormed.timersBelow WellformedFormed.timersRun WellformedFormed.t2Formed WellformedFormed.registerFormed WellformedFormed.agreed WellformedFormed.intervalsFormed WellformedFormed.causeFormed WellformedFormed.wellFormed Slots.freeSlot Slots.addresses Slots.clash StateFormed.goodSettings StateFormed.goodPeer StateFormed.rowsFormed StateFormed.freeFormed StateFormed.usedFormed StateFormed.slotFormed StateFormed.stateFormed Outcomes.refusedOf Carried.partAt Text.text Text.digit Text.digits Text.decimal Text.dotted Text.line Lines.stateWord Lines.modeWord Lines.distanceIn Lines.sideWord Lines.headLines Lines.rowLines Lines.rowText Lines.entryText Lines.listingText Listing.usedRows Listing.entryOf Listing.entriesFrom Listing.entries Listing.markedRow Listing.listable Listing.listingChecks Listing.listingOutcome Listing.listingBuffer Cases.settings Cases.acquiredNeighbour Cases.slot Cases.stateU Cases.tableU Cases.stateMixed Cases.tableMixed
 opened = 0

@@ -8,11 +8,12 @@ use Rattle.octets.specs.Buffer.{over}
 use Rattle.text.specs.Text.{text}
 use Rattle.rows.specs.Storing.{zeros}
 use Rattle.neighbour.specs.declared.Phase.{Phase}
-use Rattle.neighbour.specs.declared.Phase.the-variants.{Idle, Acquisition, Down, Up, Cease}
+use Rattle.neighbour.specs.declared.Phase.the-variants.{Acquisition, Down, Up, Cease}
 use Rattle.neighbour.specs.declared.Mode.{Mode}
-use Rattle.neighbour.specs.declared.Mode.the-variants.{Unset, Active, Passive}
+use Rattle.neighbour.specs.declared.Mode.the-variants.{Active, Passive}
 use Rattle.neighbour.specs.declared.Settings.{Settings}
 use Rattle.neighbour.specs.declared.Neighbour.{Neighbour}
+use Rattle.neighbour.specs.Record.{withNumbers, withTimers, withReach, idle, waiting, initialised}
 use Rattle.state.specs.declared.Slot.{Slot}
 use Rattle.state.specs.declared.State.{State}
 use Rattle.state.specs.Slots.{freeSlot}
@@ -25,13 +26,8 @@ unfoldable pub settings : Settings
 settings = record { asn = 9; own = 2148073473; capability = 0; net = 2148073472 }
 
 -- 01: T1 32, T2 122, as the least offer gives
-unfoldable pub acquired : Phase → Mode → ℕ → Neighbour
-acquired phase mode t2 =
-    record { s = 1; r = 0; hello = 32; poll = 122; t1 = 32; t2 = t2; t3 = 3600; phase = phase; mode = mode; register = 7; heard = 0; cause = 0 }
-
-unfoldable pub waiting : Phase → ℕ → Neighbour
-waiting phase cause =
-    record { s = 0; r = 0; hello = 0; poll = 0; t1 = 30; t2 = 0; t3 = 120; phase = phase; mode = Unset; register = 0; heard = 0; cause = cause }
+unfoldable pub acquiredNeighbour : Phase → Mode → ℕ → Neighbour
+acquiredNeighbour phase mode t2 = withReach (withTimers (withNumbers (initialised idle 32 122 mode) 1 0) 32 t2 3600) phase 7 0
 
 unfoldable pub slot : ℕ → ℕ → Neighbour → ℕ → Slot
 slot address asn n rows = record { address = address; asn = asn; neighbour = n; rows = rows }
@@ -41,7 +37,7 @@ unfoldable pub stateU : State
 stateU =
     record {
       settings = settings;
-      slots = slot 2148073477 7 (acquired Up Active 122) 2 ∷ freeSlot ∷ freeSlot ∷ freeSlot ∷ freeSlot ∷ freeSlot ∷ freeSlot ∷ freeSlot ∷ [];
+      slots = slot 2148073477 7 (acquiredNeighbour Up Active 122) 2 ∷ freeSlot ∷ freeSlot ∷ freeSlot ∷ freeSlot ∷ freeSlot ∷ freeSlot ∷ freeSlot ∷ [];
     }
 
 unfoldable pub tableU : List ℕ
@@ -54,13 +50,13 @@ stateMixed =
       settings = settings;
       slots =
           freeSlot
-          ∷ slot 2148073477 300 (acquired Up Passive 122) 3
+          ∷ slot 2148073477 300 (acquiredNeighbour Up Passive 122) 3
           ∷ freeSlot
-          ∷ slot 3758096385 10 (acquired Down Active 0) 0
+          ∷ slot 3758096385 10 (acquiredNeighbour Down Active 0) 0
           ∷ freeSlot
-          ∷ slot 16909060 7 (waiting Acquisition 0) 0
+          ∷ slot 16909060 7 (waiting idle Acquisition 0) 0
           ∷ freeSlot
-          ∷ slot 167772161 1 (waiting Cease 5) 0
+          ∷ slot 167772161 1 (waiting idle Cease 5) 0
           ∷ [];
     }
 
@@ -90,7 +86,7 @@ pub record Cases : Type 0 where
   pub marked : listingChecks stateMixed (tableMixed 512) [] ≡ 2
   pub tabled : (buffer : List ℕ) → listingChecks stateU (zeros 3071) buffer ≡ 2
   pub roomy : (buffer : List ℕ) → length buffer ≡ 65535 → listingChecks stateU tableU buffer ≡ 3
-  pub unformed : listingChecks (record { settings = settings; slots = slot 0 1 (waiting Idle 0) 0 ∷ [] }) [] [] ≡ 1
+  pub unformed : listingChecks (record { settings = settings; slots = slot 0 1 idle 0 ∷ [] }) [] [] ≡ 1
   -- carried out: 153 octets reported first and 0 second, the state as given, the text at the front of the buffer
   pub outcome-u : (buffer : List ℕ) → length buffer ≡ 65536 → listingOutcome stateU tableU buffer ≡ record { answer = 0; first = 153; second = 0; state = stateU }
   pub buffer-u : (buffer : List ℕ) → length buffer ≡ 65536 → listingBuffer stateU tableU buffer ≡ over (listingText (entries stateU tableU)) buffer

@@ -1,4 +1,4 @@
 pub mod Lines
-pub mod Listing
 pub mod Steps
+pub mod Listing
 pub mod Cases

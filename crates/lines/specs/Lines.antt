@@ -1,6 +1,6 @@
 -- The listing's text, of any used slots: 01's "The listing". Nothing here knows of the state or the table.
 use Prim.Native.Nat.{ℕ, _%_}
-use mathlib.Core.Bool.{Bool, cond}
+use mathlib.Core.Bool.{cond}
 use mathlib.Core.List.{List, [], _∷_, _++_, map}
 use lib.Dec.{leb}
 use lib.ListN.{length}
@@ -11,15 +11,18 @@ use Rattle.neighbour.specs.declared.Phase.{Phase}
 use Rattle.neighbour.specs.declared.Phase.the-variants.{Idle, Acquisition, Down, Up, Cease}
 use Rattle.neighbour.specs.declared.Mode.{Mode}
 use Rattle.neighbour.specs.declared.Mode.the-variants.{Unset, Active, Passive}
+use Rattle.neighbour.specs.declared.Neighbour.{Neighbour}
 
--- what is listed of a used slot
+-- what is listed of a used slot: its index, and what stands there
 pub record Entry : Type 0 where
   pub index : ℕ
   pub address : ℕ
   pub asn : ℕ
-  pub phase : Phase
-  pub mode : Mode
+  pub neighbour : Neighbour
   pub rows : List Row
+
+abbrev pub entryFor : ℕ → ℕ → ℕ → Neighbour → List Row → Entry
+entryFor i address asn n rows = record { index = i; address = address; asn = asn; neighbour = n; rows = rows }
 
 -- 01: "States: idle, acquisition, down, up, cease."
 unfoldable pub stateWord : Phase → List ℕ
@@ -49,8 +52,8 @@ headLines e =
     line (text "slot=") (decimal (e .index))
     ∷ line (text "addr=") (dotted (e .address))
     ∷ line (text "as=") (decimal (e .asn))
-    ∷ line (text "state=") (stateWord (e .phase))
-    ∷ line (text "mode=") (modeWord (e .mode))
+    ∷ line (text "state=") (stateWord (e .neighbour .phase))
+    ∷ line (text "mode=") (modeWord (e .neighbour .mode))
     ∷ line (text "rows=") (decimal (length (e .rows)))
     ∷ []
 

@@ -16,21 +16,15 @@ use Rattle.state.specs.Outcomes.{refusedOf}
 use Rattle.calls.specs.Carried.{partAt}
 use Rattle.calls.specs.Calls.{tableFits}
 use Rattle.lines.specs.Lines.{Entry, listingText}
+use Rattle.lines.specs.Steps.{slotEntry}
 
 -- a slot's used rows are those below its count
 unfoldable pub usedRows : Slot → List ℕ → List Row
 usedRows slot numbers = rowsOf (take (3 * slot .rows) numbers)
 
+-- what is listed of slot i with this table
 unfoldable pub entryOf : ℕ → Slot → List ℕ → Entry
-entryOf i slot table =
-    record {
-      index = i;
-      address = slot .address;
-      asn = slot .asn;
-      phase = slot .neighbour .phase;
-      mode = slot .neighbour .mode;
-      rows = usedRows slot (partAt table i);
-    }
+entryOf i slot table = slotEntry i slot (usedRows slot (partAt table i))
 
 -- 01: "used slots in order"; these are the slots from index i on
 unfoldable pub entriesFrom : ℕ → List Slot → List ℕ → List Entry

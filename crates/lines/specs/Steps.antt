@@ -4,19 +4,11 @@ use mathlib.Core.List.{List, map}
 use Rattle.checks.specs.Lists.{join}
 use Rattle.nets.specs.Rows.{Row}
 use Rattle.state.specs.declared.Slot.{Slot}
-use Rattle.lines.specs.Lines.{Entry, rowText}
+use Rattle.lines.specs.Lines.{Entry, entryFor, rowText}
 
 -- what is listed of slot i where these are its used rows
-unfoldable pub listed : ℕ → Slot → List Row → Entry
-listed i slot rows =
-    record {
-      index = i;
-      address = slot .address;
-      asn = slot .asn;
-      phase = slot .neighbour .phase;
-      mode = slot .neighbour .mode;
-      rows = rows;
-    }
+abbrev pub slotEntry : ℕ → Slot → List Row → Entry
+slotEntry i slot rows = entryFor i (slot .address) (slot .asn) (slot .neighbour) rows
 
 -- the rows of a slot, one after the other
 unfoldable pub rowsText : List Row → List ℕ

@@ -10,7 +10,7 @@ ghost use Rattle.text.specs.Text.{text, line};
 ghost use Rattle.storing.specs.Written.{Written};
 ghost use Rattle.nets.specs.Rows.{rowsOf};
 ghost use Rattle.lines.specs.Lines.{stateWord, modeWord, sideWord, headLines, rowText};
-ghost use Rattle.lines.specs.Steps.{listed, rowsText};
+ghost use Rattle.lines.specs.Steps.{slotEntry, rowsText};
 
 // Writes the line of a neighbour's state.
 fn put_state(out: &mut [u8], at: usize, phase: Phase) -> usize
@@ -41,8 +41,8 @@ fn put_mode(out: &mut [u8], at: usize, mode: Mode) -> usize
 // Writes the lines of a slot before those of its rows.
 pub fn put_head(out: &mut [u8], at: usize, i: usize, slot: Slot, rows: &[u32]) -> usize
     requires { ⌜ (i ≤ 8) × (length (now rows) ≤ 384) ⌝ }
-    requires { ⌜ at + length (join (headLines (listed i slot (rowsOf (now rows))))) ≤ length (now out) ⌝ }
-    ensures { λ r. ⌜ Written (join (headLines (listed i slot (rowsOf (now (rows .entry)))))) at (now (out .entry)) (now (out .exit)) r ⌝ }
+    requires { ⌜ at + length (join (headLines (slotEntry i slot (rowsOf (now rows))))) ≤ length (now out) ⌝ }
+    ensures { λ r. ⌜ Written (join (headLines (slotEntry i slot (rowsOf (now (rows .entry)))))) at (now (out .entry)) (now (out .exit)) r ⌝ }
 {
     let n = slot.neighbour;
     let phase = n.phase;

@@ -6,8 +6,10 @@ use mathlib.Core.Path.{_≡_, refl}
 use mathlib.Core.List.{List, [], _∷_, map}
 use lib.Dec.{leb, eqb}
 use lib.ListN.{length, getD, length-append, length-take}
+use borrow.Author.Tests.{leb-true}
 use Rattle.checks.specs.Lists.{join}
 use Rattle.checks.proofs.Laws.{check-passed, ifOk-holds}
+use Rattle.octets.proofs.Laws.{over-length}
 use Rattle.neighbour.specs.Record.{isUp}
 use Rattle.nets.specs.Rows.{Row}
 use Rattle.blocks.proofs.Lists.{rows-take}
@@ -27,7 +29,7 @@ use Rattle.state.proofs.Theorems.{formed-slot}
 use Rattle.state.specs.declared.Outcome.{Outcome}
 use Rattle.calls.specs.Carried.{partAt}
 use Rattle.lines.specs.Lines.{stateWord, modeWord, distanceIn, sideWord, headLines, rowLines, rowText, entryText, listingText}
-use Rattle.lines.specs.Listing.{usedRows, entryOf, entriesFrom, entries, listingChecks, listingOutcome}
+use Rattle.lines.specs.Listing.{usedRows, entryOf, entriesFrom, entries, listingChecks, listingOutcome, listingBuffer}
 use Rattle.listing.specs.Claims.{Typed, Short}
 
 line-length : (name value : List ℕ) → length (line name value) ≡ length name + length value + 1
@@ -114,10 +116,21 @@ text-length st table t f =
     let c = decimal-most 0 (length (entriesFrom 0 (st .slots) table)) (omega (arith, t .eight)) in
     simp (length-append, line-length) (omega (arith, t .eight))
 
+room-kept : (st : State) (table buffer : List ℕ) → Typed st → length (listingBuffer st table buffer) ≡ length buffer
+unfolding listingBuffer listingChecks
+room-kept st table buffer t =
+    ifOk-holds (listingChecks st table buffer) _ buffer (λ (b : List ℕ). length b ≡ length buffer)
+    (λ e.
+    let behind = check-passed (stateFormed st) 1 _ refl e in
+    let room = leb-true 65536 (length buffer) (check-passed _ 3 0 refl (check-passed _ 2 _ refl (behind .1) .1) .0) in
+    over-length (listingText (entries st table)) buffer (omega (arith, text-length st table t (behind .0), room)))
+    refl
+
 pub short : Short
 unfolding listingOutcome listingChecks refusedOf
 short =
     record {
       text = text-length;
       reported = λ st table buffer t. ifOk-holds (listingChecks st table buffer) _ _ (λ (o : Outcome). o .first ≤ 58925) (λ e. text-length st table t (check-passed _ 1 _ refl e .0)) (omega arith);
+      same = room-kept;
     }

@@ -22,7 +22,7 @@ use Rattle.state.specs.Slots.{freeSlot}
 use Rattle.calls.specs.Carried.{partAt}
 use Rattle.lines.specs.Lines.{Entry, headLines, entryText, listingText}
 use Rattle.lines.specs.Listing.{usedRows, entryOf, entriesFrom, markedRow, listable}
-use Rattle.lines.specs.Steps.{listed, rowsText}
+use Rattle.lines.specs.Steps.{slotEntry, rowsText}
 use Rattle.listing.specs.Steps.{slotText, slotListable}
 
 -- ---- third numbers, row by row
@@ -51,9 +51,9 @@ module _ (i : ℕ) (slot : Slot) (table : List ℕ) (few : slot .rows ≤ 128) w
   unfolding entryOf usedRows partAt
   used-part = rw (add-sub-cancel-left (i * 384) (3 * slot .rows), take-take (3 * slot .rows) 384 (drop (i * 384) table) (omega arith))
 
-  listed-is : listed i slot (rowsOf (part i slot table)) ≡ entryOf i slot table
-  unfolding listed entryOf
-  listed-is = ap (listed i slot) used-part
+  listed-is : slotEntry i slot (rowsOf (part i slot table)) ≡ entryOf i slot table
+  unfolding entryOf
+  listed-is = ap (slotEntry i slot) used-part
 
   pub part-long : length (part i slot table) ≤ 384
   part-long = simp length-take (omega arith)
@@ -63,21 +63,21 @@ module _ (i : ℕ) (slot : Slot) (table : List ℕ) (few : slot .rows ≤ 128) w
     unfolding slotListable listable
     used-listable = rw (ne-eqb (slot .address) 0 n) (ap (every markedRow) used-part)
 
-    used-text : slotText i slot table ≡ join (headLines (listed i slot (rowsOf (part i slot table)))) ++ rowsText (rowsOf (part i slot table))
+    used-text : slotText i slot table ≡ join (headLines (slotEntry i slot (rowsOf (part i slot table)))) ++ rowsText (rowsOf (part i slot table))
     unfolding slotText entryText rowsText
     used-text = rw (ne-eqb (slot .address) 0 n, listed-is, used-part)
 
     module _ (at : ℕ) (old : List ℕ) (h : at + length (slotText i slot table) ≤ length old) where
-      pub head-room : at + length (join (headLines (listed i slot (rowsOf (part i slot table))))) ≤ length old
+      pub head-room : at + length (join (headLines (slotEntry i slot (rowsOf (part i slot table))))) ≤ length old
       head-room =
           room (start (slotText i slot table) at old h)
-          (join (headLines (listed i slot (rowsOf (part i slot table))))) (rowsText (rowsOf (part i slot table))) used-text
+          (join (headLines (slotEntry i slot (rowsOf (part i slot table))))) (rowsText (rowsOf (part i slot table))) used-text
 
-      module _ {mid : List ℕ} {o : ℕ} (p : Written (join (headLines (listed i slot (rowsOf (part i slot table))))) at old mid o) where
+      module _ {mid : List ℕ} {o : ℕ} (p : Written (join (headLines (slotEntry i slot (rowsOf (part i slot table))))) at old mid o) where
         from-rows : Writing (slotText i slot table) at old (rowsText (rowsOf (part i slot table))) o mid
         from-rows =
             turn (start (slotText i slot table) at old h)
-            (join (headLines (listed i slot (rowsOf (part i slot table))))) (rowsText (rowsOf (part i slot table))) used-text p
+            (join (headLines (slotEntry i slot (rowsOf (part i slot table))))) (rowsText (rowsOf (part i slot table))) used-text p
 
         pub rows-room : o + length (rowsText (rowsOf (part i slot table))) ≤ length mid
         rows-room = from-rows .fits

@@ -2,3 +2,4 @@ pub mod Laws
 pub mod Words
 pub mod Bound
 pub mod Calls
+pub mod Keeps

@@ -1,5 +1,6 @@
 pub mod Table
 pub mod Tick
+pub mod Intrinsics
 pub mod Step
 pub mod Laws
 pub mod Sheet

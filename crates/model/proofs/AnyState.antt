@@ -17,7 +17,7 @@ use Rattle.state.specs.Formed.{stateFormed}
 use Rattle.state.proofs.Theorems.{formed-slot, free-is-zero}
 use Rattle.calls.specs.Carried.{partAt}
 use Rattle.model.specs.Model.{Call, Slot, free, used, slotIn, modelFrom, saidFrom}
-use Rattle.model.specs.Theorem.{Gateway, gatewayFrom, seenFrom, cell, stateOf, rowsHeld, part, tableOf, shown, rowsAt, carriesOctets, listsNothing, unused, Sensible, Listable, slotFrom, slotsFrom, modelOf, FromAnyState}
+use Rattle.model.specs.Theorem.{Gateway, gatewayFrom, seenFrom, cell, stateOf, rowsHeld, part, tableOf, shown, rowsAt, carriesOctets, listsNothing, unused, Sensible, Listable, peerFrom, slotFrom, slotsFrom, modelOf, FromAnyState}
 use Rattle.model.proofs.Represent.{sound, Good}
 use Rattle.model.proofs.Simulation.{represent}
 use Rattle.model.proofs.Listed.{marked, Marked}
@@ -56,7 +56,7 @@ module _ (slot : Stored.Slot) (numbers : List ℕ) (k : Known slot numbers) wher
   unfolding slotFrom
   slot-free e = rw e
 
-  slot-used : eqb (slot .address) 0 ≡ false → slotFrom slot numbers ≡ used (slot .address) (slot .asn) (slot .neighbour) (rowsOf (take (3 * slot .rows) numbers))
+  slot-used : eqb (slot .address) 0 ≡ false → slotFrom slot numbers ≡ used (peerFrom slot (rowsOf (take (3 * slot .rows) numbers)))
   unfolding slotFrom
   slot-used e = rw e
 
@@ -81,7 +81,7 @@ module _ (slot : Stored.Slot) (numbers : List ℕ) (k : Known slot numbers) wher
   unfolding part rowsHeld padded flat
   free-part = refl
 
-  used-part : part (used (slot .address) (slot .asn) (slot .neighbour) (rowsOf (take (3 * slot .rows) numbers))) ≡ numbers
+  used-part : part (used (peerFrom slot (rowsOf (take (3 * slot .rows) numbers)))) ≡ numbers
   unfolding part rowsHeld padded
   used-part =
       rw (flat-back (take (3 * slot .rows) numbers) (slot .rows) front, front, ← (k .zeroed)) (take-append-drop (3 * slot .rows) numbers)

@@ -20,8 +20,9 @@ use Rattle.neighbour.specs.declared.Phase.the-variants as Phases
 use Rattle.neighbour.specs.declared.Settings.{Settings}
 use Rattle.neighbour.specs.declared.Neighbour.{Neighbour}
 use Rattle.neighbour.specs.Record.{idle, isUp}
-use Rattle.machine.specs.declared.Event.{Event}
 use Rattle.machine.specs.declared.Event.the-variants.{Start, Stop, Tick}
+use Rattle.machine.specs.Intrinsics as I
+use Rattle.machine.specs.Intrinsics.{Intrinsic, asEvent}
 use Rattle.machine.specs.Step.{stepOf}
 use Rattle.state.specs.declared.Slot as Stored
 use Rattle.state.specs.Slots.{freeSlot}
@@ -30,9 +31,9 @@ use Rattle.calls.specs.Carried.{partAt}
 use Rattle.calls.specs.Home.{goodHome}
 use Rattle.claims.proofs.Others.{others-untouched}
 use Rattle.claims.proofs.Verdicts.{is-up}
-use Rattle.model.specs.Model.{Call, add, remove, start, stop, tick, receive, listing, Slot, free, used, Model, slotIn, placeOf, noOctets, messageMove, eventTurn, step, model, modelFrom}
+use Rattle.model.specs.Model.{Call, add, remove, happen, start, stop, tick, receive, listing, Slot, free, used, Model, slotIn, placeOf, noOctets, messageMove, eventTurn, step, model, modelFrom, Peer}
 use Rattle.model.specs.History.{isUpSlot, accepts, upAfter, told, lastFrom, lastAccepted, isAbout, isElsewhere}
-use Rattle.model.specs.Theorem.{Gateway, outcomeOf, gatewayStep, gatewayFrom, run, cell, stateOf, rowsHeld, part, tableOf, rowsAt, listsNothing, unused, Sensible, modelOf}
+use Rattle.model.specs.Theorem.{Gateway, outcomeOf, gatewayStep, gatewayFrom, run, cell, stateOf, rowsHeld, part, tableOf, rowsAt, listsNothing, unused, Sensible, peerFrom, modelOf}
 use Rattle.model.specs.Corollaries.{Taken, slotOn, isUpOn, Used, Unmoved, Bare, Says, RunsAreSensible, OthersStayOn, OthersStay, OthersStayInRuns, reports, BothReport, OneClosedOn, OneClosed, WhateverCloses, ClosedWhateverBy, NoDeadRow, RestartsBare, EntersUpBare, acceptsNone, BareUntilUpdate, SaysRows, Stands, UpdateCounts, AfterLastNumber, StandsWhole, FullUpdateStands, EightFull}
 use Rattle.model.proofs.Represent.{sound, Good, at-of, eight-of, good-at, sound-at, table-length, part-of}
 use Rattle.model.proofs.Simulation.{represent, simulates, good-step}
@@ -51,13 +52,13 @@ from-model P h b s = subst P (model-back b s) (h (modelOf b) (good-back b s))
 pub up-shown : (slot : Slot) → isUpSlot slot ≡ isUp ((cell slot) .neighbour .phase)
 unfolding isUpSlot cell freeSlot idle
 up-shown free = refl
-up-shown (used address asn n rows) = refl
+up-shown (used peer) = refl
 
 -- a free slot is not Up
 up-address : (slot : Slot) → isUp ((cell slot) .neighbour .phase) ≡ true → sound slot ≡ true → (cell slot) .address ≡ 0 → ⊥
 unfolding cell freeSlot idle sound
 up-address free u s e = false≢true u
-up-address (used address asn n rows) u s e = false≢true (sym (ap not (ap (λ (a : ℕ). eqb a 0) e)) ∙ s)
+up-address (used peer) u s e = false≢true (sym (ap not (ap (λ (a : ℕ). eqb a 0) e)) ∙ s)
 
 module _ (m : Model) (ok : Good m) where
   pub slot-is : (j : ℕ) → slotOn (represent m) j ≡ cell (slotIn m j)
@@ -107,7 +108,7 @@ unfolding padded
 zeros-behind rows =
     drop-at (flat rows) (zeros (384 - length (flat rows))) (3 * length rows) (flat-length rows) ∙ ap (λ (k : ℕ). zeros (384 - k)) (flat-length rows)
 
-good-sensible : (m : Model) → Good m → Sensible (represent m)
+pub good-sensible : (m : Model) → Good m → Sensible (represent m)
 unfolding represent unused
 good-sensible m ok =
     record {
@@ -139,9 +140,7 @@ about-elsewhere : (a b : ℕ) → (a ≡ b → ⊥) → (call : Call) → isAbou
 unfolding isAbout isElsewhere
 about-elsewhere a b n (add x asn) e = other x a b n e
 about-elsewhere a b n (remove x) e = other x a b n e
-about-elsewhere a b n (start x buffer) e = other x a b n e
-about-elsewhere a b n (stop x buffer) e = other x a b n e
-about-elsewhere a b n (tick x buffer) e = other x a b n e
+about-elsewhere a b n (happen event x buffer) e = other x a b n e
 about-elsewhere a b n (receive x o home buffer) e = other x a b n e
 about-elsewhere a b n (listing buffer) e = absurd (false≢true e)
 
@@ -213,50 +212,53 @@ module _ (m : Model) (ok : Good m) (j : ℕ) (j8 : j < 8) where
     abbrev before : Stored.Slot
     before = slotOn (represent m) j
 
-    here : slotIn m j ≡ used (before .address) (before .asn) (before .neighbour) (rowsHeld (slotIn m j))
+    abbrev mine : Peer
+    mine = peerFrom before (rowsHeld (slotIn m j))
+
+    here : slotIn m j ≡ used mine
     here =
         used-slot (slotIn m j) (λ e. u (ap (λ (x : Stored.Slot). x .address) (slot-is m ok j) ∙ e))
-        ∙ ap (λ (x : Stored.Slot). used (x .address) (x .asn) (x .neighbour) (rowsHeld (slotIn m j))) (sym (slot-is m ok j))
+        ∙ ap (λ (x : Stored.Slot). used (peerFrom x (rowsHeld (slotIn m j)))) (sym (slot-is m ok j))
 
-    event-after : (event : Event) (buffer : List ℕ) → leb 2048 (length buffer) ≡ true → (call : Call)
+    event-after : (event : Intrinsic) (buffer : List ℕ) → leb 2048 (length buffer) ≡ true → (call : Call)
         → (step call m) .model ≡ (eventTurn event m (before .address) buffer) .model
-        → (slotOn (gatewayStep call (represent m)) j) .neighbour ≡ (stepOf (m .settings) (before .asn) (before .neighbour) event noOctets) .neighbour
+        → (slotOn (gatewayStep call (represent m)) j) .neighbour ≡ (stepOf (m .settings) (before .asn) (before .neighbour) (asEvent event) noOctets) .neighbour
     event-after event buffer r call e =
         ap (λ (x : Stored.Slot). x .neighbour) (after-is call)
         ∙ ap (λ (x : Model). (cell (slotIn x j)) .neighbour) e
         ∙ ap (λ (x : Slot). (cell x) .neighbour)
-        (event-slot m ok j j8 (before .address) (before .asn) (before .neighbour) (rowsHeld (slotIn m j)) here event buffer r)
-        ∙ event-phase (m .settings) event (before .address) (before .asn) (before .neighbour) (rowsHeld (slotIn m j))
+        (event-slot m ok j j8 mine here event buffer r)
+        ∙ event-phase (m .settings) event mine
 
     module _ (buffer : List ℕ) (r : leb 2048 (length buffer) ≡ true) where
       stop-after : (slotOn (gatewayStep (stop (before .address) buffer) (represent m)) j) .neighbour
           ≡ (stepOf (m .settings) (before .asn) (before .neighbour) Stop noOctets) .neighbour
       unfolding step
-      stop-after = event-after Stop buffer r (stop (before .address) buffer) refl
+      stop-after = event-after I.Stop buffer r (stop (before .address) buffer) refl
 
       start-after : (slotOn (gatewayStep (start (before .address) buffer) (represent m)) j) .neighbour
           ≡ (stepOf (m .settings) (before .asn) (before .neighbour) Start noOctets) .neighbour
       unfolding step
-      start-after = event-after Start buffer r (start (before .address) buffer) refl
+      start-after = event-after I.Start buffer r (start (before .address) buffer) refl
 
       tick-after : (slotOn (gatewayStep (tick (before .address) buffer) (represent m)) j) .neighbour
           ≡ (stepOf (m .settings) (before .asn) (before .neighbour) Tick noOctets) .neighbour
       unfolding step
-      tick-after = event-after Tick buffer r (tick (before .address) buffer) refl
+      tick-after = event-after I.Tick buffer r (tick (before .address) buffer) refl
 
     module _ (o home buffer : List ℕ) (x : Message) (k : Says (represent m) j o home buffer x) where
       message-after : slotIn ((step (receive (before .address) o home buffer) m) .model) j
-          ≡ (messageMove (m .settings) o (used (before .address) (before .asn) (before .neighbour) (rowsHeld (slotIn m j)))) .slot
+          ≡ (messageMove (m .settings) o (used mine)) .slot
       unfolding step represent stateOf
-      message-after = message-slot m ok j j8 _ _ _ _ here o home buffer (k .room) (k .good-home)
+      message-after = message-slot m ok j j8 mine here o home buffer (k .room) (k .good-home)
 
       message-answer : (step (receive (before .address) o home buffer) m) .said .answer
-          ≡ (messageMove (m .settings) o (used (before .address) (before .asn) (before .neighbour) (rowsHeld (slotIn m j)))) .answer
+          ≡ (messageMove (m .settings) o (used mine)) .answer
       unfolding step represent stateOf
-      message-answer = message-says m ok j j8 _ _ _ _ here o home buffer (k .room) (k .good-home)
+      message-answer = message-says m ok j j8 mine here o home buffer (k .room) (k .good-home)
 
       message-shown : slotOn (gatewayStep (receive (before .address) o home buffer) (represent m)) j
-          ≡ cell ((messageMove (m .settings) o (used (before .address) (before .asn) (before .neighbour) (rowsHeld (slotIn m j)))) .slot)
+          ≡ cell ((messageMove (m .settings) o (used mine)) .slot)
       message-shown = after-is (receive (before .address) o home buffer) ∙ ap cell message-after
 
     -- a Cease or a Request leaves it not Up
@@ -264,13 +266,13 @@ module _ (m : Model) (ok : Good m) (j : ℕ) (j8 : j < 8) where
         → isUpOn (gatewayStep (receive (before .address) o home buffer) (represent m)) j ≡ false
     cease-after o home buffer a q s k =
         not-up (ap (λ (x : Stored.Slot). x .neighbour) (message-shown o home buffer (M.Cease a q s) k))
-        (cease-move (m .settings) (before .asn) (before .neighbour) o (k .header) (k .from) _ _ a q s (k .meaning))
+        (cease-move (m .settings) mine o (k .header) (k .from) a q s (k .meaning))
 
     request-after : (o home buffer : List ℕ) (a q s hello poll : ℕ) → Says (represent m) j o home buffer (M.Request a q s hello poll)
         → isUpOn (gatewayStep (receive (before .address) o home buffer) (represent m)) j ≡ false
     request-after o home buffer a q s hello poll k =
         not-up (ap (λ (x : Stored.Slot). x .neighbour) (message-shown o home buffer (M.Request a q s hello poll) k))
-        (request-move (m .settings) (before .asn) (before .neighbour) o (k .header) (k .from) _ _ a q s hello poll (k .meaning))
+        (request-move (m .settings) mine o (k .header) (k .from) a q s hello poll (k .meaning))
 
 -- ---- one is closed
 
@@ -323,31 +325,19 @@ closed-whatever-by = from-model (λ b. (i j net : ℕ) → BothReport b i j net 
 
 -- ---- no dead row
 
--- Start and tick keep address and AS of every slot
-module _ (b : Gateway) (a : ℕ) (buffer : List ℕ) (j : ℕ) where
-  start-address : (slotOn (gatewayStep (start a buffer) b) j) .address ≡ (slotOn b j) .address
+-- Start, Stop and tick keep address and AS of every slot
+module _ (event : Intrinsic) (b : Gateway) (a : ℕ) (buffer : List ℕ) (j : ℕ) where
+  event-address : (slotOn (gatewayStep (happen event a buffer) b) j) .address ≡ (slotOn b j) .address
   unfolding gatewayStep outcomeOf
-  start-address = others-untouched .events Start (b .state) (b .table) buffer a .addresses j
+  event-address = others-untouched .events (asEvent event) (b .state) (b .table) buffer a .addresses j
 
-  start-asn : (slotOn (gatewayStep (start a buffer) b) j) .asn ≡ (slotOn b j) .asn
+  event-asn : (slotOn (gatewayStep (happen event a buffer) b) j) .asn ≡ (slotOn b j) .asn
   unfolding gatewayStep outcomeOf
-  start-asn = others-untouched .events Start (b .state) (b .table) buffer a .asns j
+  event-asn = others-untouched .events (asEvent event) (b .state) (b .table) buffer a .asns j
 
-  start-settings : (gatewayStep (start a buffer) b) .state .settings ≡ b .state .settings
+  event-settings : (gatewayStep (happen event a buffer) b) .state .settings ≡ b .state .settings
   unfolding gatewayStep outcomeOf
-  start-settings = others-untouched .events Start (b .state) (b .table) buffer a .settings
-
-  tick-address : (slotOn (gatewayStep (tick a buffer) b) j) .address ≡ (slotOn b j) .address
-  unfolding gatewayStep outcomeOf
-  tick-address = others-untouched .events Tick (b .state) (b .table) buffer a .addresses j
-
-  tick-asn : (slotOn (gatewayStep (tick a buffer) b) j) .asn ≡ (slotOn b j) .asn
-  unfolding gatewayStep outcomeOf
-  tick-asn = others-untouched .events Tick (b .state) (b .table) buffer a .asns j
-
-  tick-settings : (gatewayStep (tick a buffer) b) .state .settings ≡ b .state .settings
-  unfolding gatewayStep outcomeOf
-  tick-settings = others-untouched .events Tick (b .state) (b .table) buffer a .settings
+  event-settings = others-untouched .events (asEvent event) (b .state) (b .table) buffer a .settings
 
 -- what a message says to a slot is told by the settings and the slot's AS alone
 says-on : (b c : Gateway) (j : ℕ) (o home buffer : List ℕ) (x : Message) → c .state .settings ≡ b .state .settings → (slotOn c j) .asn ≡ (slotOn b j) .asn
@@ -386,10 +376,10 @@ restarts-bare b s j j8 u =
       started =
           λ lent o home buffer x q t hello poll k.
           let c = gatewayStep (start a lent) b in
-          let same = start-address b a lent j in
+          let same = event-address I.Start b a lent j in
           subst (λ (y : ℕ). Bare (gatewayStep (receive y o home buffer) c) j) same
           (request-bare c (step-sensible (start a lent) b s) j j8 (λ e. u (sym same ∙ e)) o home buffer x q t hello poll
-          (says-on b c j o home buffer _ (start-settings b a lent j) (start-asn b a lent j) k));
+          (says-on b c j o home buffer _ (event-settings I.Start b a lent j) (event-asn I.Start b a lent j) k));
     }
 
 -- the history of a list that goes on
@@ -444,9 +434,7 @@ accepts-none : (m : Model) (j : ℕ) (call : Call) → isUpSlot (slotIn m j) ≡
 unfolding accepts
 accepts-none m j (add address asn) e = refl
 accepts-none m j (remove address) e = refl
-accepts-none m j (start a buffer) e = refl
-accepts-none m j (stop a buffer) e = refl
-accepts-none m j (tick a buffer) e = refl
+accepts-none m j (happen event a buffer) e = refl
 accepts-none m j (receive a o home buffer) e =
     rw e (go (eqb ((step (receive a o home buffer) m) .said .answer) 0) (eqb (placeOf m a) j))
   where
@@ -492,8 +480,8 @@ module _ (m : Model) (ok : Good m) (j : ℕ) (j8 : j < 8) (up : isUpOn (represen
   new-rows =
       let s = slotOn (represent m) j in
       ap rowsHeld (message-after m ok j j8 used-here o home buffer theUpdate (k .says))
-      ∙ update-rows (m .settings) (s .asn) (s .neighbour) o (k .says .header) (k .says .from) (k .asn) (s .neighbour .s) (k .status) (k .net) (k .says .meaning)
-      (is-up (s .neighbour .phase) up) refl rows good-body (s .address) (rowsHeld (slotIn m j))
+      ∙ update-rows (m .settings) (mine m ok j j8 used-here) o (k .says .header) (k .says .from) (k .asn) (s .neighbour .s) (k .status) (k .net) (k .says .meaning)
+      (is-up (s .neighbour .phase) up) refl rows good-body
 
   answered : (outcomeOf theCall (represent m)) .answer ≡ 0
   unfolding listsNothing
@@ -501,8 +489,8 @@ module _ (m : Model) (ok : Good m) (j : ℕ) (j8 : j < 8) (up : isUpOn (represen
       let s = slotOn (represent m) j in
       simulates m ok theCall (λ f. absurd (true≢false f)) .answer
       ∙ message-answer m ok j j8 used-here o home buffer theUpdate (k .says)
-      ∙ update-answer (m .settings) (s .asn) (s .neighbour) o (k .says .header) (k .says .from) (k .asn) (s .neighbour .s) (k .status) (k .net) (k .says .meaning)
-      (is-up (s .neighbour .phase) up) refl rows good-body (s .address) (rowsHeld (slotIn m j))
+      ∙ update-answer (m .settings) (mine m ok j j8 used-here) o (k .says .header) (k .says .from) (k .asn) (s .neighbour .s) (k .status) (k .net) (k .says .meaning)
+      (is-up (s .neighbour .phase) up) refl rows good-body
 
   stands : Stands (represent m) theCall j rows
   stands =
@@ -546,7 +534,7 @@ after-last-number b w lent j j8 r s t up still =
     record {
       again = zero-s;
       counts =
-          λ o home buffer rows k. subst (λ (y : ℕ). Stands c (receive y o home buffer) j rows) (tick-address b a lent j)
+          λ o home buffer rows k. subst (λ (y : ℕ). Stands c (receive y o home buffer) j rows) (event-address I.Tick b a lent j)
           (update-counts c (step-sensible (tick a lent) b w) j j8 still o home buffer rows
           (record {
             asn = k .asn;
@@ -554,8 +542,8 @@ after-last-number b w lent j j8 r s t up still =
             net = k .net;
             says =
                 subst (λ (n : ℕ). Says c j o home buffer (M.Update (k .asn) n (k .status) (k .net))) (sym zero-s)
-                (says-on b c j o home buffer _ (tick-settings b a lent j) (tick-asn b a lent j) (k .says));
-            body = ap (λ (g : Settings). updateOf 128 (g .net) o) (tick-settings b a lent j) ∙ k .body;
+                (says-on b c j o home buffer _ (event-settings I.Tick b a lent j) (event-asn I.Tick b a lent j) (k .says));
+            body = ap (λ (g : Settings). updateOf 128 (g .net) o) (event-settings I.Tick b a lent j) ∙ k .body;
           }));
     }
 

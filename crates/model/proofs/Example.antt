@@ -3,17 +3,19 @@ use Prim.Native.Nat.{ℕ, zero, suc, _+_, _*_, _%_, _<_}
 use native.Mathlib.Nat.{zero-add}
 use native.Mathlib.Omega.{arith}
 use mathlib.Core.Path.{_≡_, refl, sym, _∙_, ap, subst}
-use mathlib.Core.Bool.{Bool, true, false}
+use mathlib.Core.Bool.{true, false, _&&_}
 use mathlib.Core.List.{List, [], _∷_, _++_, append-assoc}
 use lib.Dec.{leb, eqb}
-use lib.ListN.{length}
+use lib.ListN.{length, length-set}
 use borrow.Author.Tests.{eqb-true}
 use Rattle.checks.specs.Checks.{check}
-use Rattle.neighbour.specs.Record.{isUp}
+use Rattle.checks.proofs.Laws.{and-left, and-right}
+use Rattle.neighbour.specs.Record.{isUp, withNumbers, withTimers, withReach}
 use Rattle.checks.specs.Lists.{every, join}
 use Rattle.octets.specs.Checksum as Checksum
 use Rattle.nets.specs.Classes as Classes
 use Rattle.nets.specs.Rows as Rows
+use Rattle.nets.specs.Rows.{Row}
 use Rattle.rows.specs.Storing as Storing
 use Rattle.message.specs.Kinds as Kinds
 use Rattle.message.specs.declared.Message.{Message}
@@ -32,109 +34,142 @@ use Rattle.neighbour.specs.declared.Neighbour.{Neighbour}
 use Rattle.neighbour.specs.Rules.{onesOf, goesDown}
 use Rattle.state.specs.Outcomes as Outcomes
 use Rattle.state.specs.Formed as Formed
+use Rattle.state.specs.Formed.{stateFormed}
+use Rattle.state.specs.declared.State.{State}
 use Rattle.state.specs.declared.Slot as Stored
 use Rattle.state.specs.Slots.{slotAt}
-use Rattle.state.proofs.ListLaws.{every-in}
+use Rattle.state.proofs.ListLaws.{every-set, every-in}
 use Rattle.slots.specs.Calls as Slots
 use Rattle.calls.specs.Home as Home
 use Rattle.calls.specs.Home.{goodHome}
-use Rattle.model.specs.Model.{Call, tick, Slot, free, Model, slotIn, model, modelFrom, empty}
-use Rattle.model.specs.History.{lastAccepted}
-use Rattle.model.specs.Theorem.{Gateway, gatewayStep, run, cell, stateOf, rowsHeld, rowsAt}
-use Rattle.model.specs.Corollaries.{Taken, slotOn, isUpOn, reports, BothReport, Says}
+use Rattle.model.specs.Model.{Call, tick, Slot, free, used, Model, slotIn, put, step, model, modelFrom, empty}
+use Rattle.model.specs.Theorem.{Gateway, gatewayStep, run, cell, stateOf, rowsHeld, rowsAt, Sensible}
+use Rattle.model.specs.Corollaries.{Taken, slotOn, isUpOn, reports, BothReport, Says, SaysRows}
 use Rattle.model.specs.History.{isUpSlot}
-use Rattle.model.specs.Windows.{restartsNone, windows, anyOf, firstFour, oneInFour, latest}
-use Rattle.model.specs.Example.{someSettings, lent, classA, ticks, saysHello, reporting, eight, polled, lastNumber, almostUp, slow, EightMet, LastNumberMet, QuietMet}
-use Rattle.model.proofs.Represent.{Good}
+use Rattle.model.specs.Windows.{recordIn, windows, anyOf, firstFour, oneInFour}
+use Rattle.model.specs.Example.{someSettings, lent, classA, ticks, saysHello, reporting, eight, polled, lastNumber, almostUp, slow, late, lateFirst, overdue, EightMet, TimeOutMet, FullMet, LastNumberMet, QuietMet, IndicationMet}
+use Rattle.model.proofs.Represent.{sound, Good, sound-at}
 use Rattle.model.proofs.Simulation.{represent}
-use Rattle.model.proofs.History.{model-append}
-use Rattle.model.proofs.Theorem.{step-is, rows-read, run-is, model-good, model-more, last}
+use Rattle.model.proofs.History.{model-append, step-settings}
+use Rattle.model.proofs.Theorem.{step-is, rows-read, run-is, run-state, model-good, last}
+use Rattle.model.proofs.Corollaries.{slot-is, good-sensible}
 use Rattle.model.proofs.Quiet.{slot-run, up-run}
-use Rattle.model.proofs.Computed.{atRest, alone, eightSlots, justUp, computed}
+use Rattle.model.proofs.Computed.{isFull, allReport, fallsSilent, eightFacts, silentFacts, atRest, alone, Rests, entered, computed}
 
 some-taken : Taken someSettings
 unfolding someSettings Slots.freshOf Slots.freshAnswer Outcomes.silentOf check Formed.goodSettings Classes.goodNet Classes.onNet Classes.netWidth Classes.hostSpan
 some-taken = refl
 
+-- ---- a run, by what holds of its model
+
+rows-of : (calls : List Call) (j : ℕ) → j < 8 → rowsAt (run someSettings calls) j ≡ rowsHeld (slotIn (model someSettings calls) j)
+rows-of calls j j8 =
+    ap (λ (b : Gateway). rowsAt b j) (run-is someSettings some-taken calls)
+    ∙ rows-read (model someSettings calls) (model-good someSettings some-taken calls) j j8
+
+settings-from : (m : Model) (calls : List Call) → (modelFrom m calls) .settings ≡ m .settings
+unfolding modelFrom
+settings-from m [] = refl
+settings-from m (call ∷ rest) = settings-from ((step call m) .model) rest ∙ step-settings call m
+
+run-settings : (calls : List Call) → (run someSettings calls) .state .settings ≡ someSettings
+unfolding stateOf model empty
+run-settings calls =
+    ap (λ (s : State). s .settings) (run-state someSettings some-taken calls) ∙ settings-from (empty someSettings) calls
+
 -- ---- eight neighbours
 
-eight-model : model someSettings eight ≡ eightSlots (atRest 1 1 1 122 122 3600)
+module _ (m : Model) (t : allReport m ≡ true) where
+  all-full : every isFull (m .slots) ≡ true
+  unfolding allReport
+  all-full = and-left _ _ t
+
+  full-slot : length (m .slots) ≡ 8 → (j : ℕ) → j < 8 → length (rowsHeld (slotIn m j)) ≡ 128
+  unfolding isFull slotIn
+  full-slot e j j8 = eqb-true (length (rowsHeld (slotIn m j))) 128 (every-in isFull (m .slots) free j all-full (omega (arith, e)))
+
+  first-reports : reports 167772160 (rowsHeld (slotIn m 0)) ≡ true
+  unfolding allReport
+  first-reports = and-left _ _ (and-right (every isFull (m .slots)) _ t)
+
+  behind-first : (reports 167772160 (rowsHeld (slotIn m 1)) && (eqb ((cell (slotIn m 0)) .asn) 7 && isUp ((recordIn m 0) .phase))) ≡ true
+  unfolding allReport
+  behind-first = and-right (reports 167772160 (rowsHeld (slotIn m 0))) _ (and-right (every isFull (m .slots)) _ t)
+
+  second-reports : reports 167772160 (rowsHeld (slotIn m 1)) ≡ true
+  second-reports = and-left _ _ behind-first
+
+  first-asn : (cell (slotIn m 0)) .asn ≡ 7
+  first-asn = eqb-true ((cell (slotIn m 0)) .asn) 7 (and-left _ _ (and-right (reports 167772160 (rowsHeld (slotIn m 1))) _ behind-first))
+
+  first-up : isUp ((recordIn m 0) .phase) ≡ true
+  first-up = and-right (eqb ((cell (slotIn m 0)) .asn) 7) _ (and-right (reports 167772160 (rowsHeld (slotIn m 1))) _ behind-first)
+
+module _ (m : Model) (t : eightFacts m ≡ true) where
+  all-report : allReport m ≡ true
+  unfolding eightFacts
+  all-report = and-left _ _ t
+
+  behind-report : (eqb ((recordIn m 0) .s) 1 && (allReport (lateFirst m) && (stateFormed (stateOf (lateFirst m)) && eqb ((recordIn (lateFirst m) 0) .t3) 1))) ≡ true
+  unfolding eightFacts
+  behind-report = and-right (allReport m) _ t
+
+  number-one : (recordIn m 0) .s ≡ 1
+  number-one = eqb-true ((recordIn m 0) .s) 1 (and-left _ _ behind-report)
+
+  late-all : (allReport (lateFirst m) && (stateFormed (stateOf (lateFirst m)) && eqb ((recordIn (lateFirst m) 0) .t3) 1)) ≡ true
+  late-all = and-right (eqb ((recordIn m 0) .s) 1) _ behind-report
+
+  late-report : allReport (lateFirst m) ≡ true
+  late-report = and-left _ _ late-all
+
+  late-formed : stateFormed (stateOf (lateFirst m)) ≡ true
+  late-formed = and-left _ _ (and-right (allReport (lateFirst m)) _ late-all)
+
+  late-due : (recordIn (lateFirst m) 0) .t3 ≡ 1
+  late-due = eqb-true ((recordIn (lateFirst m) 0) .t3) 1 (and-right (stateFormed (stateOf (lateFirst m))) _ (and-right (allReport (lateFirst m)) _ late-all))
+
+eight-facts : eightFacts (model someSettings eight) ≡ true
 unfolding model
-eight-model = computed .all-up
+eight-facts = computed .all-up
 
-silent-model : model someSettings (eight ++ ticks 1 609) ≡ eightSlots (atRest 5 8 0 1 1 2991)
+eight-report : allReport (model someSettings eight) ≡ true
+eight-report = all-report _ eight-facts
+
+silent-facts : silentFacts (model someSettings (eight ++ ticks 1 609)) ≡ true
 unfolding model
-silent-model =
-    model-append (empty someSettings) eight (ticks 1 609) ∙ ap (λ (m : Model). modelFrom m (ticks 1 609)) (computed .all-up) ∙ computed .silent
+silent-facts = computed .silent
 
--- a run, by its model
-module _ (calls : List Call) (m : Model) (e : model someSettings calls ≡ m) where
-  is-run : run someSettings calls ≡ represent m
-  is-run = run-is someSettings some-taken calls ∙ ap represent e
+still-report : allReport (model someSettings (eight ++ ticks 1 609)) ≡ true
+unfolding silentFacts
+still-report = and-left _ _ silent-facts
 
-  good-run : Good m
-  good-run = subst Good e (model-good someSettings some-taken calls)
-
-  rows-of : (j : ℕ) → j < 8 → rowsAt (run someSettings calls) j ≡ rowsHeld (slotIn m j)
-  rows-of j j8 = ap (λ (b : Gateway). rowsAt b j) is-run ∙ rows-read m good-run j j8
-
-  last-of : (j : ℕ) → j < 8 → lastAccepted someSettings j calls ≡ rowsHeld (slotIn m j)
-  last-of j j8 = last someSettings some-taken calls j j8 ∙ ap (λ (x : Model). rowsHeld (slotIn x j)) e
-
-unfoldable holdsAll : Slot → Bool
-holdsAll slot = eqb (length (rowsHeld slot)) 128
-
-all-hold : (n : Neighbour) → every holdsAll ((eightSlots n) .slots) ≡ true
-unfolding eightSlots every holdsAll rowsHeld classA
-all-hold n = refl
-
-eight-slots : (n : Neighbour) → length ((eightSlots n) .slots) ≡ 8
-unfolding eightSlots
-eight-slots n = refl
-
-full-slots : (n : Neighbour) (j : ℕ) → j < 8 → length (rowsHeld (slotIn (eightSlots n) j)) ≡ 128
-unfolding holdsAll slotIn
-full-slots n j j8 = eqb-true (length (rowsHeld (slotIn (eightSlots n) j))) 128 (every-in holdsAll ((eightSlots n) .slots) free j (all-hold n) (omega (arith, eight-slots n)))
-
-both-slots : (n : Neighbour) → (reports 167772160 (rowsHeld (slotIn (eightSlots n) 0)) ≡ true) × (reports 167772160 (rowsHeld (slotIn (eightSlots n) 1)) ≡ true)
-unfolding eightSlots slotIn rowsHeld classA reports
-both-slots n = (refl, refl)
-
-both-report : (calls : List Call) (n : Neighbour) → model someSettings calls ≡ eightSlots n → BothReport (run someSettings calls) 0 1 167772160
-both-report calls n e =
+-- two report one net, read off any table
+both-in : (b : Gateway) (m : Model) → allReport m ≡ true → ((j : ℕ) → j < 8 → rowsAt b j ≡ rowsHeld (slotIn m j)) → BothReport b 0 1 167772160
+both-in b m t rows =
     record {
       first = omega arith;
       second = omega arith;
       apart = λ (q : _≡_ {A = ℕ} 0 1). absurd (omega arith);
-      reported = ap (reports 167772160) (rows-of calls (eightSlots n) e 0 (omega arith)) ∙ both-slots n .0;
-      also = ap (reports 167772160) (rows-of calls (eightSlots n) e 1 (omega arith)) ∙ both-slots n .1;
+      reported = ap (reports 167772160) (rows 0 (omega arith)) ∙ first-reports m t;
+      also = ap (reports 167772160) (rows 1 (omega arith)) ∙ second-reports m t;
     }
 
 enough : leb 2048 (length lent) ≡ true
 unfolding lent Storing.zeros
 enough = refl
 
-first-asn : (n : Neighbour) → (slotOn (represent (eightSlots n)) 0) .asn ≡ 7
-unfolding represent stateOf eightSlots slotAt cell
-first-asn n = refl
-
 home-empty : goodHome someSettings [] ≡ true
 unfolding Home.goodHome Home.ownFirst Rows.rowsOf every
 home-empty = refl
 
-run-settings : (n : Neighbour) → (represent (eightSlots n)) .state .settings ≡ someSettings
-unfolding represent stateOf eightSlots
-run-settings n = refl
-
 says : (o : List ℕ) (x : Message) → headerAnswer o ≡ 0 → asnAt o ≡ 7 → decodeOf o ≡ D.Good x → Says (run someSettings eight) 0 o [] lent x
 says o x h a d =
-    let n = atRest 1 1 1 122 122 3600 in
-    let is = is-run eight (eightSlots n) eight-model in
     record {
       room = enough;
-      good-home = ap (λ (b : Gateway). goodHome (b .state .settings) []) is ∙ ap (λ (g : Settings). goodHome g []) (run-settings n) ∙ home-empty;
+      good-home = ap (λ (g : Settings). goodHome g []) (run-settings eight) ∙ home-empty;
       header = h;
-      from = a ∙ sym (ap (λ (b : Gateway). (slotOn b 0) .asn) is ∙ first-asn n);
+      from = a ∙ sym (ap (λ (s : Stored.Slot). s .asn) (slot-run someSettings some-taken eight 0) ∙ first-asn (model someSettings eight) eight-report);
       meaning = d;
     }
 
@@ -149,6 +184,10 @@ pub record ReadBack : Type 0 where
   pub request : Reads (octetsOf (Request 7 0 0 120 120) []) (Request 7 0 0 120 120)
   pub update : Reads (octetsOf (Update 7 0 1 2148073472) (classA 10 1)) (Update 7 0 1 2148073472)
   pub body : Body.updateOf 128 2148073472 (octetsOf (Update 7 0 1 2148073472) (classA 10 1)) ≡ Body.accepted (classA 10 1)
+  pub full-update : Reads (octetsOf (Update 7 1 1 2148073472) (classA 0 128)) (Update 7 1 1 2148073472)
+  pub full-body : Body.updateOf 128 2148073472 (octetsOf (Update 7 1 1 2148073472) (classA 0 128)) ≡ Body.accepted (classA 0 128)
+  pub full : length (classA 0 128) ≡ 128
+  pub marked-update : Reads (octetsOf (Update 7 1 129 2148073472) (classA 10 1)) (Update 7 1 129 2148073472)
 
 read-back : ReadBack
 unfolding check Wire.headerAnswer Wire.meaningOf Wire.decodeAs Wire.decodeOf Wire.numberOf Writing.headOf Octets.plainOctets Blocks.sideRows Blocks.joined Blocks.runs Blocks.each Blocks.addressOctets Blocks.netOctets Blocks.hostOctets Blocks.netsOctets Blocks.groupOctets Blocks.groupsOctets Blocks.blockOctets Blocks.sideOctets Blocks.blocksOf Blocks.internalBlocks Blocks.externalBlocks Kinds.kindAt Kinds.plainStatus Kinds.refusalStatus Kinds.markedStatus Checksum.onesAdd Checksum.onesSum Checksum.checksumOf Checksum.sealed Checksum.wordTotal Checksum.folded Octets.octetsOf Classes.netWidth Classes.hostSpan Classes.goodNet Classes.onNet Body.digits Body.many Body.leftJustified Body.rowOfWidth Body.netRow Body.groupRows Body.hostWidth Body.gatewayOf Body.blockRows Body.groupAt Body.blockAt Body.sidesAt Body.groupsHold Body.blocksHold Body.sidesHold Body.readAs Body.bothSides Body.nothingLeft Body.bodyOf Body.further Body.netAt Body.blocksOf Body.judged Body.updateOf Body.numberOf Body.rowsRead classA someSettings join
@@ -158,37 +197,106 @@ read-back =
       request = record { header = refl; from = refl; meaning = refl };
       update = record { header = refl; from = refl; meaning = refl };
       body = refl;
+      full-update = record { header = refl; from = refl; meaning = refl };
+      full-body = refl;
+      full = refl;
+      marked-update = record { header = refl; from = refl; meaning = refl };
     }
 
-silent-first : slotOn (represent (eightSlots (atRest 5 8 0 1 1 2991))) 0 ≡ record { address = 1; asn = 7; neighbour = atRest 5 8 0 1 1 2991; rows = 128 }
-unfolding represent stateOf eightSlots slotAt cell classA
-silent-first = refl
+-- the record in the first slot of a run
+first-record : (calls : List Call) → (slotOn (run someSettings calls) 0) .neighbour ≡ recordIn (model someSettings calls) 0
+unfolding recordIn
+first-record calls = ap (λ (s : Stored.Slot). s .neighbour) (slot-run someSettings some-taken calls 0)
 
-silent-slot : slotOn (run someSettings (eight ++ ticks 1 609)) 0 ≡ record { address = 1; asn = 7; neighbour = atRest 5 8 0 1 1 2991; rows = 128 }
-silent-slot =
-    ap (λ (b : Gateway). slotOn b 0) (is-run (eight ++ ticks 1 609) (eightSlots (atRest 5 8 0 1 1 2991)) silent-model) ∙ silent-first
+goes-silent : fallsSilent (recordIn (model someSettings (eight ++ ticks 1 609)) 0) ≡ true
+unfolding silentFacts
+goes-silent = and-right (allReport (model someSettings (eight ++ ticks 1 609))) _ silent-facts
 
-goes-down : goesDown ((atRest 5 8 0 1 1 2991) .mode) (onesOf (((atRest 5 8 0 1 1 2991) .register * 2 + (atRest 5 8 0 1 1 2991) .heard) % 16)) ≡ true
-unfolding atRest goesDown onesOf
-goes-down = refl
+module _ (n : Neighbour) (t : fallsSilent n ≡ true) where
+  one-second : n .t1 ≡ 1
+  unfolding fallsSilent
+  one-second = eqb-true (n .t1) 1 (and-left _ _ t)
 
-one-second : (atRest 5 8 0 1 1 2991) .t1 ≡ 1
-unfolding atRest
-one-second = refl
+  goes-down : goesDown (n .mode) (onesOf ((n .register * 2 + n .heard) % 16)) ≡ true
+  unfolding fallsSilent
+  goes-down = and-right (eqb (n .t1) 1) _ t
 
 pub eight-met : EightMet
 eight-met =
     record {
       taken = some-taken;
-      full = λ j j8. ap length (last-of eight (eightSlots (atRest 1 1 1 122 122 3600)) eight-model j j8) ∙ full-slots (atRest 1 1 1 122 122 3600) j j8;
-      both = both-report eight (atRest 1 1 1 122 122 3600) eight-model;
+      full =
+          λ j j8. ap length (last someSettings some-taken eight j j8)
+          ∙ full-slot (model someSettings eight) eight-report (model-good someSettings some-taken eight .eight) j j8;
+      both = both-in _ (model someSettings eight) eight-report (rows-of eight);
       room = enough;
       cease = says _ _ (read-back .cease .header) (read-back .cease .from) (read-back .cease .meaning);
       request = says _ _ (read-back .request .header) (read-back .request .from) (read-back .request .meaning);
-      still-both = both-report (eight ++ ticks 1 609) (atRest 5 8 0 1 1 2991) silent-model;
-      silent = ap (λ (s : Stored.Slot). s .neighbour .t1) silent-slot ∙ one-second;
+      still-both = both-in _ (model someSettings (eight ++ ticks 1 609)) still-report (rows-of (eight ++ ticks 1 609));
+      silent = ap (λ (n : Neighbour). n .t1) (first-record (eight ++ ticks 1 609)) ∙ one-second _ goes-silent;
       lost =
-          ap (λ (s : Stored.Slot). goesDown (s .neighbour .mode) (onesOf ((s .neighbour .register * 2 + s .neighbour .heard) % 16))) silent-slot ∙ goes-down;
+          ap (λ (n : Neighbour). goesDown (n .mode) (onesOf ((n .register * 2 + n .heard) % 16))) (first-record (eight ++ ticks 1 609))
+          ∙ goes-down _ goes-silent;
+    }
+
+-- an Update of 128 rows
+some-net : someSettings .net ≡ 2148073472
+unfolding someSettings
+some-net = refl
+
+body-on : (b : Gateway) (o : List ℕ) (rows : List Row) → b .state .settings ≡ someSettings → Body.updateOf 128 2148073472 o ≡ Body.accepted rows
+    → Body.updateOf 128 (b .state .settings .net) o ≡ Body.accepted rows
+body-on b o rows e r =
+    ap (λ (g : Settings). Body.updateOf 128 (g .net) o) e ∙ ap (λ (net : ℕ). Body.updateOf 128 net o) some-net ∙ r
+
+pub full-met : FullMet
+full-met =
+    let s : (slotOn (run someSettings eight) 0) .neighbour .s ≡ 1 = ap (λ (n : Neighbour). n .s) (first-record eight) ∙ number-one _ eight-facts in
+    let r = read-back .full-update in
+    record {
+      up = ap (λ (n : Neighbour). isUp (n .phase)) (first-record eight) ∙ first-up (model someSettings eight) eight-report;
+      full = read-back .full;
+      update =
+          subst (λ (k : ℕ). SaysRows (run someSettings eight) 0 k (octetsOf (Update 7 1 1 2148073472) (classA 0 128)) [] lent (classA 0 128)) (sym s)
+          (record {
+            asn = 7;
+            status = 1;
+            net = 2148073472;
+            says = says _ _ (r .header) (r .from) (r .meaning);
+            body = body-on (run someSettings eight) _ _ (run-settings eight) (read-back .full-body);
+          });
+    }
+
+-- ---- t3 run out
+
+sound-late : (slot : Slot) → sound slot ≡ true → sound (late slot) ≡ true
+unfolding sound late
+sound-late free e = refl
+sound-late (used p) e = e
+
+late-good : Good (lateFirst (model someSettings eight))
+unfolding lateFirst put
+late-good =
+    let m = model someSettings eight in
+    let ok = model-good someSettings some-taken eight in
+    record {
+      eight = length-set (m .slots) 0 (late (slotIn m 0)) ∙ ok .eight;
+      each = every-set sound (m .slots) 0 (late (slotIn m 0)) (ok .each) (sound-late (slotIn m 0) (sound-at m ok 0));
+      formed = late-formed m eight-facts;
+    }
+
+is-overdue : represent (lateFirst (model someSettings eight)) ≡ overdue
+unfolding represent overdue
+is-overdue = refl
+
+pub time-out-met : TimeOutMet
+unfolding recordIn
+time-out-met =
+    let m = lateFirst (model someSettings eight) in
+    record {
+      sensible = subst Sensible is-overdue (good-sensible m late-good);
+      both = both-in overdue m (late-report _ eight-facts) (λ j j8. ap (λ (b : Gateway). rowsAt b j) (sym is-overdue) ∙ rows-read m late-good j j8);
+      due = ap (λ (b : Gateway). (slotOn b 0) .neighbour .t3) (sym is-overdue) ∙ ap (λ (s : Stored.Slot). s .neighbour .t3) (slot-is m late-good 0) ∙ late-due _ eight-facts;
     }
 
 -- ---- the last number
@@ -200,83 +308,96 @@ polled-more (suc a) n =
     let e : suc a + n ≡ suc (a + n) = omega arith in
     ap polled e ∙ ap (λ (l : List Call). (saysHello 1 ∷ ticks 1 122) ++ l) (polled-more a n) ∙ sym (append-assoc (saysHello 1 ∷ ticks 1 122) (polled a) (polled n))
 
+-- calls that go on from such a model
+then : {m : Model} {s register heard t1 t2 t3 s′ register′ heard′ t1′ t2′ t3′ : ℕ} → Rests m s register heard t1 t2 t3 → (calls : List Call)
+    → ((n : Neighbour) → Rests (modelFrom (alone (atRest n s register heard t1 t2 t3)) calls) s′ register′ heard′ t1′ t2′ t3′)
+    → Rests (modelFrom m calls) s′ register′ heard′ t1′ t2′ t3′
+then {s′ = s′} {register′ = register′} {heard′ = heard′} {t1′ = t1′} {t2′ = t2′} {t3′ = t3′} r calls h =
+    subst (λ (x : Model). Rests (modelFrom x calls) s′ register′ heard′ t1′ t2′ t3′) (sym (r .is)) (h (r .base))
+
 -- n polls more
-polls : (n s : ℕ) → s + n < 65536 → modelFrom (alone (atRest s 15 0 122 122 3478)) (polled n) ≡ alone (atRest (s + n) 15 0 122 122 3478)
+polls : (n s : ℕ) → s + n < 65536 → (k : Neighbour) → Rests (modelFrom (alone (atRest k s 15 0 122 122 3478)) (polled n)) (s + n) 15 0 122 122 3478
 unfolding polled modelFrom
-polls zero s h = let e : s ≡ s + 0 = omega arith in ap (λ (k : ℕ). alone (atRest k 15 0 122 122 3478)) e
-polls (suc n) s h =
+polls zero s h k = let e : s ≡ s + 0 = omega arith in record { base = k; is = ap (λ (j : ℕ). alone (atRest k j 15 0 122 122 3478)) e }
+polls (suc n) s h k =
+    let m = alone (atRest k s 15 0 122 122 3478) in
+    let one = saysHello 1 ∷ ticks 1 122 in
     let e : (s + 1) % 65536 ≡ suc s = omega (arith, h) in
     let f : suc s + n ≡ s + suc n = omega arith in
-    model-append (alone (atRest s 15 0 122 122 3478)) (saysHello 1 ∷ ticks 1 122) (polled n)
-    ∙ ap (λ (m : Model). modelFrom m (polled n)) (computed .once s)
-    ∙ ap (λ (k : ℕ). modelFrom (alone (atRest k 15 0 122 122 3478)) (polled n)) e
-    ∙ polls n (suc s) (omega (arith, h))
-    ∙ ap (λ (k : ℕ). alone (atRest k 15 0 122 122 3478)) f
+    let r : Rests (modelFrom m one) (suc s) 15 0 122 122 3478 = subst (λ (j : ℕ). Rests (modelFrom m one) j 15 0 122 122 3478) e (computed .once k s) in
+    let q : Rests (modelFrom (modelFrom m one) (polled n)) (suc s + n) 15 0 122 122 3478 = then r (polled n) (polls n (suc s) (omega (arith, h))) in
+    subst (λ (j : ℕ). Rests (modelFrom m (one ++ polled n)) j 15 0 122 122 3478) f
+    (subst (λ (x : Model). Rests x (suc s + n) 15 0 122 122 3478) (sym (model-append m one (polled n))) q)
 
 polled-all : polled 65534 ≡ polled 3 ++ polled 65531
 polled-all = polled-more 3 65531
 
-last-model : model someSettings lastNumber ≡ alone (atRest 65535 15 1 1 1 3479)
+last-model : Rests (model someSettings lastNumber) 65535 15 1 1 1 3479
 unfolding model lastNumber
 last-model =
+    let up = modelFrom (empty someSettings) (reporting 1) in
     let second = saysHello 1 ∷ ticks 1 121 in
-    model-append (empty someSettings) (reporting 1) (polled 65534 ++ second)
-    ∙ ap (λ (m : Model). modelFrom m (polled 65534 ++ second)) (computed .one-up)
-    ∙ model-append (alone (atRest 1 1 1 122 122 3600)) (polled 65534) second
-    ∙ ap (λ (l : List Call). modelFrom (modelFrom (alone (atRest 1 1 1 122 122 3600)) l) second) polled-all
-    ∙ ap (λ (m : Model). modelFrom m second) (model-append (alone (atRest 1 1 1 122 122 3600)) (polled 3) (polled 65531))
-    ∙ ap (λ (m : Model). modelFrom (modelFrom m (polled 65531)) second) (computed .full)
-    ∙ ap (λ (m : Model). modelFrom m second) (polls 65531 4 (omega arith))
-    ∙ computed .due
+    let full = then (computed .one-up) (polled 3) (computed .full) in
+    let near = then full (polled 65531) (polls 65531 4 (omega arith)) in
+    let split = model-append (empty someSettings) (reporting 1) (polled 65534 ++ second)
+    ∙ model-append up (polled 65534) second
+    ∙ ap (λ (l : List Call). modelFrom (modelFrom up l) second) polled-all
+    ∙ ap (λ (m : Model). modelFrom m second) (model-append up (polled 3) (polled 65531)) in
+    subst (λ (m : Model). Rests m 65535 15 1 1 1 3479) (sym split) (then near second (computed .due))
+
+-- the neighbour alone in slot 0
+module _ (n : Neighbour) where
+  lone-record : (slotOn (represent (alone n)) 0) .neighbour ≡ n
+  unfolding represent stateOf alone slotAt cell
+  lone-record = refl
+
+  lone-address : (slotOn (represent (alone n)) 0) .address ≡ 1
+  unfolding represent stateOf alone slotAt cell
+  lone-address = refl
+
+  lone-asn : (slotOn (represent (alone n)) 0) .asn ≡ 7
+  unfolding represent stateOf alone slotAt cell
+  lone-asn = refl
 
 abbrev due : Neighbour
-due = atRest 65535 15 1 1 1 3479
-
-due-slot : (n : Neighbour) → slotOn (represent (alone n)) 0 ≡ record { address = 1; asn = 7; neighbour = n; rows = 128 }
-unfolding represent stateOf alone slotAt cell classA
-due-slot n = refl
+due = atRest (last-model .base) 65535 15 1 1 1 3479
 
 last-run : run someSettings lastNumber ≡ represent (alone due)
-last-run = is-run lastNumber (alone due) last-model
+last-run = run-is someSettings some-taken lastNumber ∙ ap represent (last-model .is)
 
-last-slot : slotOn (run someSettings lastNumber) 0 ≡ record { address = 1; asn = 7; neighbour = due; rows = 128 }
-last-slot = ap (λ (b : Gateway). slotOn b 0) last-run ∙ due-slot due
+last-good : Good (alone due)
+last-good = subst Good (last-model .is) (model-good someSettings some-taken lastNumber)
 
 -- the next tick polls with number 0
-next-run : gatewayStep (tick ((slotOn (run someSettings lastNumber) 0) .address) lent) (run someSettings lastNumber) ≡ represent (alone (atRest 0 15 0 122 122 3478))
+next-run : gatewayStep (tick ((slotOn (run someSettings lastNumber) 0) .address) lent) (run someSettings lastNumber)
+    ≡ represent (alone (atRest (computed .wraps (last-model .base) .base) 0 15 0 122 122 3478))
 next-run =
-    ap (λ (s : Stored.Slot). gatewayStep (tick (s .address) lent) (run someSettings lastNumber)) last-slot
-    ∙ ap (gatewayStep (tick 1 lent)) last-run ∙ step-is (alone due) (good-run lastNumber (alone due) last-model) (tick 1 lent) ∙ ap represent (computed .wraps)
+    ap (λ (b : Gateway). gatewayStep (tick ((slotOn b 0) .address) lent) b) last-run
+    ∙ ap (λ (a : ℕ). gatewayStep (tick a lent) (represent (alone due))) (lone-address due)
+    ∙ step-is (alone due) last-good (tick 1 lent) ∙ ap represent (computed .wraps (last-model .base) .is)
 
-alone-settings : (n : Neighbour) → (represent (alone n)) .state .settings ≡ someSettings
-unfolding represent stateOf alone
-alone-settings n = refl
+module _ (n : Neighbour) (s register heard t1 t2 t3 : ℕ) where
+  rest-up : isUp ((atRest n s register heard t1 t2 t3) .phase) ≡ true
+  unfolding atRest withReach
+  rest-up = refl
 
-in-up : (s register heard t1 t2 t3 : ℕ) → isUp ((atRest s register heard t1 t2 t3) .phase) ≡ true
-unfolding atRest
-in-up s register heard t1 t2 t3 = refl
+  rest-number : (atRest n s register heard t1 t2 t3) .s ≡ s
+  unfolding atRest withReach withTimers withNumbers
+  rest-number = refl
 
-due-number : due .s ≡ 65535
-unfolding atRest
-due-number = refl
-
-due-poll : due .t2 ≡ 1
-unfolding atRest
-due-poll = refl
-
-some-net : someSettings .net ≡ 2148073472
-unfolding someSettings
-some-net = refl
+  rest-poll : (atRest n s register heard t1 t2 t3) .t2 ≡ t2
+  unfolding atRest withReach withTimers
+  rest-poll = refl
 
 pub last-number-met : LastNumberMet
 last-number-met =
-    let settings = ap (λ (b : Gateway). b .state .settings) last-run ∙ alone-settings due in
+    let record-is : (slotOn (run someSettings lastNumber) 0) .neighbour ≡ due = ap (λ (b : Gateway). (slotOn b 0) .neighbour) last-run ∙ lone-record due in
     record {
-      number = ap (λ (s : Stored.Slot). s .neighbour .s) last-slot ∙ due-number;
-      due = ap (λ (s : Stored.Slot). s .neighbour .t2) last-slot ∙ due-poll;
-      up = ap (λ (s : Stored.Slot). isUp (s .neighbour .phase)) last-slot ∙ in-up 65535 15 1 1 1 3479;
+      number = ap (λ (n : Neighbour). n .s) record-is ∙ rest-number _ 65535 15 1 1 1 3479;
+      due = ap (λ (n : Neighbour). n .t2) record-is ∙ rest-poll _ 65535 15 1 1 1 3479;
+      up = ap (λ (n : Neighbour). isUp (n .phase)) record-is ∙ rest-up _ 65535 15 1 1 1 3479;
       still =
-          ap (λ (b : Gateway). isUpOn b 0) next-run ∙ ap (λ (s : Stored.Slot). isUp (s .neighbour .phase)) (due-slot (atRest 0 15 0 122 122 3478)) ∙ in-up 0 15 0 122 122 3478;
+          ap (λ (b : Gateway). isUpOn b 0) next-run ∙ ap (λ (n : Neighbour). isUp (n .phase)) (lone-record _) ∙ rest-up _ 0 15 0 122 122 3478;
       update =
           record {
             asn = 7;
@@ -285,56 +406,57 @@ last-number-met =
             says =
                 record {
                   room = enough;
-                  good-home = ap (λ (g : Settings). goodHome g []) settings ∙ home-empty;
+                  good-home = ap (λ (g : Settings). goodHome g []) (run-settings lastNumber) ∙ home-empty;
                   header = read-back .update .header;
-                  from = read-back .update .from ∙ sym (ap (λ (s : Stored.Slot). s .asn) last-slot);
+                  from = read-back .update .from ∙ sym (ap (λ (b : Gateway). (slotOn b 0) .asn) last-run ∙ lone-asn due);
                   meaning = read-back .update .meaning;
                 };
-            body = ap (λ (g : Settings). Body.updateOf 128 (g .net) (octetsOf (Update 7 0 1 2148073472) (classA 10 1))) settings
-                ∙ ap (λ (net : ℕ). Body.updateOf 128 net (octetsOf (Update 7 0 1 2148073472) (classA 10 1))) some-net ∙ read-back .body;
+            body = body-on (run someSettings lastNumber) _ _ (run-settings lastNumber) (read-back .body);
           };
     }
 
 -- ---- a quiet neighbour
 
-just-up : model someSettings (almostUp ++ (tick 1 lent ∷ [])) ≡ justUp
-unfolding model
-just-up = computed .just-up
-
 almost-up : isUpSlot (slotIn (model someSettings almostUp) 0) ≡ false
 unfolding model
 almost-up = computed .not-yet
 
-just-passive : (cell (slotIn justUp 0)) .neighbour .mode ≡ Passive
-unfolding justUp slotIn cell
-just-passive = refl
+just-up : isUpSlot (slotIn (model someSettings entered) 0) ≡ true
+unfolding model
+just-up = computed .just-up
 
-just-in-up : isUpSlot (slotIn justUp 0) ≡ true
-unfolding justUp slotIn isUpSlot
-just-in-up = refl
+just-passive : (recordIn (model someSettings entered) 0) .mode ≡ Passive
+unfolding model
+just-passive = computed .passive
+
+run-passive : (slotOn (run someSettings entered) 0) .neighbour .mode ≡ Passive
+run-passive = ap (λ (n : Neighbour). n .mode) (first-record entered) ∙ just-passive
 
 one-in-five : oneInFour (true ∷ false ∷ false ∷ false ∷ true ∷ []) ≡ true
 unfolding oneInFour firstFour anyOf
 one-in-five = refl
 
+its-windows : windows (model someSettings entered) 0 false (slow 1 129) ≡ true ∷ false ∷ false ∷ false ∷ true ∷ []
+unfolding model
+its-windows = computed .ended
+
 pub quiet-met : QuietMet
+unfolding model entered
 quiet-met =
-    let since = almostUp ++ (tick 1 lent ∷ []) in
     record {
       entered =
           record {
             not-before = up-run someSettings some-taken almostUp 0 ∙ almost-up;
-            since = up-run someSettings some-taken since 0 ∙ ap (λ (m : Model). isUpSlot (slotIn m 0)) just-up ∙ just-in-up;
-            passive =
-                ap (λ (s : Stored.Slot). s .neighbour .mode) (slot-run someSettings some-taken since 0)
-                ∙ ap (λ (m : Model). (cell (slotIn m 0)) .neighbour .mode) just-up ∙ just-passive;
+            since = up-run someSettings some-taken entered 0 ∙ just-up;
+            passive = run-passive;
           };
-      unrestarted = ap (λ (m : Model). restartsNone m 0 (slow 1 129)) just-up ∙ computed .unrestarted;
-      ended = ap (λ (m : Model). windows m 0 false (slow 1 129)) just-up ∙ computed .ended;
-      often = ap oneInFour (ap (λ (m : Model). windows m 0 false (slow 1 129)) just-up ∙ computed .ended) ∙ one-in-five;
-      last = ap (λ (m : Model). latest m 0 [] (slow 1 129)) just-up ∙ computed .last;
-      lost =
-          up-run someSettings some-taken (since ++ slow 2 2) 0
-          ∙ ap (λ (m : Model). isUpSlot (slotIn m 0)) (model-more someSettings some-taken since (slow 2 2) ∙ ap (λ (m : Model). modelFrom m (slow 2 2)) just-up)
-          ∙ computed .lost;
+      unrestarted = computed .unrestarted;
+      ended = its-windows;
+      often = ap oneInFour its-windows ∙ one-in-five;
+      last = computed .last;
+      lost = up-run someSettings some-taken (entered ++ slow 2 2) 0 ∙ computed .lost;
     }
+
+pub indication-met : IndicationMet
+unfolding model entered
+indication-met = record { taken = computed .taken; says = read-back .marked-update .meaning; passive = run-passive }

@@ -8,6 +8,7 @@ use lib.Dec.{eqb}
 use lib.ListN.{getD, replicate}
 use lib.Seq.{getD-set-same, getD-set-other}
 use borrow.Author.Tests.{eq-eqb, ne-eqb, eqb-true, eqb-false, not-true}
+use Rattle.checks.specs.Checks.{ifOk}
 use Rattle.checks.proofs.Laws.{and-left, and-right}
 use Rattle.checks.specs.Lists.{every}
 use Rattle.nets.specs.Rows.{Row}
@@ -18,12 +19,11 @@ use Rattle.walk.specs.Body.{updateOf, rowsRead}
 use Rattle.neighbour.specs.declared.Settings.{Settings}
 use Rattle.neighbour.specs.declared.Neighbour.{Neighbour}
 use Rattle.neighbour.specs.Record.{idle, isUp}
-use Rattle.machine.specs.declared.Event.{Event}
-use Rattle.machine.specs.declared.Event.the-variants.{Start, Stop, Tick}
+use Rattle.machine.specs.Intrinsics.{Intrinsic, asEvent}
 use Rattle.machine.specs.Step.{stepOf}
 use Rattle.state.specs.Slots.{freeSlot}
 use Rattle.state.specs.Claims.{SlotGood}
-use Rattle.model.specs.Model.{isFree, hasAddress, noOctets, Said, Call, add, remove, start, stop, tick, receive, listing, Slot, free, used, Model, slotIn, put, placeOf, vacancy, silent, whenOk, addAnswer, removeAnswer, addTurn, removeTurn, noMove, rowsIn, moved, eventMove, isUpdate, answerTo, refusalReply, afterMessage, rowsAfter, messageMove, eventAnswer, messageAnswer, turnAt, eventTurn, messageTurn, listingTurn, step, model, modelFrom, empty}
+use Rattle.model.specs.Model.{isFree, hasAddress, noOctets, Said, Call, add, remove, happen, receive, listing, Slot, free, used, Model, slotIn, put, placeOf, vacancy, silent, addAnswer, removeAnswer, addTurn, removeTurn, noMove, rowsIn, moved, eventMove, isUpdate, answerTo, afterMessage, rowsAfter, messageMove, eventAnswer, messageAnswer, turnAt, eventTurn, messageTurn, listingTurn, step, model, modelFrom, empty, Peer, newPeer, refusedMove}
 use Rattle.model.specs.History.{isUpSlot, saysUpdate, accepts, rowsSaid, upAfter, told, lastFrom, lastAccepted, isAbout, isElsewhere, takesNoSlot}
 use Rattle.model.specs.Theorem.{cell, rowsHeld}
 use Rattle.model.proofs.Represent.{sound, Good, good-at}
@@ -38,7 +38,7 @@ Tells old new took read = rowsHeld new ≡ cond (isUpSlot new) (cond took read (
 pub none-held : (slot : Slot) → SlotGood (cell slot) → isUpSlot slot ≡ false → rowsHeld slot ≡ []
 unfolding cell isUpSlot rowsHeld
 none-held free good e = refl
-none-held (used address asn n rows) good e = no-rows rows (good .none e)
+none-held (used peer) good e = no-rows (peer .rows) (good .none e)
 
 still-tells : (slot : Slot) (read : List Row) → SlotGood (cell slot) → Tells slot slot false read
 still-tells slot read good = go (isUpSlot slot) refl
@@ -52,11 +52,11 @@ cond-held false rows c h = refl
 cond-held true rows true h = refl
 cond-held true rows false h = h refl
 
-event-tells : (g : Settings) (event : Event) (slot : Slot) (read : List Row) → SlotGood (cell slot) → Tells slot ((eventMove g event slot) .slot) false read
+event-tells : (g : Settings) (event : Intrinsic) (slot : Slot) (read : List Row) → SlotGood (cell slot) → Tells slot ((eventMove g event slot) .slot) false read
 unfolding eventMove noMove moved isUpSlot rowsHeld rowsIn
 event-tells g event free read good = refl
-event-tells g event (used address asn n rows) read good =
-    cond-held (isUp ((stepOf g asn n event noOctets) .neighbour .phase)) rows (isUp (n .phase)) (λ e. none-held (used address asn n rows) good e)
+event-tells g event (used peer) read good =
+    cond-held (isUp ((stepOf g (peer .asn) (peer .neighbour) (asEvent event) noOctets) .neighbour .phase)) (peer .rows) (isUp (peer .neighbour .phase)) (λ e. none-held (used peer) good e)
 
 -- a message carried out: the rows by the kind of what was read
 kind-tells : (g : Settings) (n : Neighbour) (o : List ℕ) (d : Decoded) (rows : List Row) (b : Bool) → (isUp (n .phase) ≡ false → rows ≡ [])
@@ -88,27 +88,27 @@ kind-tells g n o D.BadLength rows b h = go (isUp (n .phase)) h
     go false k = rw (k refl)
 
 -- a refusal keeps the slot
-pub message-stays : (g : Settings) (o : List ℕ) (address asn : ℕ) (n : Neighbour) (rows : List Row) → eqb (answerTo g asn n o) 0 ≡ false
-    → messageMove g o (used address asn n rows) ≡ record { answer = answerTo g asn n o; reply = refusalReply g n o (answerTo g asn n o); slot = used address asn n rows }
-unfolding messageMove whenOk
-message-stays g o address asn n rows e = rw e
+pub message-stays : (g : Settings) (o : List ℕ) (peer : Peer) → eqb (answerTo g (peer .asn) (peer .neighbour) o) 0 ≡ false
+    → messageMove g o (used peer) ≡ refusedMove g o peer (answerTo g (peer .asn) (peer .neighbour) o)
+unfolding messageMove ifOk
+message-stays g o peer e = rw e
 
-refused-tells : (g : Settings) (o : List ℕ) (address asn : ℕ) (n : Neighbour) (rows : List Row) → SlotGood (cell (used address asn n rows)) → eqb (answerTo g asn n o) 0 ≡ false
-    → Tells (used address asn n rows) ((messageMove g o (used address asn n rows)) .slot)
-    (eqb ((messageMove g o (used address asn n rows)) .answer) 0 && (isUpSlot (used address asn n rows) && saysUpdate (decodeOf o))) (rowsRead (updateOf 128 (g .net) o))
-refused-tells g o address asn n rows good e =
-    rw (message-stays g o address asn n rows e, e) (still-tells (used address asn n rows) (rowsRead (updateOf 128 (g .net) o)) good)
+refused-tells : (g : Settings) (o : List ℕ) (peer : Peer) → SlotGood (cell (used peer)) → eqb (answerTo g (peer .asn) (peer .neighbour) o) 0 ≡ false
+    → Tells (used peer) ((messageMove g o (used peer)) .slot)
+    (eqb ((messageMove g o (used peer)) .answer) 0 && (isUpSlot (used peer) && saysUpdate (decodeOf o))) (rowsRead (updateOf 128 (g .net) o))
+refused-tells g o peer good e =
+    rw (message-stays g o peer e, e) (still-tells (used peer) (rowsRead (updateOf 128 (g .net) o)) good)
 
-said-refused : (k : ℕ) (s : Said) → (k ≡ 0 → ⊥) → eqb ((whenOk k s (silent k)) .answer) 0 ≡ false
-unfolding whenOk silent
+said-refused : (k : ℕ) (s : Said) → (k ≡ 0 → ⊥) → eqb ((ifOk k s (silent k)) .answer) 0 ≡ false
+unfolding ifOk silent
 said-refused k s n = go (eqb k 0) (ne-eqb k 0 n)
   where
     go : (b : Bool) → b ≡ false → eqb ((cond b s (silent k)) .answer) 0 ≡ false
     go true e = absurd (true≢false e)
     go false e = ne-eqb k 0 n
 
-said-done : (k : ℕ) (s : Said) → k ≡ 0 → whenOk k s (silent k) ≡ s
-unfolding whenOk
+said-done : (k : ℕ) (s : Said) → k ≡ 0 → ifOk k s (silent k) ≡ s
+unfolding ifOk
 said-done k s z = rw z
 
 and-false : (a b c : Bool) → b ≡ false → (a && (b && c)) ≡ false
@@ -117,21 +117,21 @@ and-false false b c e = refl
 
 message-tells : (g : Settings) (o : List ℕ) (slot : Slot) → SlotGood (cell slot)
     → Tells slot ((messageMove g o slot) .slot) (eqb ((messageMove g o slot) .answer) 0 && (isUpSlot slot && saysUpdate (decodeOf o))) (rowsRead (updateOf 128 (g .net) o))
-unfolding messageMove noMove whenOk moved isUpSlot rowsHeld rowsIn
+unfolding messageMove noMove ifOk moved isUpSlot rowsHeld rowsIn
 message-tells g o free good = refl
-message-tells g o (used address asn n rows) good = go (eqb (answerTo g asn n o) 0) refl
+message-tells g o (used peer) good = go (eqb (answerTo g (peer .asn) (peer .neighbour) o) 0) refl
   where
-    go : (b : Bool) → eqb (answerTo g asn n o) 0 ≡ b
-        → Tells (used address asn n rows) ((messageMove g o (used address asn n rows)) .slot)
-        (eqb ((messageMove g o (used address asn n rows)) .answer) 0 && (isUpSlot (used address asn n rows) && saysUpdate (decodeOf o))) (rowsRead (updateOf 128 (g .net) o))
-    go true e = rw e (kind-tells g n o (decodeOf o) rows (isUp ((afterMessage g asn n o (decodeOf o)) .neighbour .phase)) (λ q. none-held (used address asn n rows) good q))
-    go false e = refused-tells g o address asn n rows good e
+    go : (b : Bool) → eqb (answerTo g (peer .asn) (peer .neighbour) o) 0 ≡ b
+        → Tells (used peer) ((messageMove g o (used peer)) .slot)
+        (eqb ((messageMove g o (used peer)) .answer) 0 && (isUpSlot (used peer) && saysUpdate (decodeOf o))) (rowsRead (updateOf 128 (g .net) o))
+    go true e = rw e (kind-tells g (peer .neighbour) o (decodeOf o) (peer .rows) (isUp ((afterMessage g (peer .asn) (peer .neighbour) o (decodeOf o)) .neighbour .phase)) (λ q. none-held (used peer) good q))
+    go false e = refused-tells g o peer good e
 
 module _ (m : Model) (ok : Good m) (j : ℕ) (j8 : j < 8) where
   -- a call that puts a slot at i where its answer is 0
   put-tells : (k i : ℕ) (new : Slot) (took : Bool) (read : List Row) → ((k ≡ 0 → ⊥) → took ≡ false) → ((i ≡ j → ⊥) → took ≡ false)
-      → (k ≡ 0 → i ≡ j → Tells (slotIn m j) new took read) → Tells (slotIn m j) (slotIn (whenOk k (put m i new) m) j) took read
-  unfolding whenOk slotIn put
+      → (k ≡ 0 → i ≡ j → Tells (slotIn m j) new took read) → Tells (slotIn m j) (slotIn (ifOk k (put m i new) m) j) took read
+  unfolding ifOk slotIn put
   put-tells k i new took read p q r = go (eqb k 0) refl (eqb i j) refl
     where
       still : took ≡ false → Tells (slotIn m j) (slotIn m j) took read
@@ -142,7 +142,7 @@ module _ (m : Model) (ok : Good m) (j : ℕ) (j8 : j < 8) where
       go true e true f = rw (e, eqb-true i j f, getD-set-same (m .slots) j new free (omega (arith, ok .eight))) (r (eqb-true k 0 e) (eqb-true i j f))
       go true e false f = rw (e, getD-set-other (m .slots) i j new free (λ x. eqb-false i j f (sym x))) (still (q (eqb-false i j f)))
 
-  event-told : (event : Event) (a : ℕ) (buffer : List ℕ) (read : List Row) → Tells (slotIn m j) (slotIn ((eventTurn event m a buffer) .model) j) false read
+  event-told : (event : Intrinsic) (a : ℕ) (buffer : List ℕ) (read : List Row) → Tells (slotIn m j) (slotIn ((eventTurn event m a buffer) .model) j) false read
   unfolding eventTurn turnAt
   event-told event a buffer read =
       put-tells (eventAnswer m a buffer) (placeOf m a) _ false read (λ _. refl) (λ _. refl)
@@ -164,11 +164,9 @@ module _ (m : Model) (ok : Good m) (j : ℕ) (j8 : j < 8) where
   -- any call
   pub step-told : (call : Call) → Tells (slotIn m j) (slotIn ((step call m) .model) j) (accepts m j call) (rowsSaid (m .settings) call)
   unfolding step accepts rowsSaid addTurn removeTurn listingTurn isUpSlot rowsHeld idle
-  step-told (add address asn) = put-tells (addAnswer m address asn) (vacancy m) (used address asn idle []) false [] (λ _. refl) (λ _. refl) (λ _ _. refl)
+  step-told (add address asn) = put-tells (addAnswer m address asn) (vacancy m) (used (newPeer address asn)) false [] (λ _. refl) (λ _. refl) (λ _ _. refl)
   step-told (remove address) = put-tells (removeAnswer m address) (placeOf m address) free false [] (λ _. refl) (λ _. refl) (λ _ _. refl)
-  step-told (start a buffer) = event-told Start a buffer []
-  step-told (stop a buffer) = event-told Stop a buffer []
-  step-told (tick a buffer) = event-told Tick a buffer []
+  step-told (happen event a buffer) = event-told event a buffer []
   step-told (receive a o home buffer) = message-told a o home buffer
   step-told (listing buffer) = still-tells (slotIn m j) [] (good-at m ok j)
 
@@ -187,8 +185,8 @@ pub model-next : (g : Settings) (before : List Call) (call : Call) → model g (
 unfolding model modelFrom
 model-next g before call = model-append (empty g) before (call ∷ [])
 
-when-settings : (k i : ℕ) (slot : Slot) (m : Model) → (whenOk k (put m i slot) m) .settings ≡ m .settings
-unfolding whenOk put
+when-settings : (k i : ℕ) (slot : Slot) (m : Model) → (ifOk k (put m i slot) m) .settings ≡ m .settings
+unfolding ifOk put
 when-settings k i slot m = go (eqb k 0)
   where
     go : (b : Bool) → (cond b (put m i slot) m) .settings ≡ m .settings
@@ -199,9 +197,7 @@ pub step-settings : (call : Call) (m : Model) → ((step call m) .model) .settin
 unfolding step addTurn removeTurn eventTurn messageTurn listingTurn turnAt
 step-settings (add address asn) m = when-settings _ _ _ m
 step-settings (remove address) m = when-settings _ _ _ m
-step-settings (start a buffer) m = when-settings _ _ _ m
-step-settings (stop a buffer) m = when-settings _ _ _ m
-step-settings (tick a buffer) m = when-settings _ _ _ m
+step-settings (happen event a buffer) m = when-settings _ _ _ m
 step-settings (receive a o home buffer) m = when-settings _ _ _ m
 step-settings (listing buffer) m = refl
 
@@ -240,45 +236,43 @@ abbrev isOther : ℕ → ℕ → Bool
 isOther address a = not (eqb a address)
 
 module _ (m : Model) (ok : Good m) (j : ℕ) where
-  put-others : (k i : ℕ) (new : Slot) → (k ≡ 0 → i ≡ j → ⊥) → slotIn (whenOk k (put m i new) m) j ≡ slotIn m j
-  unfolding whenOk slotIn put
+  put-others : (k i : ℕ) (new : Slot) → (k ≡ 0 → i ≡ j → ⊥) → slotIn (ifOk k (put m i new) m) j ≡ slotIn m j
+  unfolding ifOk slotIn put
   put-others k i new h = go (eqb k 0) refl
     where
       go : (b : Bool) → eqb k 0 ≡ b → slotIn (cond (eqb k 0) (put m i new) m) j ≡ slotIn m j
       go true e = rw e (getD-set-other (m .slots) i j new free (λ x. h (eqb-true k 0 e) (sym x)))
       go false e = rw e
 
-  module _ (address asn : ℕ) (n : Neighbour) (rows : List Row) (here : slotIn m j ≡ used address asn n rows) where
+  module _ (peer : Peer) (here : slotIn m j ≡ used peer) where
     -- a neighbour that was found is another one
-    found-other : (a : ℕ) → isOther address a ≡ true → placeOf m a < 8 → placeOf m a ≡ j → ⊥
+    found-other : (a : ℕ) → isOther (peer .address) a ≡ true → placeOf m a < 8 → placeOf m a ≡ j → ⊥
     unfolding hasAddress
     found-other a e h q =
         let x : hasAddress a (slotIn m (placeOf m a)) ≡ true = found-used m ok a h in
-        let y : eqb address a ≡ true = sym (ap (hasAddress a) (ap (slotIn m) q ∙ here)) ∙ x in
-        eqb-false a address (not-true (eqb a address) e) (sym (eqb-true address a y))
+        let y : eqb (peer .address) a ≡ true = sym (ap (hasAddress a) (ap (slotIn m) q ∙ here)) ∙ x in
+        eqb-false a (peer .address) (not-true (eqb a (peer .address)) e) (sym (eqb-true (peer .address) a y))
 
     free-other : vacancy m < 8 → vacancy m ≡ j → ⊥
     unfolding isFree
     free-other h q = false≢true (sym (ap isFree (ap (slotIn m) q ∙ here)) ∙ found-free m ok h)
 
-    pub step-others : (call : Call) → isElsewhere address call ≡ true → slotIn ((step call m) .model) j ≡ slotIn m j
+    pub step-others : (call : Call) → isElsewhere (peer .address) call ≡ true → slotIn ((step call m) .model) j ≡ slotIn m j
     unfolding isElsewhere isAbout step addTurn removeTurn eventTurn messageTurn listingTurn turnAt
     step-others (add a as₀) e = put-others (addAnswer m a as₀) (vacancy m) _ (λ z. free-other (add-free m ok a as₀ z))
     step-others (remove a) e = put-others (removeAnswer m a) (placeOf m a) _ (λ z. found-other a e (remove-below m ok a z))
-    step-others (start a buffer) e = put-others (eventAnswer m a buffer) (placeOf m a) _ (λ z. found-other a e (event-below m ok a buffer z))
-    step-others (stop a buffer) e = put-others (eventAnswer m a buffer) (placeOf m a) _ (λ z. found-other a e (event-below m ok a buffer z))
-    step-others (tick a buffer) e = put-others (eventAnswer m a buffer) (placeOf m a) _ (λ z. found-other a e (event-below m ok a buffer z))
+    step-others (happen event a buffer) e = put-others (eventAnswer m a buffer) (placeOf m a) _ (λ z. found-other a e (event-below m ok a buffer z))
     step-others (receive a o home buffer) e = put-others (messageAnswer m a home buffer) (placeOf m a) _ (λ z. found-other a e (message-below m ok a home buffer z))
     step-others (listing buffer) e = refl
 
-pub others-from : (m : Model) → Good m → (j : ℕ) (address asn : ℕ) (n : Neighbour) (rows : List Row) → slotIn m j ≡ used address asn n rows
-    → (more : List Call) → every (isElsewhere address) more ≡ true → slotIn (modelFrom m more) j ≡ slotIn m j
+pub others-from : (m : Model) → Good m → (j : ℕ) (peer : Peer) → slotIn m j ≡ used peer
+    → (more : List Call) → every (isElsewhere (peer .address)) more ≡ true → slotIn (modelFrom m more) j ≡ slotIn m j
 unfolding modelFrom every
-others-from m ok j address asn n rows here [] e = refl
-others-from m ok j address asn n rows here (call ∷ rest) e =
+others-from m ok j peer here [] e = refl
+others-from m ok j peer here (call ∷ rest) e =
     let one : slotIn ((step call m) .model) j ≡ slotIn m j =
-    step-others m ok j address asn n rows here call (and-left (isElsewhere address call) (every (isElsewhere address) rest) e) in
-    others-from ((step call m) .model) (good-step m ok call) j address asn n rows (one ∙ here) rest (and-right (isElsewhere address call) (every (isElsewhere address) rest) e) ∙ one
+    step-others m ok j peer here call (and-left (isElsewhere (peer .address) call) (every (isElsewhere (peer .address)) rest) e) in
+    others-from ((step call m) .model) (good-step m ok call) j peer (one ∙ here) rest (and-right (isElsewhere (peer .address) call) (every (isElsewhere (peer .address)) rest) e) ∙ one
 
 pub others-slot : (m : Model) → Good m → (j : ℕ) (more : List Call) → ((cell (slotIn m j)) .address ≡ 0 → ⊥)
     → every (isElsewhere ((cell (slotIn m j)) .address)) more ≡ true → slotIn (modelFrom m more) j ≡ slotIn m j
@@ -287,7 +281,7 @@ others-slot m ok j more = go (slotIn m j) refl
   where
     go : (s : Slot) → slotIn m j ≡ s → ((cell s) .address ≡ 0 → ⊥) → every (isElsewhere ((cell s) .address)) more ≡ true → slotIn (modelFrom m more) j ≡ slotIn m j
     go free q p e = absurd (p refl)
-    go (used address asn n rows) q p e = others-from m ok j address asn n rows q more e
+    go (used peer) q p e = others-from m ok j peer q more e
 
 -- ---- free slots
 
@@ -300,9 +294,7 @@ module _ (m : Model) (ok : Good m) (j : ℕ) (here : slotIn m j ≡ free) where
   unfolding takesNoSlot step removeTurn eventTurn messageTurn listingTurn turnAt
   step-free (add a as₀) e = absurd (false≢true e)
   step-free (remove a) e = put-others m ok j (removeAnswer m a) (placeOf m a) _ (λ z. found-elsewhere a (remove-below m ok a z))
-  step-free (start a buffer) e = put-others m ok j (eventAnswer m a buffer) (placeOf m a) _ (λ z. found-elsewhere a (event-below m ok a buffer z))
-  step-free (stop a buffer) e = put-others m ok j (eventAnswer m a buffer) (placeOf m a) _ (λ z. found-elsewhere a (event-below m ok a buffer z))
-  step-free (tick a buffer) e = put-others m ok j (eventAnswer m a buffer) (placeOf m a) _ (λ z. found-elsewhere a (event-below m ok a buffer z))
+  step-free (happen event a buffer) e = put-others m ok j (eventAnswer m a buffer) (placeOf m a) _ (λ z. found-elsewhere a (event-below m ok a buffer z))
   step-free (receive a o home buffer) e = put-others m ok j (messageAnswer m a home buffer) (placeOf m a) _ (λ z. found-elsewhere a (message-below m ok a home buffer z))
   step-free (listing buffer) e = refl
 
@@ -317,4 +309,4 @@ free-from m ok j here (call ∷ rest) e =
 pub shown-free : (slot : Slot) → sound slot ≡ true → (cell slot) .address ≡ 0 → slot ≡ free
 unfolding cell sound
 shown-free free s e = refl
-shown-free (used address asn n rows) s e = absurd (eqb-false address 0 (not-true (eqb address 0) s) e)
+shown-free (used peer) s e = absurd (eqb-false (peer .address) 0 (not-true (eqb (peer .address) 0) s) e)

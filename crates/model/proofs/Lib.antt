@@ -1,4 +1,5 @@
 pub mod Lists
+pub mod Laws
 pub mod Marked
 pub mod Represent
 pub mod Listed

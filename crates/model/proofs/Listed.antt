@@ -7,28 +7,27 @@ use mathlib.Core.List.{List, [], _∷_, map}
 use lib.Dec.{eqb}
 use lib.ListN.{length, getD}
 use borrow.Author.Tests.{eq-eqb, not-true}
-use Rattle.checks.specs.Checks.{check}
+use Rattle.checks.specs.Checks.{check, ifOk}
 use Rattle.checks.specs.Lists.{every}
 use Rattle.checks.proofs.Laws.{cond-elim, and-left, and-right, and-both, check-holds}
 use Rattle.nets.specs.Rows.{Row}
-use Rattle.wire.specs.Reading as Wire
 use Rattle.wire.specs.Reading.{decodeOf}
 use Rattle.wire.specs.declared.Decoded.{Decoded}
 use Rattle.wire.specs.declared.Decoded.the-variants as D
 use Rattle.neighbour.specs.declared.Phase.{Phase}
 use Rattle.neighbour.specs.declared.Settings.{Settings}
 use Rattle.neighbour.specs.declared.Neighbour.{Neighbour}
-use Rattle.neighbour.specs.Record.{idle, isUp}
-use Rattle.machine.specs.declared.Event.{Event}
+use Rattle.neighbour.specs.Record.{isUp}
+use Rattle.machine.specs.Intrinsics.{Intrinsic, asEvent}
 use Rattle.machine.specs.Step.{stepOf}
 use Rattle.state.specs.Slots.{freeSlot}
 use Rattle.state.specs.Formed.{stateFormed}
 use Rattle.state.proofs.ListLaws.{every-set, every-getD}
 use Rattle.calls.specs.Carried.{partAt}
 use Rattle.calls.specs.Calls.{tableFits}
-use Rattle.lines.specs.Lines.{Entry}
+use Rattle.lines.specs.Lines.{Entry, entryFor}
 use Rattle.lines.specs.Listing.{usedRows, entryOf, entriesFrom, entries, markedRow, listable, listingChecks}
-use Rattle.model.specs.Model.{Call, add, remove, start, stop, tick, receive, listing, Slot, free, used, Model, slotIn, put, whenOk, addTurn, removeTurn, noOctets, noMove, rowsIn, moved, eventMove, isUpdate, answerTo, afterMessage, rowsAfter, refusalReply, messageMove, turnAt, eventTurn, messageTurn, listedFrom, listed, listingAnswer, listingTurn, step, placeOf}
+use Rattle.model.specs.Model.{Call, add, remove, happen, receive, listing, Peer, Slot, free, used, Model, slotIn, put, addTurn, removeTurn, noOctets, noMove, rowsIn, moved, eventMove, isUpdate, answerTo, afterMessage, rowsAfter, messageMove, turnAt, eventTurn, messageTurn, listedFrom, listed, listingAnswer, listingTurn, step, placeOf, newPeer, refusedMove}
 use Rattle.model.specs.Theorem.{isOctet, carriesOctets, cell, stateOf, rowsHeld, tableOf}
 use Rattle.model.proofs.Represent.{sound, Good, table-length, part-of, read-back}
 use Rattle.model.proofs.Marked.{update-marks}
@@ -50,21 +49,19 @@ reads-here table k slot l h =
     let e : k + 0 ≡ k = omega arith in
     subst (λ (n : ℕ). usedRows (cell slot) (partAt table n) ≡ rowsHeld slot) e (h 0 (omega arith))
 
-entry-is : (table : List ℕ) (k : ℕ) (address asn : ℕ) (n : Neighbour) (rows : List Row)
-    → usedRows (cell (used address asn n rows)) (partAt table k) ≡ rows
-    → entryOf k (cell (used address asn n rows)) table ≡ record { index = k; address = address; asn = asn; phase = n .phase; mode = n .mode; rows = rows }
+entry-is : (table : List ℕ) (k : ℕ) (peer : Peer) → usedRows (cell (used peer)) (partAt table k) ≡ peer .rows
+    → entryOf k (cell (used peer)) table ≡ entryFor k (peer .address) (peer .asn) (peer .neighbour) (peer .rows)
 unfolding entryOf cell
-entry-is table k address asn n rows e =
-    λ i. record { index = k; address = address; asn = asn; phase = n .phase; mode = n .mode; rows = e i }
+entry-is table k peer e = ap (entryFor k (peer .address) (peer .asn) (peer .neighbour)) e
 
 listed-from : (table : List ℕ) (k : ℕ) (l : List Slot) → every sound l ≡ true → ReadsBack table k l → entriesFrom k (map cell l) table ≡ listedFrom k l
 unfolding entriesFrom listedFrom every sound cell freeSlot rowsHeld
 listed-from table k [] s h = refl
 listed-from table k (free ∷ l) s h = listed-from table (suc k) l s (reads-next table k free l h)
-listed-from table k (used address asn n rows ∷ l) s h =
-    let slot = used address asn n rows in
-    rw (not-true (eqb address 0) (and-left (sound slot) (every sound l) s), entry-is table k address asn n rows (reads-here table k slot l h))
-    (ap (λ (r : List Entry). record { index = k; address = address; asn = asn; phase = n .phase; mode = n .mode; rows = rows } ∷ r)
+listed-from table k (used peer ∷ l) s h =
+    let slot = used peer in
+    rw (not-true (eqb (peer .address) 0) (and-left (sound slot) (every sound l) s), entry-is table k peer (reads-here table k slot l h))
+    (ap (λ (r : List Entry). entryFor k (peer .address) (peer .asn) (peer .neighbour) (peer .rows) ∷ r)
     (listed-from table (suc k) l (and-right (sound slot) (every sound l) s) (reads-next table k slot l h)))
 
 -- ---- the rows
@@ -80,9 +77,9 @@ listed-marks : (k : ℕ) (l : List Slot) → every marked l ≡ true → every l
 unfolding listedFrom every marked listable rowsHeld
 listed-marks k [] e = refl
 listed-marks k (free ∷ l) e = listed-marks (suc k) l e
-listed-marks k (used address asn n rows ∷ l) e =
-    let slot = used address asn n rows in
-    and-both (every markedRow rows) (every listable (listedFrom (suc k) l))
+listed-marks k (used peer ∷ l) e =
+    let slot = used peer in
+    and-both (every markedRow (peer .rows)) (every listable (listedFrom (suc k) l))
     (and-left (marked slot) (every marked l) e) (listed-marks (suc k) l (and-right (marked slot) (every marked l) e))
 
 module _ (m : Model) (ok : Good m) where
@@ -111,10 +108,10 @@ rows-marks : (phase : Phase) (rows : List Row) → every markedRow rows ≡ true
 unfolding rowsIn every
 rows-marks phase rows e = cond-elim (λ l. every markedRow l ≡ true) (isUp phase) rows [] (λ _. e) (λ _. refl)
 
-event-marks : (g : Settings) (event : Event) (slot : Slot) → marked slot ≡ true → marked ((eventMove g event slot) .slot) ≡ true
+event-marks : (g : Settings) (event : Intrinsic) (slot : Slot) → marked slot ≡ true → marked ((eventMove g event slot) .slot) ≡ true
 unfolding marked rowsHeld eventMove moved noMove every
 event-marks g event free e = refl
-event-marks g event (used address asn n rows) e = rows-marks ((stepOf g asn n event noOctets) .neighbour .phase) rows e
+event-marks g event (used peer) e = rows-marks ((stepOf g (peer .asn) (peer .neighbour) (asEvent event) noOctets) .neighbour .phase) (peer .rows) e
 
 after-marks : (g : Settings) (n : Neighbour) (o : List ℕ) (d : Decoded) (rows : List Row) → every isOctet o ≡ true → every markedRow rows ≡ true
     → every markedRow (rowsAfter g n o d rows) ≡ true
@@ -126,14 +123,14 @@ after-marks g n o D.BadStatus rows h e = e
 after-marks g n o D.BadLength rows h e = e
 
 message-marks : (g : Settings) (o : List ℕ) (slot : Slot) → every isOctet o ≡ true → marked slot ≡ true → marked ((messageMove g o slot) .slot) ≡ true
-unfolding marked rowsHeld messageMove moved noMove whenOk every
+unfolding marked rowsHeld messageMove moved noMove ifOk every
 message-marks g o free h e = refl
-message-marks g o (used address asn n rows) h e = go (eqb (answerTo g asn n o) 0)
+message-marks g o (used peer) h e = go (eqb (answerTo g (peer .asn) (peer .neighbour) o) 0)
   where
     go : (b : Bool)
-        → marked ((cond b (moved address asn (afterMessage g asn n o (decodeOf o)) (rowsAfter g n o (decodeOf o) rows))
-        (record { answer = answerTo g asn n o; reply = refusalReply g n o (answerTo g asn n o); slot = used address asn n rows })) .slot) ≡ true
-    go true = rows-marks _ (rowsAfter g n o (decodeOf o) rows) (after-marks g n o (decodeOf o) rows h e)
+        → marked ((cond b (moved peer (afterMessage g (peer .asn) (peer .neighbour) o (decodeOf o)) (rowsAfter g (peer .neighbour) o (decodeOf o) (peer .rows)))
+        (refusedMove g o peer (answerTo g (peer .asn) (peer .neighbour) o))) .slot) ≡ true
+    go true = rows-marks _ (rowsAfter g (peer .neighbour) o (decodeOf o) (peer .rows)) (after-marks g (peer .neighbour) o (decodeOf o) (peer .rows) h e)
     go false = e
 
 module _ (m : Model) (k : Marked m) where
@@ -141,21 +138,19 @@ module _ (m : Model) (k : Marked m) where
   unfolding slotIn marked rowsHeld every
   marked-at i = every-getD marked (m .slots) i free k refl
 
-  put-marked : (a i : ℕ) (slot : Slot) → marked slot ≡ true → Marked (whenOk a (put m i slot) m)
-  unfolding whenOk put
+  put-marked : (a i : ℕ) (slot : Slot) → marked slot ≡ true → Marked (ifOk a (put m i slot) m)
+  unfolding ifOk put
   put-marked a i slot s =
       cond-elim (λ (x : Model). Marked x) (eqb a 0) _ m (λ _. every-set marked (m .slots) i slot k s) (λ _. k)
 
-  event-marked : (event : Event) (a : ℕ) (buffer : List ℕ) → Marked ((eventTurn event m a buffer) .model)
+  event-marked : (event : Intrinsic) (a : ℕ) (buffer : List ℕ) → Marked ((eventTurn event m a buffer) .model)
   unfolding eventTurn turnAt
   event-marked event a buffer = put-marked _ (placeOf m a) _ (event-marks (m .settings) event (slotIn m (placeOf m a)) (marked-at (placeOf m a)))
 
   pub marked-step : (call : Call) → carriesOctets call ≡ true → Marked ((step call m) .model)
   unfolding carriesOctets step addTurn removeTurn messageTurn listingTurn turnAt marked rowsHeld every
-  marked-step (add address asn) h = put-marked _ _ (used address asn idle []) refl
+  marked-step (add address asn) h = put-marked _ _ (used (newPeer address asn)) refl
   marked-step (remove address) h = put-marked _ _ free refl
-  marked-step (start a buffer) h = event-marked _ a buffer
-  marked-step (stop a buffer) h = event-marked _ a buffer
-  marked-step (tick a buffer) h = event-marked _ a buffer
+  marked-step (happen event a buffer) h = event-marked _ a buffer
   marked-step (receive a o home buffer) h = put-marked _ (placeOf m a) _ (message-marks (m .settings) o (slotIn m (placeOf m a)) h (marked-at (placeOf m a)))
   marked-step (listing buffer) h = k

@@ -3,7 +3,7 @@ use Prim.Native.Nat.{ℕ, zero, suc, _+_, _*_, _<_}
 use native.Mathlib.Nat.{le-of-suc-le-suc, not-suc-le-zero}
 use native.Mathlib.Omega.{arith}
 use mathlib.Core.Path.{_≡_, refl, _∙_, ap}
-use mathlib.Core.Bool.{Bool, true, false, cond}
+use mathlib.Core.Bool.{Bool, true, cond}
 use mathlib.Core.List.{List, [], _∷_, _++_, map, append-assoc}
 use lib.Dec.{eqb}
 use lib.ListN.{length, getD, set, length-append}
@@ -12,26 +12,16 @@ use borrow.Author.Tests.{eqb-true}
 use Rattle.checks.proofs.Laws.{and-left, and-right}
 use Rattle.checks.specs.Lists.{first, every, join}
 use Rattle.calls.specs.Carried.{partAt, withPart}
-use Rattle.model.specs.Model.{Slot, index}
+use Rattle.model.specs.Model.{Slot}
 
 -- the model's search is the gateway's, through what a slot is shown as
-pub index-map : (p : ℕ → Bool) (q : Slot → Bool) (f : Slot → ℕ) (r : Slot → Bool) → ((x : Slot) → r x ≡ true → p (f x) ≡ q x)
-    → (l : List Slot) → every r l ≡ true → first p (map f l) ≡ index q l
-unfolding first index every
-index-map p q f r h [] e = refl
-index-map p q f r h (x ∷ xs) e =
+pub first-map : (p : ℕ → Bool) (q : Slot → Bool) (f : Slot → ℕ) (r : Slot → Bool) → ((x : Slot) → r x ≡ true → p (f x) ≡ q x)
+    → (l : List Slot) → every r l ≡ true → first p (map f l) ≡ first q l
+unfolding first every
+first-map p q f r h [] e = refl
+first-map p q f r h (x ∷ xs) e =
     rw (h x (and-left (r x) (every r xs) e))
-    (ap (λ (k : ℕ). cond (q x) 0 (suc k)) (index-map p q f r h xs (and-right (r x) (every r xs) e)))
-
-pub index-found : (p : Slot → Bool) (l : List Slot) (d : Slot) → index p l < length l → p (getD l (index p l) d) ≡ true
-unfolding index
-index-found p [] d h = absurd (not-suc-le-zero h)
-index-found p (x ∷ xs) d h = go (p x) refl (index-found p xs d) h
-  where
-    go : (b : Bool) → p x ≡ b → (index p xs < length xs → p (getD xs (index p xs) d) ≡ true)
-        → cond b 0 (suc (index p xs)) < suc (length xs) → p (getD (x ∷ xs) (cond b 0 (suc (index p xs))) d) ≡ true
-    go true e r k = e
-    go false e r k = r (le-of-suc-le-suc k)
+    (ap (λ (k : ℕ). cond (q x) 0 (suc k)) (first-map p q f r h xs (and-right (r x) (every r xs) e)))
 
 pub map-map : {A B C : Type 0} (f : A → B) (h : B → C) (l : List A) → map h (map f l) ≡ map (λ x. h (f x)) l
 map-map f h [] = refl

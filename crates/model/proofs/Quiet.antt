@@ -139,12 +139,12 @@ says-other status e = go (eqb status 0) refl (eqb status 2) refl (eqb status 128
 not-free : (slot : Slot) → isFree slot ≡ true → isUpSlot slot ≡ true → ⊥
 unfolding isFree isUpSlot
 not-free free f u = false≢true u
-not-free (used address asn n rows) f u = false≢true f
+not-free (used peer) f u = false≢true f
 
 not-idle : (slot : Slot) → isIdleSlot slot ≡ true → isUpSlot slot ≡ true → ⊥
 unfolding isIdleSlot isUpSlot
 not-idle free f u = false≢true u
-not-idle (used address asn n rows) f u = go (n .phase) f u
+not-idle (used peer) f u = go (peer .neighbour .phase) f u
   where
     go : (p : Phase) → isIdle p ≡ true → isUp p ≡ true → ⊥
     go Phases.Idle f u = false≢true u
@@ -193,11 +193,11 @@ module _ (m : Model) (ok : Good m) (j : ℕ) (j8 : j < 8) (a : ℕ) (o home buff
     noted-in e =
         step-elim m ok j j8 NotedIn call
         (λ none-is. absurd (false≢true (ap (holdsOf (λ _. true)) (sym none-is ∙ is-event))))
-        (λ address as₀ n rows here event some-is head new.
-        let up : isUp (n .phase) ≡ true = sym (ap isUpSlot here) ∙ is-up-slot in
-        let mode : n .mode ≡ Passive = ap (λ (slot : Slot). (cell slot) .neighbour .mode) (sym here) ∙ passive in
+        (λ peer here event some-is head new.
+        let up : isUp (peer .neighbour .phase) ≡ true = sym (ap isUpSlot here) ∙ is-up-slot in
+        let mode : peer .neighbour .mode ≡ Passive = ap (λ (slot : Slot). (cell slot) .neighbour .mode) (sym here) ∙ passive in
         let same : event ≡ Received (M.Update asn number status net) = ap unwrapped (sym some-is ∙ is-event) in
-        let x = indication-noted (m .settings) as₀ n (M.Update asn number status net) head (is-up (n .phase) up) refl (update-indicates-by n asn number status net up mode ∙ e) in
+        let x = indication-noted (m .settings) (peer .asn) (peer .neighbour) (M.Update asn number status net) head (is-up (peer .neighbour .phase) up) refl (update-indicates-by (peer .neighbour) asn number status net up mode ∙ e) in
         rw same (x .1, x .2))
         (λ f. absurd (not-free (slotIn m j) f is-up-slot)) (λ f. absurd (not-idle (slotIn m j) f is-up-slot))
 

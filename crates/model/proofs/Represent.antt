@@ -12,7 +12,6 @@ use Rattle.checks.specs.Lists.{first, every, join}
 use Rattle.nets.specs.Rows.{Row, rowsOf, flat}
 use Rattle.rows.specs.Storing.{zeros, padded}
 use Rattle.rows.proofs.Laws.{flat-length, padded-length}
-use Rattle.neighbour.specs.declared.Neighbour.{Neighbour}
 use Rattle.state.specs.declared.Slot as Stored
 use Rattle.state.specs.Slots.{freeSlot, slotAt, withSlot, addressOf, addresses, clash, slotOf, isNone, lowestFree}
 use Rattle.state.specs.Formed.{stateFormed}
@@ -22,14 +21,14 @@ use Rattle.state.proofs.SlotLaws.{clash-is, clash-not, clash-zero}
 use Rattle.state.proofs.Theorems.{formed-slot}
 use Rattle.calls.specs.Carried.{partAt, withPart}
 use Rattle.claims.specs.Claims.{FormedState}
-use Rattle.model.specs.Model.{Slot, free, used, Model, slotIn, put, isFree, hasAddress, placeOf, vacancy}
+use Rattle.model.specs.Model.{Slot, free, used, Model, slotIn, put, isFree, hasAddress, placeOf, vacancy, Peer}
 use Rattle.model.specs.Theorem.{cell, stateOf, rowsHeld, part, tableOf}
-use Rattle.model.proofs.Lists.{index-map, map-map, isPart, join-length, join-put, join-part}
+use Rattle.model.proofs.Lists.{first-map, map-map, isPart, join-length, join-put, join-part}
 
 -- a used slot has an address
 unfoldable pub sound : Slot → Bool
 sound free = true
-sound (used address asn n rows) = not (eqb address 0)
+sound (used peer) = not (eqb (peer .address) 0)
 
 -- a model of eight slots, shown as a well-formed state
 pub record Good (m : Model) : Type 0 where
@@ -44,28 +43,28 @@ clash-address a free s = go (eqb a 0) refl
     go : (b : Bool) → eqb a 0 ≡ b → clash a 0 ≡ false
     go true e = clash-zero a 0 (eqb-true a 0 e)
     go false e = clash-not a 0 (eqb-false a 0 e)
-clash-address a (used address asn n rows) s = go (eqb address a) refl
+clash-address a (used peer) s = go (eqb (peer .address) a) refl
   where
-    go : (b : Bool) → eqb address a ≡ b → clash a address ≡ b
-    go true e = clash-is a address (λ z. eqb-false address 0 (not-true (eqb address 0) s) (eqb-true address a e ∙ z)) (sym (eqb-true address a e))
-    go false e = clash-not a address (λ q. eqb-false address a e (sym q))
+    go : (b : Bool) → eqb (peer .address) a ≡ b → clash a (peer .address) ≡ b
+    go true e = clash-is a (peer .address) (λ z. eqb-false (peer .address) 0 (not-true (eqb (peer .address) 0) s) (eqb-true (peer .address) a e ∙ z)) (sym (eqb-true (peer .address) a e))
+    go false e = clash-not a (peer .address) (λ q. eqb-false (peer .address) a e (sym q))
 
 none-free : (slot : Slot) → sound slot ≡ true → isNone ((cell slot) .address) ≡ isFree slot
 unfolding cell isFree sound freeSlot
 none-free free s = refl
-none-free (used address asn n rows) s = not-true (eqb address 0) s
+none-free (used peer) s = not-true (eqb (peer .address) 0) s
 
 -- a slot that has the address looked for is a used one
-pub used-at : (P : Slot → Type 0) (a : ℕ) → ((address asn : ℕ) (n : Neighbour) (rows : List Row) → P (used address asn n rows))
+pub used-at : (P : Slot → Type 0) (a : ℕ) → ((peer : Peer) → P (used peer))
     → (slot : Slot) → hasAddress a slot ≡ true → P slot
 unfolding hasAddress
 used-at P a h free e = absurd (false≢true e)
-used-at P a h (used address asn n rows) e = h address asn n rows
+used-at P a h (used peer) e = h peer
 
 part-long : (slot : Slot) → (cell slot) .rows ≤ 128 → length (part slot) ≡ 384
 unfolding cell part rowsHeld freeSlot
 part-long free h = padded-length 384 (flat []) (omega (arith, flat-length []))
-part-long (used address asn n rows) h = padded-length 384 (flat rows) (omega (arith, flat-length rows))
+part-long (used peer) h = padded-length 384 (flat (peer .rows)) (omega (arith, flat-length (peer .rows)))
 
 rows-flat : (rows : List Row) → rowsOf (flat rows) ≡ rows
 unfolding rowsOf flat
@@ -76,7 +75,7 @@ rows-flat (r ∷ rest) = ap (λ (l : List Row). r ∷ l) (rows-flat rest)
 pub read-back : (slot : Slot) → rowsOf (take (3 * (cell slot) .rows) (part slot)) ≡ rowsHeld slot
 unfolding cell part rowsHeld padded freeSlot rowsOf
 read-back free = refl
-read-back (used address asn n rows) = ap rowsOf (take-at (flat rows) (zeros (384 - length (flat rows))) (3 * length rows) (flat-length rows)) ∙ rows-flat rows
+read-back (used peer) = ap rowsOf (take-at (flat (peer .rows)) (zeros (384 - length (flat (peer .rows)))) (3 * length (peer .rows)) (flat-length (peer .rows))) ∙ rows-flat (peer .rows)
 
 module _ (m : Model) (ok : Good m) where
   addresses-of : addresses (stateOf m) ≡ map (λ slot. (cell slot) .address) (m .slots)
@@ -87,13 +86,13 @@ module _ (m : Model) (ok : Good m) where
   unfolding slotOf placeOf
   slot-of a =
       ap (first (clash a)) addresses-of
-      ∙ index-map (clash a) (hasAddress a) (λ slot. (cell slot) .address) sound (clash-address a) (m .slots) (ok .each)
+      ∙ first-map (clash a) (hasAddress a) (λ slot. (cell slot) .address) sound (clash-address a) (m .slots) (ok .each)
 
   pub lowest-of : lowestFree (stateOf m) ≡ vacancy m
   unfolding lowestFree vacancy
   lowest-of =
       ap (first isNone) addresses-of
-      ∙ index-map isNone isFree (λ slot. (cell slot) .address) sound none-free (m .slots) (ok .each)
+      ∙ first-map isNone isFree (λ slot. (cell slot) .address) sound none-free (m .slots) (ok .each)
 
   pub at-of : (i : ℕ) → slotAt (stateOf m) i ≡ cell (slotIn m i)
   unfolding slotAt stateOf slotIn cell

@@ -17,10 +17,8 @@ use Rattle.walk.specs.Body.{updateOf, rowsRead}
 use Rattle.neighbour.specs.declared.Phase.{Phase}
 use Rattle.neighbour.specs.declared.Phase.the-variants as Phases
 use Rattle.neighbour.specs.declared.Settings.{Settings}
-use Rattle.neighbour.specs.declared.Neighbour.{Neighbour}
-use Rattle.neighbour.specs.Record.{idle, isIdle, isUp}
-use Rattle.machine.specs.declared.Event.{Event}
-use Rattle.machine.specs.declared.Event.the-variants.{Start, Stop, Tick}
+use Rattle.neighbour.specs.Record.{isIdle, isUp}
+use Rattle.machine.specs.Intrinsics.{Intrinsic, asEvent}
 use Rattle.machine.specs.declared.Reply.{Reply}
 use Rattle.machine.specs.declared.Reply.the-variants.{Nothing, One, Two}
 use Rattle.machine.specs.Step.{stepOf}
@@ -30,7 +28,7 @@ use Rattle.state.specs.Slots.{freeSlot, slotAt, slotOf, present}
 use Rattle.state.specs.Formed.{goodPeer, stateFormed}
 use Rattle.state.specs.Claims.{SlotGood}
 use Rattle.state.specs.Outcomes.{refusedOf, silentOf}
-use Rattle.state.proofs.ListLaws.{every-set}
+use Rattle.state.proofs.ListLaws.{first-in, every-set}
 use Rattle.slots.specs.Calls as Slots
 use Rattle.slots.specs.Calls.{newcomer, addOf, removeOf}
 use Rattle.calls.specs.declared.Effect.{Effect}
@@ -44,9 +42,8 @@ use Rattle.calls.specs.Calls.{tableFits, eventChecks, messageChecks, noHead, ev
 use Rattle.claims.proofs.Formed.{well-formed-kept}
 use Rattle.lines.specs.Lines.{listingText}
 use Rattle.lines.specs.Listing.{entries, listingChecks, listingOutcome, listingBuffer}
-use Rattle.model.specs.Model.{isFree, noMove, moved, answerTo, afterMessage, rowsAfter, refusalReply, Call, add, remove, start, stop, tick, receive, listing, Slot, free, used, Model, slotIn, put, hasAddress, placeOf, isPresent, vacancy, Said, silent, spoken, whenOk, addable, addAnswer, isIdleSlot, removeAnswer, addTurn, removeTurn, Move, eventMove, messageMove, eventAnswer, messageAnswer, turnAt, eventTurn, messageTurn, listed, listingAnswer, listingSaid, listingTurn, step}
+use Rattle.model.specs.Model.{isFree, noMove, moved, answerTo, afterMessage, rowsAfter, Call, add, remove, happen, receive, listing, Slot, free, used, Model, slotIn, put, hasAddress, placeOf, isPresent, vacancy, Said, silent, spoken, addable, addAnswer, isIdleSlot, removeAnswer, addTurn, removeTurn, Move, eventMove, messageMove, eventAnswer, messageAnswer, turnAt, eventTurn, messageTurn, listed, listingAnswer, listingSaid, listingTurn, step, Peer, newPeer, refusedMove}
 use Rattle.model.specs.Theorem.{Gateway, outcomeOf, tableAfter, bufferOf, bufferAfter, listsNothing, cell, stateOf, rowsHeld, part, tableOf}
-use Rattle.model.proofs.Lists.{index-found}
 use Rattle.model.proofs.Represent.{sound, Good, used-at, slot-of, lowest-of, at-of, state-ok, good-at, sound-at, state-with, table-length, table-with, table-same}
 use Rattle.model.proofs.Listed.{Marked, entries-of, listing-answer}
 use Rattle.model.proofs.Moves.{no-rows, partFrom, Agrees, event-agrees, message-agrees}
@@ -63,8 +60,8 @@ pub record Shown (r : Outcome) (t b : List ℕ) (m : Model) (said : Said) (buffe
 -- both sides go by one answer
 shown-call : (c c′ : ℕ) (new old : Outcome) (t t₀ b b₀ : List ℕ) (m′ m : Model) (s′ s : Said) (buffer : List ℕ) → c′ ≡ c
     → (c ≡ 0 → Shown new t b m′ s′ buffer) → Shown old t₀ b₀ m s buffer
-    → Shown (ifOk c′ new old) (ifOk c′ t t₀) (ifOk c′ b b₀) (whenOk c m′ m) (whenOk c s′ s) buffer
-unfolding ifOk whenOk
+    → Shown (ifOk c′ new old) (ifOk c′ t t₀) (ifOk c′ b b₀) (ifOk c m′ m) (ifOk c s′ s) buffer
+unfolding ifOk
 shown-call c c′ new old t t₀ b b₀ m′ m s′ s buffer q p r = go (eqb c 0) refl (ap (λ (k : ℕ). eqb k 0) q)
   where
     go : (k : Bool) → eqb c 0 ≡ k → eqb c′ 0 ≡ eqb c 0
@@ -106,23 +103,23 @@ idle-not-up Phases.Down e = refl
 idle-not-up Phases.Up e = absurd (false≢true e)
 idle-not-up Phases.Cease e = refl
 
-idle-used : (address asn : ℕ) (n : Neighbour) (rows : List Row) → isIdle ((cell (used address asn n rows)) .neighbour .phase) ≡ isIdleSlot (used address asn n rows)
+idle-used : (peer : Peer) → isIdle ((cell (used peer)) .neighbour .phase) ≡ isIdleSlot (used peer)
 unfolding cell isIdleSlot
-idle-used address asn n rows = refl
+idle-used peer = refl
 
-event-sound : (g : Settings) (event : Event) (slot : Slot) → sound slot ≡ true → sound ((eventMove g event slot) .slot) ≡ true
+event-sound : (g : Settings) (event : Intrinsic) (slot : Slot) → sound slot ≡ true → sound ((eventMove g event slot) .slot) ≡ true
 unfolding sound eventMove moved noMove
 event-sound g event free e = refl
-event-sound g event (used address asn n rows) e = e
+event-sound g event (used peer) e = e
 
 message-sound : (g : Settings) (o : List ℕ) (slot : Slot) → sound slot ≡ true → sound ((messageMove g o slot) .slot) ≡ true
-unfolding sound messageMove moved noMove whenOk
+unfolding sound messageMove moved noMove ifOk
 message-sound g o free e = refl
-message-sound g o (used address asn n rows) e = go (eqb (answerTo g asn n o) 0)
+message-sound g o (used peer) e = go (eqb (answerTo g (peer .asn) (peer .neighbour) o) 0)
   where
     go : (b : Bool)
-        → sound ((cond b (moved address asn (afterMessage g asn n o (decodeOf o)) (rowsAfter g n o (decodeOf o) rows))
-        (record { answer = answerTo g asn n o; reply = refusalReply g n o (answerTo g asn n o); slot = used address asn n rows })) .slot) ≡ true
+        → sound ((cond b (moved peer (afterMessage g (peer .asn) (peer .neighbour) o (decodeOf o)) (rowsAfter g (peer .neighbour) o (decodeOf o) (peer .rows)))
+        (refusedMove g o peer (answerTo g (peer .asn) (peer .neighbour) o))) .slot) ≡ true
     go true = e
     go false = e
 
@@ -134,8 +131,8 @@ module _ (m : Model) (ok : Good m) where
   refused-shown k k′ buffer e = record { state = refl; table = refl; answer = e; first = refl; second = refl; written = refl }
 
   silent-shown : (k k′ : ℕ) (new : State) (m′ : Model) → k′ ≡ k → (k ≡ 0 → new ≡ stateOf m′) → (k ≡ 0 → tableOf m ≡ tableOf m′)
-      → Shown (silentOf k′ new (stateOf m)) (tableOf m) [] (whenOk k m′ m) (silent k) []
-  unfolding silentOf silent over ifOk whenOk
+      → Shown (silentOf k′ new (stateOf m)) (tableOf m) [] (ifOk k m′ m) (silent k) []
+  unfolding silentOf silent over ifOk
   silent-shown k k′ new m′ q s t = go (eqb k 0) refl (ap (λ (x : ℕ). eqb x 0) q)
     where
       go : (b : Bool) → eqb k 0 ≡ b → eqb k′ 0 ≡ eqb k 0 → Shown (silentOf k′ new (stateOf m)) (tableOf m) [] (cond (eqb k 0) m′ m) (silent k) []
@@ -173,7 +170,7 @@ module _ (m : Model) (ok : Good m) where
 
   pub found-used : (a : ℕ) → placeOf m a < 8 → hasAddress a (slotIn m (placeOf m a)) ≡ true
   unfolding placeOf slotIn
-  found-used a h = index-found (hasAddress a) (m .slots) free (omega (arith, ok .eight))
+  found-used a h = first-in (hasAddress a) (m .slots) free (omega (arith, ok .eight))
 
   present-of : (a : ℕ) → present (stateOf m) a ≡ isPresent m a
   unfolding isPresent
@@ -206,13 +203,13 @@ module _ (m : Model) (ok : Good m) where
   unfolding stateOf
   settings-of = refl
 
-  event-move : (event : Event) (slot : Slot) → SlotGood (cell slot) → (a : ℕ) → hasAddress a slot ≡ true
-      → Agrees slot (stepped ((cell slot) .neighbour) (stepOf (m .settings) ((cell slot) .asn) ((cell slot) .neighbour) event noHead)) [] (eventMove (m .settings) event slot)
+  event-move : (event : Intrinsic) (slot : Slot) → SlotGood (cell slot) → (a : ℕ) → hasAddress a slot ≡ true
+      → Agrees slot (stepped ((cell slot) .neighbour) (stepOf (m .settings) ((cell slot) .asn) ((cell slot) .neighbour) (asEvent event) noHead)) [] (eventMove (m .settings) event slot)
   unfolding cell
   event-move event slot good a e =
       used-at
-      (λ s. SlotGood (cell s) → Agrees s (stepped ((cell s) .neighbour) (stepOf (m .settings) ((cell s) .asn) ((cell s) .neighbour) event noHead)) [] (eventMove (m .settings) event s))
-      a (λ address asn n rows k. event-agrees address asn n rows k (m .settings) event) slot e good
+      (λ s. SlotGood (cell s) → Agrees s (stepped ((cell s) .neighbour) (stepOf (m .settings) ((cell s) .asn) ((cell s) .neighbour) (asEvent event) noHead)) [] (eventMove (m .settings) event s))
+      a (λ peer k. event-agrees peer k (m .settings) event) slot e good
 
   message-move : (o : List ℕ) (slot : Slot) → SlotGood (cell slot) → (a : ℕ) → hasAddress a slot ≡ true
       → Agrees slot (receiveVerdict (m .settings) ((cell slot) .asn) ((cell slot) .neighbour) o) (rowsRead (updateOf 128 (m .settings .net) o)) (messageMove (m .settings) o slot)
@@ -220,10 +217,10 @@ module _ (m : Model) (ok : Good m) where
   message-move o slot good a e =
       used-at
       (λ s. SlotGood (cell s) → Agrees s (receiveVerdict (m .settings) ((cell s) .asn) ((cell s) .neighbour) o) (rowsRead (updateOf 128 (m .settings .net) o)) (messageMove (m .settings) o s))
-      a (λ address asn n rows k. message-agrees address asn n rows k (m .settings) o) slot e good
+      a (λ peer k. message-agrees peer k (m .settings) o) slot e good
 
-  event-verdict : (event : Event) (a : ℕ) → placeOf m a < 8
-      → Agrees (slotIn m (placeOf m a)) (eventVerdict (stateOf m) a event) [] (eventMove (m .settings) event (slotIn m (placeOf m a)))
+  event-verdict : (event : Intrinsic) (a : ℕ) → placeOf m a < 8
+      → Agrees (slotIn m (placeOf m a)) (eventVerdict (stateOf m) a (asEvent event)) [] (eventMove (m .settings) event (slotIn m (placeOf m a)))
   unfolding eventVerdict
   event-verdict event a h =
       rw (slot-of m ok a, at-of m ok (placeOf m a), settings-of)
@@ -236,14 +233,14 @@ module _ (m : Model) (ok : Good m) where
       rw (slot-of m ok a, at-of m ok (placeOf m a), settings-of)
       (message-move o (slotIn m (placeOf m a)) (good-at m ok (placeOf m a)) a (found-used a h))
 
-  pub event-shown : (event : Event) (a : ℕ) (buffer : List ℕ)
-      → Shown (eventOutcome event (stateOf m) (tableOf m) buffer a) (eventTable event (stateOf m) (tableOf m) buffer a) (eventBuffer event (stateOf m) (tableOf m) buffer a)
+  pub event-shown : (event : Intrinsic) (a : ℕ) (buffer : List ℕ)
+      → Shown (eventOutcome (asEvent event) (stateOf m) (tableOf m) buffer a) (eventTable (asEvent event) (stateOf m) (tableOf m) buffer a) (eventBuffer (asEvent event) (stateOf m) (tableOf m) buffer a)
       ((eventTurn event m a buffer) .model) ((eventTurn event m a buffer) .said) buffer
   unfolding eventOutcome eventTable eventBuffer eventTurn turnAt
   event-shown event a buffer =
       shown-call (eventAnswer m a buffer) (eventChecks (stateOf m) (tableOf m) buffer a) _ _ _ _ _ _ _ _ _ _ buffer (event-answer a buffer)
       (λ z. rw (slot-of m ok a)
-      (moved-shown (placeOf m a) (eventVerdict (stateOf m) a event) [] [] (eventMove (m .settings) event (slotIn m (placeOf m a))) buffer
+      (moved-shown (placeOf m a) (eventVerdict (stateOf m) a (asEvent event)) [] [] (eventMove (m .settings) event (slotIn m (placeOf m a))) buffer
       (event-below a buffer z) (event-verdict event a (event-below a buffer z))))
       (refused-shown (eventAnswer m a buffer) (eventChecks (stateOf m) (tableOf m) buffer a) buffer (event-answer a buffer))
 
@@ -280,11 +277,11 @@ module _ (m : Model) (ok : Good m) where
   free-none : (slot : Slot) → isFree slot ≡ true → rowsHeld slot ≡ []
   unfolding isFree rowsHeld
   free-none free e = refl
-  free-none (used address asn n rows) e = absurd (false≢true e)
+  free-none (used peer) e = absurd (false≢true e)
 
   pub found-free : vacancy m < 8 → isFree (slotIn m (vacancy m)) ≡ true
   unfolding vacancy slotIn
-  found-free h = index-found isFree (m .slots) free (omega (arith, ok .eight))
+  found-free h = first-in isFree (m .slots) free (omega (arith, ok .eight))
 
   vacant-none : vacancy m < 8 → rowsHeld (slotIn m (vacancy m)) ≡ []
   vacant-none h = free-none (slotIn m (vacancy m)) (found-free h)
@@ -292,9 +289,9 @@ module _ (m : Model) (ok : Good m) where
   idle-none : (slot : Slot) → SlotGood (cell slot) → isIdleSlot slot ≡ true → rowsHeld slot ≡ []
   unfolding isIdleSlot rowsHeld cell
   idle-none free good e = refl
-  idle-none (used address asn n rows) good e = no-rows rows (good .none (idle-not-up (n .phase) e))
+  idle-none (used peer) good e = no-rows (peer .rows) (good .none (idle-not-up (peer .neighbour .phase) e))
 
-  newcomer-cell : (address asn : ℕ) → cell (used address asn idle []) ≡ newcomer address asn
+  newcomer-cell : (address asn : ℕ) → cell (used (newPeer address asn)) ≡ newcomer address asn
   unfolding cell newcomer
   newcomer-cell address asn = refl
 
@@ -302,7 +299,7 @@ module _ (m : Model) (ok : Good m) where
   unfolding cell
   free-cell = refl
 
-  no-rows-new : (address asn : ℕ) → rowsHeld (used address asn idle []) ≡ []
+  no-rows-new : (address asn : ℕ) → rowsHeld (used (newPeer address asn)) ≡ []
   unfolding rowsHeld
   no-rows-new address asn = refl
 
@@ -313,9 +310,9 @@ module _ (m : Model) (ok : Good m) where
   pub add-shown : (address asn : ℕ) → Shown (addOf (stateOf m) address asn) (tableOf m) [] ((addTurn m address asn) .model) ((addTurn m address asn) .said) []
   unfolding addOf addTurn
   add-shown address asn =
-      silent-shown (addAnswer m address asn) (Slots.addAnswer (stateOf m) address asn) _ (put m (vacancy m) (used address asn idle [])) (add-answer address asn)
-      (λ z. rw (lowest-of m ok, ← (newcomer-cell address asn)) (sym (state-with m ok (vacancy m) (used address asn idle []))))
-      (λ z. same-part (vacancy m) (used address asn idle []) (no-rows-new address asn) (vacant-none (add-free address asn z)))
+      silent-shown (addAnswer m address asn) (Slots.addAnswer (stateOf m) address asn) _ (put m (vacancy m) (used (newPeer address asn))) (add-answer address asn)
+      (λ z. rw (lowest-of m ok, ← (newcomer-cell address asn)) (sym (state-with m ok (vacancy m) (used (newPeer address asn)))))
+      (λ z. same-part (vacancy m) (used (newPeer address asn)) (no-rows-new address asn) (vacant-none (add-free address asn z)))
 
   idle-same : (a : ℕ) → placeOf m a < 8 → isIdle ((slotAt (stateOf m) (slotOf (stateOf m) a)) .neighbour .phase) ≡ isIdleSlot (slotIn m (placeOf m a))
   idle-same a h =
@@ -354,8 +351,8 @@ module _ (m : Model) (ok : Good m) where
 
   listing-by : (k : ℕ) (buffer : List ℕ)
       → Shown (ifOk k (record { answer = 0; first = length (listingText (listed m)); second = 0; state = stateOf m }) (refusedOf (stateOf m) k))
-      (tableOf m) (ifOk k (over (listingText (listed m)) buffer) buffer) m (whenOk k (listingSaid m) (silent k)) buffer
-  unfolding ifOk whenOk listingSaid
+      (tableOf m) (ifOk k (over (listingText (listed m)) buffer) buffer) m (ifOk k (listingSaid m) (silent k)) buffer
+  unfolding ifOk listingSaid
   listing-by k buffer = go (eqb k 0) refl
     where
       go : (b : Bool) → eqb k 0 ≡ b
@@ -396,9 +393,7 @@ module _ (m : Model) (ok : Good m) where
   unfolding outcomeOf tableAfter bufferAfter step bufferOf represent listsNothing
   simulates (add address asn) h = add-shown address asn
   simulates (remove address) h = remove-shown address
-  simulates (start a buffer) h = event-shown Start a buffer
-  simulates (stop a buffer) h = event-shown Stop a buffer
-  simulates (tick a buffer) h = event-shown Tick a buffer
+  simulates (happen event a buffer) h = event-shown event a buffer
   simulates (receive a o home buffer) h = message-shown a o home buffer
   simulates (listing buffer) h = listing-shown (h refl) buffer
 
@@ -414,9 +409,7 @@ module _ (m : Model) (ok : Good m) where
   unfolding outcomeOf tableAfter step represent listingTurn listsNothing
   leaves (add address asn) = simulated (add address asn) refl
   leaves (remove address) = simulated (remove address) refl
-  leaves (start a buffer) = simulated (start a buffer) refl
-  leaves (stop a buffer) = simulated (stop a buffer) refl
-  leaves (tick a buffer) = simulated (tick a buffer) refl
+  leaves (happen event a buffer) = simulated (happen event a buffer) refl
   leaves (receive a o home buffer) = simulated (receive a o home buffer) refl
   leaves (listing buffer) = record { state = listing-keeps buffer; table = refl }
 
@@ -426,21 +419,21 @@ module _ (m : Model) (ok : Good m) where
   unfolding put
   put-rest i slot s = record { eight = length-set (m .slots) i slot ∙ ok .eight; each = every-set sound (m .slots) i slot (ok .each) s }
 
-  kept-rest : (k i : ℕ) (slot : Slot) → (k ≡ 0 → sound slot ≡ true) → Rest (whenOk k (put m i slot) m)
-  unfolding whenOk
+  kept-rest : (k i : ℕ) (slot : Slot) → (k ≡ 0 → sound slot ≡ true) → Rest (ifOk k (put m i slot) m)
+  unfolding ifOk
   kept-rest k i slot s = go (eqb k 0) refl
     where
       go : (b : Bool) → eqb k 0 ≡ b → Rest (cond (eqb k 0) (put m i slot) m)
       go true e = rw e (put-rest i slot (s (eqb-true k 0 e)))
       go false e = rw e (record { eight = ok .eight; each = ok .each })
 
-  add-sound : (address asn : ℕ) → addAnswer m address asn ≡ 0 → sound (used address asn idle []) ≡ true
+  add-sound : (address asn : ℕ) → addAnswer m address asn ≡ 0 → sound (used (newPeer address asn)) ≡ true
   unfolding addAnswer addable sound
   add-sound address asn z =
       let p : addable m address asn ≡ true = check-passed (addable m address asn) 16 _ refl z .0 in
       search (and-left, and-right)
 
-  event-rest : (event : Event) (a : ℕ) (buffer : List ℕ) → Rest ((eventTurn event m a buffer) .model)
+  event-rest : (event : Intrinsic) (a : ℕ) (buffer : List ℕ) → Rest ((eventTurn event m a buffer) .model)
   unfolding eventTurn turnAt
   event-rest event a buffer = kept-rest _ (placeOf m a) _ (λ _. event-sound (m .settings) event (slotIn m (placeOf m a)) (sound-at m ok (placeOf m a)))
 
@@ -450,11 +443,9 @@ module _ (m : Model) (ok : Good m) where
 
   rest-step : (call : Call) → Rest ((step call m) .model)
   unfolding step addTurn removeTurn listingTurn sound
-  rest-step (add address asn) = kept-rest (addAnswer m address asn) (vacancy m) (used address asn idle []) (add-sound address asn)
+  rest-step (add address asn) = kept-rest (addAnswer m address asn) (vacancy m) (used (newPeer address asn)) (add-sound address asn)
   rest-step (remove address) = kept-rest (removeAnswer m address) (placeOf m address) free (λ _. refl)
-  rest-step (start a buffer) = event-rest Start a buffer
-  rest-step (stop a buffer) = event-rest Stop a buffer
-  rest-step (tick a buffer) = event-rest Tick a buffer
+  rest-step (happen event a buffer) = event-rest event a buffer
   rest-step (receive a o home buffer) = message-rest a o home buffer
   rest-step (listing buffer) = record { eight = ok .eight; each = ok .each }
 
@@ -463,9 +454,7 @@ module _ (m : Model) (ok : Good m) where
   unfolding outcomeOf represent
   formed-step (add address asn) = well-formed-kept .add (stateOf m) address asn (state-ok m ok) .formed
   formed-step (remove address) = well-formed-kept .remove (stateOf m) address (state-ok m ok) .formed
-  formed-step (start a buffer) = well-formed-kept .events Start (stateOf m) (tableOf m) buffer a (state-ok m ok) .formed
-  formed-step (stop a buffer) = well-formed-kept .events Stop (stateOf m) (tableOf m) buffer a (state-ok m ok) .formed
-  formed-step (tick a buffer) = well-formed-kept .events Tick (stateOf m) (tableOf m) buffer a (state-ok m ok) .formed
+  formed-step (happen event a buffer) = well-formed-kept .events (asEvent event) (stateOf m) (tableOf m) buffer a (state-ok m ok) .formed
   formed-step (receive a o home buffer) = well-formed-kept .messages (stateOf m) (tableOf m) buffer home a o (state-ok m ok) .formed
   formed-step (listing buffer) = ap stateFormed (listing-keeps buffer) ∙ ok .formed
 

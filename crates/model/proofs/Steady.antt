@@ -6,15 +6,14 @@ use mathlib.Core.List.{List, [], _∷_}
 use lib.Dec.{ltb, leb, eqb}
 use lib.ListN.{length, getD}
 use lib.Seq.{set-getD}
-use borrow.Author.Tests.{eqb-true, eqb-false, ne-eqb}
+use borrow.Author.Tests.{eqb-true, eqb-false}
 use Rattle.checks.specs.Checks.{check, ifOk}
 use Rattle.checks.specs.Lists.{every}
 use Rattle.neighbour.specs.Record.{isUp}
-use Rattle.checks.proofs.Laws.{cond-elim, and-left, and-right, check-holds}
+use Rattle.checks.proofs.Laws.{cond-elim, and-left, and-right, check-holds, ifOk-new, ifOk-old}
 use Rattle.octets.specs.Numbers.{word16}
 use Rattle.octets.specs.Checksum.{checksumOf}
 use Rattle.nets.specs.Rows.{Row, rowsOf}
-use Rattle.wire.specs.Reading as Wire
 use Rattle.wire.specs.Reading.{headerAnswer, asnAt, decodeOf}
 use Rattle.wire.specs.declared.Decoded.{Decoded}
 use Rattle.wire.specs.declared.Decoded.the-variants as D
@@ -22,15 +21,14 @@ use Rattle.walk.specs.Body.{UpdateRead, accepted, brokenAt, tooMany, updateOf}
 use Rattle.neighbour.specs.declared.Settings.{Settings}
 use Rattle.neighbour.specs.declared.Neighbour.{Neighbour}
 use Rattle.neighbour.specs.Rules.{inSequence}
-use Rattle.machine.specs.declared.Event.{Event}
-use Rattle.machine.specs.declared.Event.the-variants.{Start, Stop, Tick}
+use Rattle.machine.specs.Intrinsics.{Intrinsic}
 use Rattle.state.specs.Formed.{stateFormed}
 use Rattle.state.specs.Outcomes.{refusedOf}
 use Rattle.slots.specs.Calls.{freshOf}
 use Rattle.calls.specs.Home.{goodHome}
 use Rattle.calls.specs.Calls.{tableFits}
 use Rattle.lines.specs.Listing.{entries, listable, listingChecks, listingOutcome}
-use Rattle.model.specs.Model.{Call, add, remove, start, stop, tick, receive, listing, Slot, free, used, Model, slotIn, put, placeOf, isPresent, vacancy, Said, silent, spoken, whenOk, addable, addAnswer, isIdleSlot, removeAnswer, addTurn, removeTurn, Move, noMove, moved, eventMove, bodyAnswer, isUpdate, kindAnswer, answerTo, messageMove, eventAnswer, messageAnswer, turnAt, eventTurn, messageTurn, listingAnswer, listingSaid, listingTurn, step, model, modelFrom, empty}
+use Rattle.model.specs.Model.{Call, add, remove, happen, receive, listing, Slot, free, used, Model, slotIn, put, placeOf, isPresent, vacancy, Said, silent, spoken, addable, addAnswer, isIdleSlot, removeAnswer, addTurn, removeTurn, Move, noMove, moved, eventMove, bodyAnswer, isUpdate, kindAnswer, answerTo, messageMove, eventAnswer, messageAnswer, turnAt, eventTurn, messageTurn, listingAnswer, listingSaid, listingTurn, step, model, modelFrom, empty}
 use Rattle.model.specs.Theorem.{Gateway, outcomeOf, gatewayStep, run, stateOf, tableOf, carriesOctets, listsNothing, Steady, NeverOneOrTwo}
 use Rattle.model.proofs.Represent.{Good}
 use Rattle.model.proofs.Listed.{Marked, marked-step}
@@ -54,8 +52,8 @@ unfolding check
 check-high true k rest h r = r
 check-high false k rest h r = h
 
-when-high : (k : ℕ) (s : Said) → High k → High (s .answer) → High ((whenOk k s (silent k)) .answer)
-unfolding whenOk silent
+when-high : (k : ℕ) (s : Said) → High k → High (s .answer) → High ((ifOk k s (silent k)) .answer)
+unfolding ifOk silent
 when-high k s h r = cond-elim (λ (x : Said). High (x .answer)) (eqb k 0) s _ (λ _. r) (λ _. h)
 
 header-high : (o : List ℕ) → High (headerAnswer o)
@@ -79,28 +77,28 @@ kind-high g n o D.BadStatus = refl
 kind-high g n o D.BadLength = refl
 
 answer-high : (g : Settings) (asn : ℕ) (n : Neighbour) (o : List ℕ) → High (answerTo g asn n o)
-unfolding answerTo whenOk
+unfolding answerTo ifOk
 answer-high g asn n o =
     cond-elim High (eqb (headerAnswer o) 0) _ (headerAnswer o)
     (λ _. check-high (eqb (asnAt o) asn) 9 _ refl (kind-high g n o (decodeOf o))) (λ _. header-high o)
 
-event-answers : (g : Settings) (event : Event) (slot : Slot) → (eventMove g event slot) .answer ≡ 0
+event-answers : (g : Settings) (event : Intrinsic) (slot : Slot) → (eventMove g event slot) .answer ≡ 0
 unfolding eventMove noMove moved
 event-answers g event free = refl
-event-answers g event (used address asn n rows) = refl
+event-answers g event (used peer) = refl
 
 message-high : (g : Settings) (o : List ℕ) (slot : Slot) → High ((messageMove g o slot) .answer)
-unfolding messageMove noMove moved whenOk
+unfolding messageMove noMove moved ifOk
 message-high g o free = refl
-message-high g o (used address asn n rows) =
-    cond-elim (λ (x : Move). High (x .answer)) (eqb (answerTo g asn n o) 0) _ _ (λ _. refl) (λ _. answer-high g asn n o)
+message-high g o (used peer) =
+    cond-elim (λ (x : Move). High (x .answer)) (eqb (answerTo g (peer .asn) (peer .neighbour) o) 0) _ _ (λ _. refl) (λ _. answer-high g (peer .asn) (peer .neighbour) o)
 
 module _ (m : Model) where
   turn-high : (k place : ℕ) (move : Move) (home : List Row) → High k → High (move .answer) → High ((turnAt m k place move home) .said .answer)
   unfolding turnAt
   turn-high k place move home h r = when-high k (spoken (move .answer) (move .reply) home) h (rw spoken-answer r)
 
-  event-high : (event : Event) (a : ℕ) (buffer : List ℕ) → High ((eventTurn event m a buffer) .said .answer)
+  event-high : (event : Intrinsic) (a : ℕ) (buffer : List ℕ) → High ((eventTurn event m a buffer) .said .answer)
   unfolding eventTurn eventAnswer
   event-high event a buffer =
       turn-high _ (placeOf m a) _ [] (check-high (leb 2048 (length buffer)) 3 _ refl (check-high (isPresent m a) 5 0 refl refl))
@@ -111,9 +109,7 @@ module _ (m : Model) where
   unfolding step addTurn removeTurn addAnswer removeAnswer messageTurn messageAnswer listingTurn listingAnswer listingSaid silent
   said-high (add address asn) = check-high (addable m address asn) 16 _ refl (check-high (ltb (vacancy m) 8) 17 0 refl refl)
   said-high (remove address) = check-high (isPresent m address) 5 _ refl (check-high (isIdleSlot (slotIn m (placeOf m address))) 18 0 refl refl)
-  said-high (start a buffer) = event-high Start a buffer
-  said-high (stop a buffer) = event-high Stop a buffer
-  said-high (tick a buffer) = event-high Tick a buffer
+  said-high (happen event a buffer) = event-high event a buffer
   said-high (receive a o home buffer) =
       turn-high _ (placeOf m a) _ (rowsOf home)
       (check-high (leb 2048 (length buffer)) 3 _ refl (check-high (goodHome (m .settings) home) 4 _ refl (check-high (isPresent m a) 5 0 refl refl)))
@@ -123,14 +119,6 @@ module _ (m : Model) where
 
 -- ---- refused
 
-when-not : {A : Type 0} (k : ℕ) (new old : A) → (k ≡ 0 → ⊥) → whenOk k new old ≡ old
-unfolding whenOk
-when-not k new old h = rw (ne-eqb k 0 h)
-
-when-zero : {A : Type 0} (k : ℕ) (new old : A) → k ≡ 0 → whenOk k new old ≡ new
-unfolding whenOk
-when-zero k new old h = rw h
-
 put-same : (m : Model) (i : ℕ) → put m i (slotIn m i) ≡ m
 unfolding put slotIn
 put-same m i = let e = set-getD (m .slots) i free in λ k. record { settings = m .settings; slots = e k }
@@ -138,11 +126,11 @@ put-same m i = let e = set-getD (m .slots) i free in λ k. record { settings = m
 message-keeps : (g : Settings) (o : List ℕ) (slot : Slot) → ((messageMove g o slot) .answer ≡ 0 → ⊥) → (messageMove g o slot) .slot ≡ slot
 unfolding messageMove noMove moved
 message-keeps g o free h = refl
-message-keeps g o (used address asn n rows) h = go (eqb (answerTo g asn n o) 0) refl
+message-keeps g o (used peer) h = go (eqb (answerTo g (peer .asn) (peer .neighbour) o) 0) refl
   where
-    go : (b : Bool) → eqb (answerTo g asn n o) 0 ≡ b → (messageMove g o (used address asn n rows)) .slot ≡ used address asn n rows
-    go true e = absurd (h (ap (λ (x : Move). x .answer) (when-zero (answerTo g asn n o) _ _ (eqb-true (answerTo g asn n o) 0 e))))
-    go false e = ap (λ (x : Move). x .slot) (message-stays g o address asn n rows e)
+    go : (b : Bool) → eqb (answerTo g (peer .asn) (peer .neighbour) o) 0 ≡ b → (messageMove g o (used peer)) .slot ≡ used peer
+    go true e = absurd (h (ap (λ (x : Move). x .answer) (ifOk-new (answerTo g (peer .asn) (peer .neighbour) o) _ _ (eqb-true (answerTo g (peer .asn) (peer .neighbour) o) 0 e))))
+    go false e = ap (λ (x : Move). x .slot) (message-stays g o peer e)
 
 module _ (m : Model) where
   turn-keeps : (k place : ℕ) (move : Move) (home : List Row) → ((move .answer ≡ 0 → ⊥) → move .slot ≡ slotIn m place)
@@ -150,14 +138,14 @@ module _ (m : Model) where
   unfolding turnAt
   turn-keeps k place move home s h = go (eqb k 0) refl
     where
-      go : (b : Bool) → eqb k 0 ≡ b → whenOk k (put m place (move .slot)) m ≡ m
+      go : (b : Bool) → eqb k 0 ≡ b → ifOk k (put m place (move .slot)) m ≡ m
       go true e =
           let z = eqb-true k 0 e in
-          let n : move .answer ≡ 0 → ⊥ = λ q. h (ap (λ (x : Said). x .answer) (when-zero k _ _ z) ∙ spoken-answer (move .answer) (move .reply) home ∙ q) in
-          when-zero k _ _ z ∙ ap (put m place) (s n) ∙ put-same m place
-      go false e = when-not k _ _ (eqb-false k 0 e)
+          let n : move .answer ≡ 0 → ⊥ = λ q. h (ap (λ (x : Said). x .answer) (ifOk-new k _ _ z) ∙ spoken-answer (move .answer) (move .reply) home ∙ q) in
+          ifOk-new k _ _ z ∙ ap (put m place) (s n) ∙ put-same m place
+      go false e = ifOk-old k _ _ (eqb-false k 0 e)
 
-  event-keeps : (event : Event) (a : ℕ) (buffer : List ℕ) → ((eventTurn event m a buffer) .said .answer ≡ 0 → ⊥) → (eventTurn event m a buffer) .model ≡ m
+  event-keeps : (event : Intrinsic) (a : ℕ) (buffer : List ℕ) → ((eventTurn event m a buffer) .said .answer ≡ 0 → ⊥) → (eventTurn event m a buffer) .model ≡ m
   unfolding eventTurn
   event-keeps event a buffer h =
       turn-keeps _ (placeOf m a) (eventMove (m .settings) event (slotIn m (placeOf m a))) [] (λ n. absurd (n (event-answers (m .settings) event (slotIn m (placeOf m a))))) h
@@ -165,11 +153,9 @@ module _ (m : Model) where
   -- 01: "refused calls and listings change nothing"
   pub refused-keeps : (call : Call) → ((step call m) .said .answer ≡ 0 → ⊥) → (step call m) .model ≡ m
   unfolding step addTurn removeTurn messageTurn listingTurn silent
-  refused-keeps (add address asn) h = when-not (addAnswer m address asn) _ _ h
-  refused-keeps (remove address) h = when-not (removeAnswer m address) _ _ h
-  refused-keeps (start a buffer) h = event-keeps Start a buffer h
-  refused-keeps (stop a buffer) h = event-keeps Stop a buffer h
-  refused-keeps (tick a buffer) h = event-keeps Tick a buffer h
+  refused-keeps (add address asn) h = ifOk-old (addAnswer m address asn) _ _ h
+  refused-keeps (remove address) h = ifOk-old (removeAnswer m address) _ _ h
+  refused-keeps (happen event a buffer) h = event-keeps event a buffer h
   refused-keeps (receive a o home buffer) h =
       turn-keeps _ (placeOf m a) (messageMove (m .settings) o (slotIn m (placeOf m a))) (rowsOf home)
       (message-keeps (m .settings) o (slotIn m (placeOf m a))) h
@@ -215,9 +201,7 @@ module _ (m : Model) (ok : Good m) where
   unfolding listsNothing
   one-of (add address asn) e = not-one _ (plain-high (add address asn) refl) e
   one-of (remove address) e = not-one _ (plain-high (remove address) refl) e
-  one-of (start a buffer) e = not-one _ (plain-high (start a buffer) refl) e
-  one-of (stop a buffer) e = not-one _ (plain-high (stop a buffer) refl) e
-  one-of (tick a buffer) e = not-one _ (plain-high (tick a buffer) refl) e
+  one-of (happen event a buffer) e = not-one _ (plain-high (happen event a buffer) refl) e
   one-of (receive a o home buffer) e = not-one _ (plain-high (receive a o home buffer) refl) e
   one-of (listing buffer) e = listing-one buffer (sym (listing-says buffer) ∙ e)
 
@@ -232,9 +216,7 @@ module _ (m : Model) (ok : Good m) where
   unfolding listsNothing
   refused-stays (add address asn) h = stays-by (add address asn) refl h
   refused-stays (remove address) h = stays-by (remove address) refl h
-  refused-stays (start a buffer) h = stays-by (start a buffer) refl h
-  refused-stays (stop a buffer) h = stays-by (stop a buffer) refl h
-  refused-stays (tick a buffer) h = stays-by (tick a buffer) refl h
+  refused-stays (happen event a buffer) h = stays-by (happen event a buffer) refl h
   refused-stays (receive a o home buffer) h = stays-by (receive a o home buffer) refl h
   refused-stays (listing buffer) h = listing-stays buffer
 

@@ -129,7 +129,7 @@ module _ (g : Settings) (z : (freshOf (g .asn) (g .own) (g .capability) (g .net)
 pub cell-count : (slot : Slot) → (cell slot) .rows ≡ length (rowsHeld slot)
 unfolding cell rowsHeld freeSlot
 cell-count free = refl
-cell-count (used address asn n rows) = refl
+cell-count (used peer) = refl
 
 module _ (m : Model) (ok : Good m) (j : ℕ) (j8 : j < 8) where
   pub rows-read : rowsAt (represent m) j ≡ rowsHeld (slotIn m j)

@@ -5,11 +5,11 @@ use mathlib.Core.Path.{_≡_, refl, sym, _∙_, ap, subst}
 use mathlib.Core.Bool.{Bool, true, false, cond, not, _&&_, _||_, or-false, false≢true, true≢false}
 use mathlib.Core.List.{List, [], _∷_, _++_}
 use mathlib.Core.Option.{none, some}
-use lib.Dec.{ltb, eqb}
-use lib.ListN.{length, take}
+use lib.Dec.{eqb}
+use lib.ListN.{length}
 use lib.Seq.{getD-set-same, getD-set-other}
 use borrow.Author.Tests.{eq-eqb, eqb-true, eqb-false, not-true, le-ltb}
-use Rattle.checks.specs.Checks.{check}
+use Rattle.checks.specs.Checks.{check, ifOk}
 use Rattle.checks.proofs.Laws.{and-left, and-right}
 use Rattle.nets.specs.Rows.{Row, rowsOf}
 use Rattle.wire.specs.Reading.{headerAnswer, asnAt, decodeOf}
@@ -23,11 +23,12 @@ use Rattle.neighbour.specs.Record.{idle, isIdle, isUp}
 use Rattle.wellformed.specs.Formed.{wellFormed}
 use Rattle.sent.specs.declared.Head.{Head}
 use Rattle.machine.specs.declared.Event.{Event}
-use Rattle.machine.specs.declared.Event.the-variants.{Received, Start, Stop, Tick}
+use Rattle.machine.specs.declared.Event.the-variants.{Received}
+use Rattle.machine.specs.Intrinsics.{Intrinsic, asEvent}
 use Rattle.machine.specs.Step.{stepOf}
 use Rattle.state.specs.Slots.{freeSlot}
 use Rattle.model.specs.Model as Calls
-use Rattle.model.specs.Model.{Call, add, remove, start, stop, tick, receive, listing, Slot, free, used, Model, slotIn, put, isFree, hasAddress, placeOf, isPresent, vacancy, spoken, whenOk, Turn, isIdleSlot, addAnswer, removeAnswer, addTurn, removeTurn, Move, noMove, moved, noOctets, eventMove, kindAnswer, answerTo, firstTwelve, afterMessage, rowsAfter, messageMove, eventAnswer, messageAnswer, turnAt, eventTurn, messageTurn, listingTurn, step, modelFrom}
+use Rattle.model.specs.Model.{Call, add, remove, happen, receive, listing, Slot, free, used, Model, slotIn, put, isFree, hasAddress, placeOf, isPresent, vacancy, spoken, Turn, isIdleSlot, addAnswer, removeAnswer, addTurn, removeTurn, Move, noMove, moved, noOctets, eventMove, kindAnswer, answerTo, firstTwelve, afterMessage, rowsAfter, messageMove, eventAnswer, messageAnswer, turnAt, eventTurn, messageTurn, listingTurn, step, modelFrom, Peer, newPeer, peerWith}
 use Rattle.model.specs.History.{isUpSlot, accepts, rowsSaid}
 use Rattle.model.specs.Theorem.{cell, rowsHeld}
 use Rattle.model.specs.Windows.{isIndication, isEvaluation, isRestart, recordIn, saidEvent, doneFor, eventFor, holdsOf, brings, restartsNone, windows, anyOf, firstFour, oneInFour, latest}
@@ -40,17 +41,17 @@ use Rattle.model.proofs.Reach.{fine-in, Waits, idle-waits, step-waits, 
 
 -- the answer of a turn: its own checks, then its move's
 turn-zero : (m : Model) (k place : ℕ) (move : Move) (home : List Row) → eqb ((turnAt m k place move home) .said .answer) 0 ≡ (eqb k 0 && eqb (move .answer) 0)
-unfolding turnAt whenOk Calls.silent
+unfolding turnAt ifOk Calls.silent
 turn-zero m k place move home = go (eqb k 0) refl
   where
     go : (b : Bool) → eqb k 0 ≡ b → eqb ((cond b (spoken (move .answer) (move .reply) home) (Calls.silent k)) .answer) 0 ≡ (b && eqb (move .answer) 0)
     go true e = ap (λ (x : ℕ). eqb x 0) (spoken-answer (move .answer) (move .reply) home)
     go false e = e
 
-event-zero : (g : Settings) (event : Event) (slot : Slot) → (eventMove g event slot) .answer ≡ 0
+event-zero : (g : Settings) (event : Intrinsic) (slot : Slot) → (eventMove g event slot) .answer ≡ 0
 unfolding eventMove noMove moved
 event-zero g event free = refl
-event-zero g event (used address asn n rows) = refl
+event-zero g event (used peer) = refl
 
 removed-idle : (m : Model) (a : ℕ) → removeAnswer m a ≡ 0 → isIdleSlot (slotIn m (placeOf m a)) ≡ true
 unfolding removeAnswer check
@@ -63,7 +64,7 @@ removed-idle m a e = go (isPresent m a) (isIdleSlot (slotIn m (placeOf m a))) e
 
 -- an answer of 0 is one to a message of a known kind
 kind-zero : (g : Settings) (asn : ℕ) (n : Neighbour) (o : List ℕ) → eqb (answerTo g asn n o) 0 ≡ true → kindAnswer g n o (decodeOf o) ≡ 0
-unfolding answerTo whenOk check
+unfolding answerTo ifOk check
 kind-zero g asn n o e = go (eqb (headerAnswer o) 0) refl (eqb (asnAt o) asn) (kindAnswer g n o (decodeOf o)) (eqb-true _ 0 e)
   where
     go : (b : Bool) → eqb (headerAnswer o) 0 ≡ b → (c : Bool) (k : ℕ) → cond b (cond c k 9) (headerAnswer o) ≡ 0 → k ≡ 0
@@ -79,8 +80,8 @@ thirds-false false b c e = refl
 module _ (m : Model) (ok : Good m) (j : ℕ) (j8 : j < 8) where
   -- a slot put at i where the answer is 0
   put-elim : (P : Slot → Type 0) (k i : ℕ) (new : Slot) → (k ≡ 0 → i ≡ j → P new) → ((eqb k 0 && eqb i j) ≡ false → P (slotIn m j))
-      → P (slotIn (whenOk k (put m i new) m) j)
-  unfolding whenOk slotIn put
+      → P (slotIn (ifOk k (put m i new) m) j)
+  unfolding ifOk slotIn put
   put-elim P k i new p q = go (eqb k 0) refl (eqb i j) refl
     where
       go : (a : Bool) → eqb k 0 ≡ a → (b : Bool) → eqb i j ≡ b → P (slotIn (cond (eqb k 0) (put m i new) m) j)
@@ -89,16 +90,16 @@ module _ (m : Model) (ok : Good m) (j : ℕ) (j8 : j < 8) where
       go true e false f = rw (e, getD-set-other (m .slots) i j new free (λ x. eqb-false i j f (sym x))) (q (rw (e, f)))
 
   module _ (P : Slot → Type 0) (call : Call) (stays : eventFor m j call ≡ none → P (slotIn m j))
-      (goes : (address asn : ℕ) (n : Neighbour) (rows : List Row) → slotIn m j ≡ used address asn n rows → (event : Event) → eventFor m j call ≡ some event
-      → (head : Head) (new : List Row) → P (used address asn ((stepOf (m .settings) asn n event head) .neighbour) new)) where
+      (goes : (peer : Peer) → slotIn m j ≡ used peer → (event : Event) → eventFor m j call ≡ some event
+      → (head : Head) (new : List Row) → P (used (peerWith peer ((stepOf (m .settings) (peer .asn) (peer .neighbour) event head) .neighbour) new))) where
     -- the neighbour that a call is about, where it is in slot j
-    found : (a : ℕ) (Q : Type 0) → placeOf m a ≡ j → ((address asn : ℕ) (n : Neighbour) (rows : List Row) → slotIn m j ≡ used address asn n rows → Q) → Q
+    found : (a : ℕ) (Q : Type 0) → placeOf m a ≡ j → ((peer : Peer) → slotIn m j ≡ used peer → Q) → Q
     found a Q e h =
-        used-at (λ s. slotIn m j ≡ s → Q) a (λ address asn n rows here. h address asn n rows here) (slotIn m j)
+        used-at (λ s. slotIn m j ≡ s → Q) a (λ peer here. h peer here) (slotIn m j)
         (ap (λ (i : ℕ). hasAddress a (slotIn m i)) (sym e) ∙ found-used m ok a (omega (arith, e, j8))) refl
 
     -- Start, Stop and tick
-    module _ (event : Event) (a : ℕ) (buffer : List ℕ) (s : step call m ≡ eventTurn event m a buffer) (c : eventFor m j call ≡ doneFor m j a call (some event)) where
+    module _ (event : Intrinsic) (a : ℕ) (buffer : List ℕ) (s : step call m ≡ eventTurn event m a buffer) (c : eventFor m j call ≡ doneFor m j a call (some (asEvent event))) where
       event-answer : eqb ((step call m) .said .answer) 0 ≡ (eqb (eventAnswer m a buffer) 0 && true)
       unfolding eventTurn
       event-answer =
@@ -106,7 +107,7 @@ module _ (m : Model) (ok : Good m) (j : ℕ) (j8 : j < 8) where
           ∙ turn-zero m (eventAnswer m a buffer) (placeOf m a) (eventMove (m .settings) event (slotIn m (placeOf m a))) []
           ∙ ap (λ (x : ℕ). eqb (eventAnswer m a buffer) 0 && eqb x 0) (event-zero (m .settings) event (slotIn m (placeOf m a)))
 
-      event-done : eventAnswer m a buffer ≡ 0 → placeOf m a ≡ j → eventFor m j call ≡ some event
+      event-done : eventAnswer m a buffer ≡ 0 → placeOf m a ≡ j → eventFor m j call ≡ some (asEvent event)
       unfolding doneFor
       event-done z e = c ∙ rw (event-answer, z, e, eq-eqb j j refl)
 
@@ -116,7 +117,7 @@ module _ (m : Model) (ok : Good m) (j : ℕ) (j8 : j < 8) where
 
       event-moved : eventAnswer m a buffer ≡ 0 → placeOf m a ≡ j → P ((eventMove (m .settings) event (slotIn m (placeOf m a))) .slot)
       unfolding eventMove moved
-      event-moved z e = found a _ e (λ address asn n rows here. rw (e, here) (goes address asn n rows here event (event-done z e) noOctets _))
+      event-moved z e = found a _ e (λ peer here. rw (e, here) (goes peer here (asEvent event) (event-done z e) noOctets _))
 
       event-elim : P (slotIn ((step call m) .model) j)
       unfolding eventTurn turnAt
@@ -140,37 +141,37 @@ module _ (m : Model) (ok : Good m) (j : ℕ) (j8 : j < 8) where
       message-left f =
           c ∙ rw (message-answer, thirds-false (eqb (messageAnswer m a home buffer) 0) (eqb (placeOf m a) j) (eqb ((messageMove (m .settings) o (slotIn m (placeOf m a))) .answer) 0) f)
 
-      module _ (z : messageAnswer m a home buffer ≡ 0) (e : placeOf m a ≡ j) (address asn : ℕ) (n : Neighbour) (rows : List Row) (here : slotIn m j ≡ used address asn n rows) where
-        refused-answer : eqb (answerTo (m .settings) asn n o) 0 ≡ false → eventFor m j call ≡ none
+      module _ (z : messageAnswer m a home buffer ≡ 0) (e : placeOf m a ≡ j) (peer : Peer) (here : slotIn m j ≡ used peer) where
+        refused-answer : eqb (answerTo (m .settings) (peer .asn) (peer .neighbour) o) 0 ≡ false → eventFor m j call ≡ none
         unfolding doneFor
-        refused-answer f = c ∙ rw (message-answer, z, e, here, message-stays (m .settings) o address asn n rows f, f)
+        refused-answer f = c ∙ rw (message-answer, z, e, here, message-stays (m .settings) o peer f, f)
 
-        done-move : eqb (answerTo (m .settings) asn n o) 0 ≡ true
-            → messageMove (m .settings) o (used address asn n rows) ≡ moved address asn (afterMessage (m .settings) asn n o (decodeOf o)) (rowsAfter (m .settings) n o (decodeOf o) rows)
-        unfolding messageMove whenOk
+        done-move : eqb (answerTo (m .settings) (peer .asn) (peer .neighbour) o) 0 ≡ true
+            → messageMove (m .settings) o (used peer) ≡ moved peer (afterMessage (m .settings) (peer .asn) (peer .neighbour) o (decodeOf o)) (rowsAfter (m .settings) (peer .neighbour) o (decodeOf o) (peer .rows))
+        unfolding messageMove ifOk
         done-move f = rw f
 
-        done-answer : eqb (answerTo (m .settings) asn n o) 0 ≡ true → eventFor m j call ≡ saidEvent (decodeOf o)
+        done-answer : eqb (answerTo (m .settings) (peer .asn) (peer .neighbour) o) 0 ≡ true → eventFor m j call ≡ saidEvent (decodeOf o)
         unfolding doneFor moved
         done-answer f = c ∙ rw (message-answer, z, e, here, done-move f, eq-eqb j j refl)
 
-        by-kind : (d : Decoded) → decodeOf o ≡ d → kindAnswer (m .settings) n o d ≡ 0 → eventFor m j call ≡ saidEvent d
-            → P ((moved address asn (afterMessage (m .settings) asn n o d) (rowsAfter (m .settings) n o d rows)) .slot)
+        by-kind : (d : Decoded) → decodeOf o ≡ d → kindAnswer (m .settings) (peer .neighbour) o d ≡ 0 → eventFor m j call ≡ saidEvent d
+            → P ((moved peer (afterMessage (m .settings) (peer .asn) (peer .neighbour) o d) (rowsAfter (m .settings) (peer .neighbour) o d (peer .rows))) .slot)
         unfolding moved afterMessage kindAnswer saidEvent
-        by-kind (D.Good x) d k q = goes address asn n rows here (Received x) q (firstTwelve o) _
+        by-kind (D.Good x) d k q = goes peer here (Received x) q (firstTwelve o) _
         by-kind D.UnknownKind d k q = absurd (omega (arith, k))
         by-kind D.BadStatus d k q = absurd (omega (arith, k))
         by-kind D.BadLength d k q = absurd (omega (arith, k))
 
-        heard-here : P ((messageMove (m .settings) o (used address asn n rows)) .slot)
-        heard-here = go (eqb (answerTo (m .settings) asn n o) 0) refl
+        heard-here : P ((messageMove (m .settings) o (used peer)) .slot)
+        heard-here = go (eqb (answerTo (m .settings) (peer .asn) (peer .neighbour) o) 0) refl
           where
-            go : (b : Bool) → eqb (answerTo (m .settings) asn n o) 0 ≡ b → P ((messageMove (m .settings) o (used address asn n rows)) .slot)
-            go true f = rw (done-move f) (by-kind (decodeOf o) refl (kind-zero (m .settings) asn n o f) (done-answer f))
-            go false f = rw (message-stays (m .settings) o address asn n rows f) (subst P here (stays (refused-answer f)))
+            go : (b : Bool) → eqb (answerTo (m .settings) (peer .asn) (peer .neighbour) o) 0 ≡ b → P ((messageMove (m .settings) o (used peer)) .slot)
+            go true f = rw (done-move f) (by-kind (decodeOf o) refl (kind-zero (m .settings) (peer .asn) (peer .neighbour) o f) (done-answer f))
+            go false f = rw (message-stays (m .settings) o peer f) (subst P here (stays (refused-answer f)))
 
       message-moved : messageAnswer m a home buffer ≡ 0 → placeOf m a ≡ j → P ((messageMove (m .settings) o (slotIn m (placeOf m a))) .slot)
-      message-moved z e = found a _ e (λ address asn n rows here. rw (e, here) (heard-here z e address asn n rows here))
+      message-moved z e = found a _ e (λ peer here. rw (e, here) (heard-here z e peer here))
 
       message-elim : P (slotIn ((step call m) .model) j)
       unfolding messageTurn turnAt
@@ -181,21 +182,19 @@ module _ (m : Model) (ok : Good m) (j : ℕ) (j8 : j < 8) where
 
   -- any call: the slot stays where nothing is carried out for it; it moves by the event; it is taken, or freed
   pub step-elim : (P : Slot → Type 0) (call : Call) → (eventFor m j call ≡ none → P (slotIn m j))
-      → ((address asn : ℕ) (n : Neighbour) (rows : List Row) → slotIn m j ≡ used address asn n rows → (event : Event) → eventFor m j call ≡ some event
-      → (head : Head) (new : List Row) → P (used address asn ((stepOf (m .settings) asn n event head) .neighbour) new))
-      → (isFree (slotIn m j) ≡ true → (address asn : ℕ) → P (used address asn idle []))
+      → ((peer : Peer) → slotIn m j ≡ used peer → (event : Event) → eventFor m j call ≡ some event
+      → (head : Head) (new : List Row) → P (used (peerWith peer ((stepOf (m .settings) (peer .asn) (peer .neighbour) event head) .neighbour) new)))
+      → (isFree (slotIn m j) ≡ true → (address asn : ℕ) → P (used (newPeer address asn)))
       → (isIdleSlot (slotIn m j) ≡ true → P free)
       → P (slotIn ((step call m) .model) j)
   unfolding step eventFor addTurn removeTurn listingTurn
   step-elim P (add address asn) stays goes taken freed =
-      put-elim P (addAnswer m address asn) (vacancy m) (used address asn idle [])
+      put-elim P (addAnswer m address asn) (vacancy m) (used (newPeer address asn))
       (λ z e. taken (ap (λ (i : ℕ). isFree (slotIn m i)) (sym e) ∙ found-free m ok (add-free m ok address asn z)) address asn) (λ _. stays refl)
   step-elim P (remove a) stays goes taken freed =
       put-elim P (removeAnswer m a) (placeOf m a) free
       (λ z e. freed (ap (λ (i : ℕ). isIdleSlot (slotIn m i)) (sym e) ∙ removed-idle m a z)) (λ _. stays refl)
-  step-elim P (start a buffer) stays goes taken freed = event-elim P (start a buffer) stays goes Start a buffer refl refl
-  step-elim P (stop a buffer) stays goes taken freed = event-elim P (stop a buffer) stays goes Stop a buffer refl refl
-  step-elim P (tick a buffer) stays goes taken freed = event-elim P (tick a buffer) stays goes Tick a buffer refl refl
+  step-elim P (happen event a buffer) stays goes taken freed = event-elim P (happen event a buffer) stays goes event a buffer refl refl
   step-elim P (receive a o home buffer) stays goes taken freed = message-elim P (receive a o home buffer) stays goes a o home buffer refl refl
   step-elim P (listing buffer) stays goes taken freed = stays refl
 
@@ -218,7 +217,7 @@ still-held slot silent heard h = rw (or-false heard) h
 held-used : (slot : Slot) (silent : ℕ) (heard : Bool) → HeldIn slot silent heard → isFree slot ≡ false
 unfolding HeldIn cell freeSlot idle isFree
 held-used free silent heard h = absurd (false≢true (ap isUp (h .up)))
-held-used (used address asn n rows) silent heard h = refl
+held-used (used peer) silent heard h = refl
 
 few-in : (slot : Slot) (silent : ℕ) (heard : Bool) → HeldIn slot silent heard → silent ≤ 3
 unfolding HeldIn
@@ -227,34 +226,34 @@ few-in slot silent heard h = h .few
 held-busy : (slot : Slot) (silent : ℕ) (heard : Bool) → HeldIn slot silent heard → isIdleSlot slot ≡ false
 unfolding HeldIn cell freeSlot idle isIdleSlot
 held-busy free silent heard h = absurd (false≢true (ap isUp (h .up)))
-held-busy (used address asn n rows) silent heard h = ap isIdle (h .up)
+held-busy (used peer) silent heard h = ap isIdle (h .up)
 
 held-up : (slot : Slot) (silent : ℕ) (heard : Bool) → HeldIn slot silent heard → isUpSlot slot ≡ true
 unfolding HeldIn cell freeSlot idle isUpSlot
 held-up free silent heard h = ap isUp (h .up)
-held-up (used address asn n rows) silent heard h = ap isUp (h .up)
+held-up (used peer) silent heard h = ap isUp (h .up)
 
 module _ (m : Model) (ok : Good m) (j : ℕ) (j8 : j < 8) where
-  formed-in : (address asn : ℕ) (n : Neighbour) (rows : List Row) → slotIn m j ≡ used address asn n rows → wellFormed n ≡ true
+  formed-in : (peer : Peer) → slotIn m j ≡ used peer → wellFormed (peer .neighbour) ≡ true
   unfolding cell
-  formed-in address asn n rows here = subst (λ (slot : Slot). wellFormed ((cell slot) .neighbour) ≡ true) here (good-at m ok j .neighbour)
+  formed-in peer here = subst (λ (slot : Slot). wellFormed ((cell slot) .neighbour) ≡ true) here (good-at m ok j .neighbour)
 
   -- what a call brings, by the event that it carries out
   brings-none : (test : Neighbour → Event → Bool) (call : Call) → eventFor m j call ≡ none → brings test m j call ≡ false
   unfolding brings holdsOf
   brings-none test call e = rw e
 
-  brings-some : (test : Neighbour → Event → Bool) (call : Call) (address asn : ℕ) (n : Neighbour) (rows : List Row) (event : Event)
-      → slotIn m j ≡ used address asn n rows → eventFor m j call ≡ some event → brings test m j call ≡ test n event
+  brings-some : (test : Neighbour → Event → Bool) (call : Call) (peer : Peer) (event : Event)
+      → slotIn m j ≡ used peer → eventFor m j call ≡ some event → brings test m j call ≡ test (peer .neighbour) event
   unfolding brings holdsOf recordIn cell
-  brings-some test call address asn n rows event here e = ap (holdsOf (test (recordIn m j))) e ∙ ap (λ (slot : Slot). test ((cell slot) .neighbour) event) here
+  brings-some test call peer event here e = ap (holdsOf (test (recordIn m j))) e ∙ ap (λ (slot : Slot). test ((cell slot) .neighbour) event) here
 
   -- a passive neighbour in Down stays one without ones
   waits-step : (call : Call) → WaitsIn (slotIn m j) → WaitsIn (slotIn ((step call m) .model) j)
   unfolding WaitsIn cell freeSlot
   waits-step call w =
       step-elim m ok j j8 WaitsIn call (λ _. w)
-      (λ address asn n rows here event e head new. step-waits (m .settings) asn n event head (formed-in address asn n rows here) (subst WaitsIn here w))
+      (λ peer here event e head new. step-waits (m .settings) (peer .asn) (peer .neighbour) event head (formed-in peer here) (subst WaitsIn here w))
       (λ _ address asn. idle-waits) (λ _. idle-waits)
 
   -- entering Up
@@ -264,8 +263,8 @@ module _ (m : Model) (ok : Good m) (j : ℕ) (j8 : j < 8) where
   enters-step call w d =
       step-elim m ok j j8 (λ slot. isUpSlot slot ≡ true → PassiveIn slot → HeldIn slot 0 false) call
       (λ _ u. absurd (false≢true (sym d ∙ u)))
-      (λ address asn n rows here event e head new.
-      step-enters (m .settings) asn n event head (formed-in address asn n rows here) (subst WaitsIn here w) (sym (ap isUpSlot here) ∙ d))
+      (λ peer here event e head new.
+      step-enters (m .settings) (peer .asn) (peer .neighbour) event head (formed-in peer here) (subst WaitsIn here w) (sym (ap isUpSlot here) ∙ d))
       (λ _ address asn u. absurd (false≢true u)) (λ _ u. absurd (false≢true u))
 
   -- staying Up
@@ -277,12 +276,12 @@ module _ (m : Model) (ok : Good m) (j : ℕ) (j8 : j < 8) where
       step-elim m ok j j8
       (λ slot. HeldIn slot (silentAfter (brings isEvaluation m j call) heard silent) (heardAfter (brings isEvaluation m j call) heard (brings isIndication m j call))) call
       (λ e. rw (brings-none isEvaluation call e, brings-none isIndication call e) (still-held (slotIn m j) silent heard h))
-      (λ address asn n rows here event e head new.
-      let k : Held n silent heard = subst (λ (slot : Slot). HeldIn slot silent heard) here h in
-      let ends = brings-some isEvaluation call address asn n rows event here e in
-      rw (ends, brings-some isIndication call address asn n rows event here e)
-      (event-held (m .settings) asn n head silent (fine-in n Phases.Up refl (k .up) (formed-in address asn n rows here)) event heard k
-      (sym (brings-some isRestart call address asn n rows event here e) ∙ r) (λ q. few (ends ∙ q))))
+      (λ peer here event e head new.
+      let k : Held (peer .neighbour) silent heard = subst (λ (slot : Slot). HeldIn slot silent heard) here h in
+      let ends = brings-some isEvaluation call peer event here e in
+      rw (ends, brings-some isIndication call peer event here e)
+      (event-held (m .settings) (peer .asn) (peer .neighbour) head silent (fine-in (peer .neighbour) Phases.Up refl (k .up) (formed-in peer here)) event heard k
+      (sym (brings-some isRestart call peer event here e) ∙ r) (λ q. few (ends ∙ q))))
       (λ f. absurd (true≢false (sym f ∙ held-used (slotIn m j) silent heard h)))
       (λ f. absurd (true≢false (sym f ∙ held-busy (slotIn m j) silent heard h)))
 

@@ -1,5 +1,5 @@
 -- An example, so that no corollary's premise is one that nothing meets: neighbours that come Up, report 128 nets each,
--- fall silent, poll 65,535 times, and are heard of by their Updates alone.
+-- fall silent, poll 65,535 times, and are heard of by their Updates alone; and one that no run comes to, its t3 run out.
 use Prim.Native.Nat.{ℕ, zero, suc, _+_, _*_, _%_, _<_}
 use mathlib.Core.Path.{_≡_}
 use mathlib.Core.Bool.{true, false}
@@ -9,12 +9,16 @@ use lib.ListN.{length}
 use Rattle.nets.specs.Rows.{Row}
 use Rattle.rows.specs.Storing.{zeros}
 use Rattle.message.specs.declared.Message.the-variants.{Request, Cease, Hello, Update}
+use Rattle.wire.specs.Reading.{decodeOf}
+use Rattle.wire.specs.declared.Decoded.the-variants as D
 use Rattle.writing.specs.Octets.{octetsOf}
+use Rattle.neighbour.specs.declared.Mode.the-variants.{Passive}
 use Rattle.neighbour.specs.declared.Settings.{Settings}
+use Rattle.neighbour.specs.Record.{withTimers}
 use Rattle.neighbour.specs.Rules.{onesOf, goesDown}
-use Rattle.model.specs.Model.{Call, add, tick, receive, model}
-use Rattle.model.specs.History.{lastAccepted}
-use Rattle.model.specs.Theorem.{gatewayStep, run}
+use Rattle.model.specs.Model.{Call, add, tick, receive, peerWith, Slot, free, used, Model, slotIn, put, model}
+use Rattle.model.specs.History.{accepts, lastAccepted}
+use Rattle.model.specs.Theorem.{Gateway, gatewayStep, run, stateOf, tableOf, Sensible}
 use Rattle.model.specs.Windows.{restartsNone, windows, oneInFour, latest}
 use Rattle.model.specs.Corollaries.{Taken, slotOn, isUpOn, BothReport, Says, SaysRows, EnteredUp}
 
@@ -74,6 +78,18 @@ slow first second =
     receive 1 (octetsOf (Update 7 1 first 2148073472) (classA 10 1)) [] lent
     ∷ (ticks 1 128 ++ (receive 1 (octetsOf (Update 7 2 second 2148073472) (classA 11 1)) [] lent ∷ ticks 1 32))
 
+-- t3 of a slot's neighbour at its last second
+unfoldable pub late : Slot → Slot
+late free = free
+late (used p) = used (peerWith p (withTimers (p .neighbour) (p .neighbour .t1) (p .neighbour .t2) 1) (p .rows))
+
+-- the first neighbour so, in Up: a run loses reachability long before, but a host may hand such a state over
+unfoldable pub lateFirst : Model → Model
+lateFirst m = put m 0 (late (slotIn m 0))
+
+unfoldable pub overdue : Gateway
+overdue = record { state = stateOf (lateFirst (model someSettings eight)); table = tableOf (lateFirst (model someSettings eight)) }
+
 -- ---- the premises
 
 -- eight neighbours of 128 rows; two that report 10.0.0.0; a Cease and a Request of the first, and its silence
@@ -89,6 +105,20 @@ pub record EightMet : Type 0 where
   pub lost :
       goesDown ((slotOn (run someSettings (eight ++ ticks 1 609)) 0) .neighbour .mode)
       (onesOf (((slotOn (run someSettings (eight ++ ticks 1 609)) 0) .neighbour .register * 2 + (slotOn (run someSettings (eight ++ ticks 1 609)) 0) .neighbour .heard) % 16)) ≡ true
+
+-- the one premise that no run meets: two neighbours report 10.0.0.0, and the first's t3 runs out at the next tick
+pub record TimeOutMet : Type 0 where
+  pub sensible : Sensible overdue
+  pub both : BothReport overdue 0 1 167772160
+  pub due : (slotOn overdue 0) .neighbour .t3 ≡ 1
+
+-- an Update of 128 rows to one of eight that are Up
+pub record FullMet : Type 0 where
+  pub up : isUpOn (run someSettings eight) 0 ≡ true
+  pub full : length (classA 0 128) ≡ 128
+  pub update :
+      SaysRows (run someSettings eight) 0 ((slotOn (run someSettings eight) 0) .neighbour .s)
+      (octetsOf (Update 7 1 1 2148073472) (classA 0 128)) [] lent (classA 0 128)
 
 -- a run from fresh in which S is 65,535 and the next tick polls; and an Update with number 0
 pub record LastNumberMet : Type 0 where
@@ -107,3 +137,11 @@ pub record QuietMet : Type 0 where
   pub often : oneInFour (windows (model someSettings (almostUp ++ (tick 1 lent ∷ []))) 0 false (slow 1 129)) ≡ true
   pub last : latest (model someSettings (almostUp ++ (tick 1 lent ∷ []))) 0 [] (slow 1 129) ≡ classA 11 1
   pub lost : isUpOn (run someSettings ((almostUp ++ (tick 1 lent ∷ [])) ++ slow 2 2)) 0 ≡ false
+
+-- an Update of status 129 that a passive neighbour's slot accepts
+pub record IndicationMet : Type 0 where
+  pub taken :
+      accepts (model someSettings (almostUp ++ (tick 1 lent ∷ []))) 0
+      (receive 1 (octetsOf (Update 7 1 129 2148073472) (classA 10 1)) [] lent) ≡ true
+  pub says : decodeOf (octetsOf (Update 7 1 129 2148073472) (classA 10 1)) ≡ D.Good (Update 7 1 129 2148073472)
+  pub passive : (slotOn (run someSettings (almostUp ++ (tick 1 lent ∷ []))) 0) .neighbour .mode ≡ Passive

@@ -10,11 +10,11 @@ use Rattle.wire.specs.declared.Decoded.{Decoded}
 use Rattle.wire.specs.declared.Decoded.the-variants as D
 use Rattle.walk.specs.Body.{updateOf, rowsRead}
 use Rattle.neighbour.specs.declared.Settings.{Settings}
-use Rattle.model.specs.Model.{Call, add, remove, start, stop, tick, receive, listing, Slot, free, used, Model, slotIn, placeOf, isUpdate, step, model}
+use Rattle.model.specs.Model.{Call, add, remove, happen, receive, listing, Slot, free, used, Model, slotIn, placeOf, isUpdate, step, model}
 
 unfoldable pub isUpSlot : Slot → Bool
 isUpSlot free = false
-isUpSlot (used address asn n rows) = isUp (n .phase)
+isUpSlot (used p) = isUp (p .neighbour .phase)
 
 unfoldable pub saysUpdate : Decoded → Bool
 saysUpdate (D.Good m) = isUpdate m
@@ -26,9 +26,7 @@ saysUpdate D.BadLength = false
 unfoldable pub accepts : Model → ℕ → Call → Bool
 accepts m j (add address asn) = false
 accepts m j (remove address) = false
-accepts m j (start a buffer) = false
-accepts m j (stop a buffer) = false
-accepts m j (tick a buffer) = false
+accepts m j (happen event a buffer) = false
 accepts m j (receive a o home buffer) =
     eqb ((step (receive a o home buffer) m) .said .answer) 0 && (eqb (placeOf m a) j && (isUpSlot (slotIn m j) && saysUpdate (decodeOf o)))
 accepts m j (listing buffer) = false
@@ -37,9 +35,7 @@ accepts m j (listing buffer) = false
 unfoldable pub rowsSaid : Settings → Call → List Row
 rowsSaid g (add address asn) = []
 rowsSaid g (remove address) = []
-rowsSaid g (start a buffer) = []
-rowsSaid g (stop a buffer) = []
-rowsSaid g (tick a buffer) = []
+rowsSaid g (happen event a buffer) = []
 rowsSaid g (receive a o home buffer) = rowsRead (updateOf 128 (g .net) o)
 rowsSaid g (listing buffer) = []
 
@@ -69,9 +65,7 @@ lastAccepted g j calls = lastFrom g j [] [] calls
 unfoldable pub isAbout : ℕ → Call → Bool
 isAbout address (add a asn) = eqb a address
 isAbout address (remove a) = eqb a address
-isAbout address (start a buffer) = eqb a address
-isAbout address (stop a buffer) = eqb a address
-isAbout address (tick a buffer) = eqb a address
+isAbout address (happen event a buffer) = eqb a address
 isAbout address (receive a o home buffer) = eqb a address
 isAbout address (listing buffer) = false
 
@@ -83,8 +77,6 @@ isElsewhere address call = not (isAbout address call)
 unfoldable pub takesNoSlot : Call → Bool
 takesNoSlot (add address asn) = false
 takesNoSlot (remove address) = true
-takesNoSlot (start a buffer) = true
-takesNoSlot (stop a buffer) = true
-takesNoSlot (tick a buffer) = true
+takesNoSlot (happen event a buffer) = true
 takesNoSlot (receive a o home buffer) = true
 takesNoSlot (listing buffer) = true

@@ -1,4 +1,5 @@
 pub mod Model
+pub mod Laws
 pub mod History
 pub mod Theorem
 pub mod Windows

@@ -4,7 +4,8 @@ use mathlib.Core.Bool.{Bool, true, false, cond, not, _&&_}
 use mathlib.Core.List.{List, [], _∷_}
 use lib.Dec.{ltb, leb, eqb}
 use lib.ListN.{length, getD, set, replicate}
-use Rattle.checks.specs.Checks.{check}
+use Rattle.checks.specs.Checks.{check, ifOk}
+use Rattle.checks.specs.Lists.{first}
 use Rattle.octets.specs.Numbers.{word32}
 use Rattle.nets.specs.Rows.{Row, rowsOf}
 use Rattle.message.specs.Kinds.{kindOf, plainStatus}
@@ -22,15 +23,15 @@ use Rattle.neighbour.specs.Record.{idle, isIdle, acquired, isUp}
 use Rattle.neighbour.specs.Rules.{same, inSequence}
 use Rattle.sent.specs.declared.Head.{Head}
 use Rattle.sent.specs.Sent.{refuseMessage, errorMessage}
-use Rattle.machine.specs.declared.Event.{Event}
-use Rattle.machine.specs.declared.Event.the-variants.{Received, Start, Stop, Tick}
+use Rattle.machine.specs.declared.Event.the-variants.{Received}
+use Rattle.machine.specs.Intrinsics.{Intrinsic, Start, Stop, Tick, asEvent}
 use Rattle.machine.specs.declared.Reply.{Reply}
 use Rattle.machine.specs.declared.Reply.the-variants.{Nothing, One, Two}
 use Rattle.machine.specs.declared.After.{After}
 use Rattle.machine.specs.Table.{quiet}
 use Rattle.machine.specs.Step.{stepOf}
 use Rattle.calls.specs.Home.{goodHome}
-use Rattle.lines.specs.Lines.{Entry, listingText}
+use Rattle.lines.specs.Lines.{Entry, entryFor, listingText}
 
 -- ---- calls
 
@@ -40,21 +41,43 @@ pub data Call : Type 0 where
   add : ℕ → ℕ → Call
   -- address
   remove : ℕ → Call
-  -- Start, Stop, tick: address and reply buffer
-  start : ℕ → List ℕ → Call
-  stop : ℕ → List ℕ → Call
-  tick : ℕ → List ℕ → Call
+  -- Start, Stop or tick: which, address and reply buffer
+  happen : Intrinsic → ℕ → List ℕ → Call
   -- message: address, octets, home list, reply buffer
   receive : ℕ → List ℕ → List ℕ → List ℕ → Call
   -- listing: the lent buffer
   listing : List ℕ → Call
 
+abbrev pub start : ℕ → List ℕ → Call
+start a buffer = happen Start a buffer
+
+abbrev pub stop : ℕ → List ℕ → Call
+stop a buffer = happen Stop a buffer
+
+abbrev pub tick : ℕ → List ℕ → Call
+tick a buffer = happen Tick a buffer
+
 -- ---- slots
 
--- 01: "8 slots, free at first; a used one has address, AS, One neighbour's state (Idle when new) and rows"
+-- 01: "a used one has address, AS, One neighbour's state (Idle when new) and rows"
+pub record Peer : Type 0 where
+  pub address : ℕ
+  pub asn : ℕ
+  pub neighbour : Neighbour
+  pub rows : List Row
+
+-- 01: "Idle when new"
+abbrev pub newPeer : ℕ → ℕ → Peer
+newPeer address asn = record { address = address; asn = asn; neighbour = idle; rows = [] }
+
+-- the same, with this record and these rows now
+abbrev pub peerWith : Peer → Neighbour → List Row → Peer
+peerWith p n rows = record { address = p .address; asn = p .asn; neighbour = n; rows = rows }
+
+-- 01: "8 slots, free at first"
 pub data Slot : Type 0 where
   free : Slot
-  used : ℕ → ℕ → Neighbour → List Row → Slot
+  used : Peer → Slot
 
 -- 01: "It keeps fresh's settings"
 pub record Model : Type 0 where
@@ -72,27 +95,22 @@ put m i slot = record { settings = m .settings; slots = set (m .slots) i slot }
 
 unfoldable pub isFree : Slot → Bool
 isFree free = true
-isFree (used address asn n rows) = false
+isFree (used p) = false
 
 unfoldable pub hasAddress : ℕ → Slot → Bool
 hasAddress a free = false
-hasAddress a (used address asn n rows) = eqb address a
-
--- the index of the first slot that passes, or their number
-unfoldable pub index : (Slot → Bool) → List Slot → ℕ
-index p [] = 0
-index p (slot ∷ rest) = cond (p slot) 0 (suc (index p rest))
+hasAddress a (used p) = eqb (p .address) a
 
 -- 01: "used slot has this address"
 unfoldable pub placeOf : Model → ℕ → ℕ
-placeOf m a = index (hasAddress a) (m .slots)
+placeOf m a = first (hasAddress a) (m .slots)
 
 unfoldable pub isPresent : Model → ℕ → Bool
 isPresent m a = ltb (placeOf m a) 8
 
 -- 01: "the lowest free slot"
 unfoldable pub vacancy : Model → ℕ
-vacancy m = index isFree (m .slots)
+vacancy m = first isFree (m .slots)
 
 -- ---- what a call answers
 
@@ -117,10 +135,6 @@ pub record Turn : Type 0 where
   pub said : Said
   pub model : Model
 
--- 01: "refused calls .. change nothing": what is new where the answer is 0
-unfoldable pub whenOk : {A : Type 0} → ℕ → A → A → A
-whenOk answer new old = cond (eqb answer 0) new old
-
 -- ---- add and remove
 
 -- 01: "Add refuses 16 for AS 0 or own AS, or an address that is 0, our own or present."
@@ -134,7 +148,7 @@ addAnswer m address asn = check (addable m address asn) 16 (check (ltb (vacancy 
 
 unfoldable pub isIdleSlot : Slot → Bool
 isIdleSlot free = true
-isIdleSlot (used address asn n rows) = isIdle (n .phase)
+isIdleSlot (used p) = isIdle (p .neighbour .phase)
 
 -- 5, then 18 "neighbour not Idle"
 unfoldable pub removeAnswer : Model → ℕ → ℕ
@@ -145,12 +159,12 @@ unfoldable pub addTurn : Model → ℕ → ℕ → Turn
 addTurn m address asn =
     record {
       said = silent (addAnswer m address asn);
-      model = whenOk (addAnswer m address asn) (put m (vacancy m) (used address asn idle [])) m;
+      model = ifOk (addAnswer m address asn) (put m (vacancy m) (used (newPeer address asn))) m;
     }
 
 unfoldable pub removeTurn : Model → ℕ → Turn
 removeTurn m address =
-    record { said = silent (removeAnswer m address); model = whenOk (removeAnswer m address) (put m (placeOf m address) free) m }
+    record { said = silent (removeAnswer m address); model = ifOk (removeAnswer m address) (put m (placeOf m address) free) m }
 
 -- ---- one neighbour's turn
 
@@ -169,17 +183,17 @@ unfoldable pub rowsIn : Phase → List Row → List Row
 rowsIn phase rows = cond (isUp phase) rows []
 
 -- the machine's step carried out in a slot, with these rows while it is Up
-unfoldable pub moved : ℕ → ℕ → After → List Row → Move
-moved address asn after rows =
-    record { answer = 0; reply = after .reply; slot = used address asn (after .neighbour) (rowsIn (after .neighbour .phase) rows) }
+unfoldable pub moved : Peer → After → List Row → Move
+moved p after rows =
+    record { answer = 0; reply = after .reply; slot = used (peerWith p (after .neighbour) (rowsIn (after .neighbour .phase) rows)) }
 
 -- Start, Stop and tick receive no octets
 unfoldable pub noOctets : Head
 noOctets = record { first = 0; second = 0; third = 0 }
 
-unfoldable pub eventMove : Settings → Event → Slot → Move
+unfoldable pub eventMove : Settings → Intrinsic → Slot → Move
 eventMove g event free = noMove
-eventMove g event (used address asn n rows) = moved address asn (stepOf g asn n event noOctets) rows
+eventMove g event (used p) = moved p (stepOf g (p .asn) (p .neighbour) (asEvent event) noOctets) (p .rows)
 
 -- ---- a message: checks 6 to 15
 
@@ -201,7 +215,7 @@ kindAnswer g n o D.BadLength = 12
 
 -- 6 to 8, then 9 "AS is not this neighbour's", then the rest
 unfoldable pub answerTo : Settings → ℕ → Neighbour → List ℕ → ℕ
-answerTo g asn n o = whenOk (headerAnswer o) (check (eqb (asnAt o) asn) 9 (kindAnswer g n o (decodeOf o))) (headerAnswer o)
+answerTo g asn n o = ifOk (headerAnswer o) (check (eqb (asnAt o) asn) 9 (kindAnswer g n o (decodeOf o))) (headerAnswer o)
 
 -- 01: "the first 12 octets, zero-filled"
 unfoldable pub firstTwelve : List ℕ → Head
@@ -242,12 +256,15 @@ rowsAfter g n o D.BadStatus rows = rows
 rowsAfter g n o D.BadLength rows = rows
 
 -- a refusal keeps the slot
+abbrev pub refusedMove : Settings → List ℕ → Peer → ℕ → Move
+refusedMove g o p answer = record { answer = answer; reply = refusalReply g (p .neighbour) o answer; slot = used p }
+
 unfoldable pub messageMove : Settings → List ℕ → Slot → Move
 messageMove g o free = noMove
-messageMove g o (used address asn n rows) =
-    whenOk (answerTo g asn n o)
-    (moved address asn (afterMessage g asn n o (decodeOf o)) (rowsAfter g n o (decodeOf o) rows))
-    (record { answer = answerTo g asn n o; reply = refusalReply g n o (answerTo g asn n o); slot = used address asn n rows })
+messageMove g o (used p) =
+    ifOk (answerTo g (p .asn) (p .neighbour) o)
+    (moved p (afterMessage g (p .asn) (p .neighbour) o (decodeOf o)) (rowsAfter g (p .neighbour) o (decodeOf o) (p .rows)))
+    (refusedMove g o p (answerTo g (p .asn) (p .neighbour) o))
 
 -- ---- the calls about one neighbour
 
@@ -263,11 +280,11 @@ messageAnswer m a home buffer = check (leb 2048 (length buffer)) 3 (check (goodH
 unfoldable pub turnAt : Model → ℕ → ℕ → Move → List Row → Turn
 turnAt m answer place move home =
     record {
-      said = whenOk answer (spoken (move .answer) (move .reply) home) (silent answer);
-      model = whenOk answer (put m place (move .slot)) m;
+      said = ifOk answer (spoken (move .answer) (move .reply) home) (silent answer);
+      model = ifOk answer (put m place (move .slot)) m;
     }
 
-unfoldable pub eventTurn : Event → Model → ℕ → List ℕ → Turn
+unfoldable pub eventTurn : Intrinsic → Model → ℕ → List ℕ → Turn
 eventTurn event m a buffer =
     turnAt m (eventAnswer m a buffer) (placeOf m a) (eventMove (m .settings) event (slotIn m (placeOf m a))) []
 
@@ -281,8 +298,7 @@ messageTurn m a o home buffer =
 unfoldable pub listedFrom : ℕ → List Slot → List Entry
 listedFrom i [] = []
 listedFrom i (free ∷ rest) = listedFrom (suc i) rest
-listedFrom i (used address asn n rows ∷ rest) =
-    record { index = i; address = address; asn = asn; phase = n .phase; mode = n .mode; rows = rows } ∷ listedFrom (suc i) rest
+listedFrom i (used p ∷ rest) = entryFor i (p .address) (p .asn) (p .neighbour) (p .rows) ∷ listedFrom (suc i) rest
 
 -- of all eight
 unfoldable pub listed : Model → List Entry
@@ -298,16 +314,14 @@ listingSaid m = record { answer = 0; first = listingText (listed m); second = []
 
 -- 01: "refused calls and listings change nothing"
 unfoldable pub listingTurn : Model → List ℕ → Turn
-listingTurn m buffer = record { said = whenOk (listingAnswer buffer) (listingSaid m) (silent (listingAnswer buffer)); model = m }
+listingTurn m buffer = record { said = ifOk (listingAnswer buffer) (listingSaid m) (silent (listingAnswer buffer)); model = m }
 
 -- ---- lists of calls
 
 unfoldable pub step : Call → Model → Turn
 step (add address asn) m = addTurn m address asn
 step (remove address) m = removeTurn m address
-step (start a buffer) m = eventTurn Start m a buffer
-step (stop a buffer) m = eventTurn Stop m a buffer
-step (tick a buffer) m = eventTurn Tick m a buffer
+step (happen event a buffer) m = eventTurn event m a buffer
 step (receive a o home buffer) m = messageTurn m a o home buffer
 step (listing buffer) m = listingTurn m buffer
 

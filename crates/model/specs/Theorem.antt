@@ -12,7 +12,7 @@ use Rattle.nets.specs.Rows.{Row, rowsOf, flat}
 use Rattle.rows.specs.Storing.{zeros, padded}
 use Rattle.codec.specs.Reading.{mostNumbers}
 use Rattle.neighbour.specs.declared.Settings.{Settings}
-use Rattle.machine.specs.declared.Event.the-variants.{Start, Stop, Tick}
+use Rattle.machine.specs.Intrinsics.{asEvent}
 use Rattle.state.specs.declared.State.{State}
 use Rattle.state.specs.declared.Slot as Stored
 use Rattle.state.specs.declared.Outcome.{Outcome}
@@ -22,7 +22,7 @@ use Rattle.calls.specs.Carried.{partAt}
 use Rattle.slots.specs.Calls.{freshOf, addOf, removeOf}
 use Rattle.calls.specs.Calls.{eventOutcome, eventTable, eventBuffer, messageOutcome, messageTable, messageBuffer}
 use Rattle.lines.specs.Listing.{markedRow, listingOutcome, listingBuffer}
-use Rattle.model.specs.Model.{Call, add, remove, start, stop, tick, receive, listing, Slot, free, used, Model, Said, model, modelFrom, empty, saidFrom, step}
+use Rattle.model.specs.Model.{Call, add, remove, happen, receive, listing, Peer, Slot, free, used, Model, Said, model, modelFrom, empty, saidFrom, step}
 use Rattle.model.specs.History.{lastAccepted, isElsewhere, takesNoSlot}
 
 -- ---- the gateway's own definitions, over a list
@@ -35,9 +35,7 @@ pub record Gateway : Type 0 where
 unfoldable pub outcomeOf : Call → Gateway → Outcome
 outcomeOf (add address asn) b = addOf (b .state) address asn
 outcomeOf (remove address) b = removeOf (b .state) address
-outcomeOf (start a buffer) b = eventOutcome Start (b .state) (b .table) buffer a
-outcomeOf (stop a buffer) b = eventOutcome Stop (b .state) (b .table) buffer a
-outcomeOf (tick a buffer) b = eventOutcome Tick (b .state) (b .table) buffer a
+outcomeOf (happen event a buffer) b = eventOutcome (asEvent event) (b .state) (b .table) buffer a
 outcomeOf (receive a o home buffer) b = messageOutcome (b .state) (b .table) buffer home a o
 outcomeOf (listing buffer) b = listingOutcome (b .state) (b .table) buffer
 
@@ -45,9 +43,7 @@ outcomeOf (listing buffer) b = listingOutcome (b .state) (b .table) buffer
 unfoldable pub tableAfter : Call → Gateway → List ℕ
 tableAfter (add address asn) b = b .table
 tableAfter (remove address) b = b .table
-tableAfter (start a buffer) b = eventTable Start (b .state) (b .table) buffer a
-tableAfter (stop a buffer) b = eventTable Stop (b .state) (b .table) buffer a
-tableAfter (tick a buffer) b = eventTable Tick (b .state) (b .table) buffer a
+tableAfter (happen event a buffer) b = eventTable (asEvent event) (b .state) (b .table) buffer a
 tableAfter (receive a o home buffer) b = messageTable (b .state) (b .table) buffer home a o
 tableAfter (listing buffer) b = b .table
 
@@ -55,18 +51,14 @@ tableAfter (listing buffer) b = b .table
 unfoldable pub bufferOf : Call → List ℕ
 bufferOf (add address asn) = []
 bufferOf (remove address) = []
-bufferOf (start a buffer) = buffer
-bufferOf (stop a buffer) = buffer
-bufferOf (tick a buffer) = buffer
+bufferOf (happen event a buffer) = buffer
 bufferOf (receive a o home buffer) = buffer
 bufferOf (listing buffer) = buffer
 
 unfoldable pub bufferAfter : Call → Gateway → List ℕ
 bufferAfter (add address asn) b = []
 bufferAfter (remove address) b = []
-bufferAfter (start a buffer) b = eventBuffer Start (b .state) (b .table) buffer a
-bufferAfter (stop a buffer) b = eventBuffer Stop (b .state) (b .table) buffer a
-bufferAfter (tick a buffer) b = eventBuffer Tick (b .state) (b .table) buffer a
+bufferAfter (happen event a buffer) b = eventBuffer (asEvent event) (b .state) (b .table) buffer a
 bufferAfter (receive a o home buffer) b = messageBuffer (b .state) (b .table) buffer home a o
 bufferAfter (listing buffer) b = listingBuffer (b .state) (b .table) buffer
 
@@ -116,14 +108,14 @@ seenBy g calls = seenFrom (begun g) calls
 -- 01: "The count is their number"
 unfoldable pub cell : Slot → Stored.Slot
 cell free = freeSlot
-cell (used address asn n rows) = record { address = address; asn = asn; neighbour = n; rows = length rows }
+cell (used p) = record { address = p .address; asn = p .asn; neighbour = p .neighbour; rows = length (p .rows) }
 
 unfoldable pub stateOf : Model → State
 stateOf m = record { settings = m .settings; slots = map cell (m .slots) }
 
 unfoldable pub rowsHeld : Slot → List Row
 rowsHeld free = []
-rowsHeld (used address asn n rows) = rows
+rowsHeld (used p) = p .rows
 
 -- 01: "the table has them as under Numbers": "slot by slot, three a row .. Unused rows are zero"
 unfoldable pub part : Slot → List ℕ
@@ -163,9 +155,7 @@ isOctet n = ltb n 256
 unfoldable pub carriesOctets : Call → Bool
 carriesOctets (add address asn) = true
 carriesOctets (remove address) = true
-carriesOctets (start a buffer) = true
-carriesOctets (stop a buffer) = true
-carriesOctets (tick a buffer) = true
+carriesOctets (happen event a buffer) = true
 carriesOctets (receive a o home buffer) = every isOctet o
 carriesOctets (listing buffer) = true
 
@@ -173,9 +163,7 @@ carriesOctets (listing buffer) = true
 unfoldable pub listsNothing : Call → Bool
 listsNothing (add address asn) = true
 listsNothing (remove address) = true
-listsNothing (start a buffer) = true
-listsNothing (stop a buffer) = true
-listsNothing (tick a buffer) = true
+listsNothing (happen event a buffer) = true
 listsNothing (receive a o home buffer) = true
 listsNothing (listing buffer) = false
 
@@ -243,10 +231,13 @@ pub record Sensible (b : Gateway) : Type 0 where
 abbrev pub Listable : Gateway → Type 0
 Listable b = (j : ℕ) → j < 8 → every markedRow (rowsAt b j) ≡ true
 
+-- a stored record, with these rows
+abbrev pub peerFrom : Stored.Slot → List Row → Peer
+peerFrom slot rows = record { address = slot .address; asn = slot .asn; neighbour = slot .neighbour; rows = rows }
+
 -- one slot of the model, from its record and its part of the table
 unfoldable pub slotFrom : Stored.Slot → List ℕ → Slot
-slotFrom slot numbers =
-    cond (eqb (slot .address) 0) free (used (slot .address) (slot .asn) (slot .neighbour) (rowsOf (take (3 * slot .rows) numbers)))
+slotFrom slot numbers = cond (eqb (slot .address) 0) free (used (peerFrom slot (rowsOf (take (3 * slot .rows) numbers))))
 
 unfoldable pub slotsFrom : List Stored.Slot → List ℕ → List Slot
 slotsFrom [] table = []

@@ -17,7 +17,8 @@ use Rattle.neighbour.specs.Record.{acquired}
 use Rattle.neighbour.specs.Rules.{oneOf, indicates}
 use Rattle.machine.specs.declared.Event.{Event}
 use Rattle.machine.specs.declared.Event.the-variants.{Received, Start, Stop, Tick}
-use Rattle.model.specs.Model.{Call, add, remove, start, stop, tick, receive, listing, Model, slotIn, placeOf, step}
+use Rattle.machine.specs.Intrinsics.{asEvent}
+use Rattle.model.specs.Model.{Call, add, remove, happen, receive, listing, Model, slotIn, placeOf, step}
 use Rattle.model.specs.History.{accepts, rowsSaid}
 use Rattle.model.specs.Theorem.{cell}
 
@@ -65,9 +66,7 @@ doneFor m j a call event = cond (eqb ((step call m) .said .answer) 0 && eqb (pla
 unfoldable pub eventFor : Model → ℕ → Call → Option Event
 eventFor m j (add address asn) = none
 eventFor m j (remove address) = none
-eventFor m j (start a buffer) = doneFor m j a (start a buffer) (some Start)
-eventFor m j (stop a buffer) = doneFor m j a (stop a buffer) (some Stop)
-eventFor m j (tick a buffer) = doneFor m j a (tick a buffer) (some Tick)
+eventFor m j (happen event a buffer) = doneFor m j a (happen event a buffer) (some (asEvent event))
 eventFor m j (receive a o home buffer) = doneFor m j a (receive a o home buffer) (saidEvent (decodeOf o))
 eventFor m j (listing buffer) = none
 

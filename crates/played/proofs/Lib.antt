@@ -12,5 +12,6 @@ pub mod ByModel
 pub mod Playing
 pub mod Refused
 pub mod Ends
+pub mod Unfolded
 pub mod Cases
 pub mod Answers

@@ -1,70 +1,143 @@
--- Every course comes to its end: a turn uses octets or makes a tick that is due. Assumes nothing.
-use Prim.Native.Nat.{ℕ, zero, suc, _+_, _-_, _≤_, _<_}
-use native.Mathlib.Nat.{le-refl}
+-- Every course comes to its end: its turns are turns on the recording, and those come to its end. Assumes nothing.
+use Prim.Native.Nat.{ℕ, zero, suc, _+_, _*_, _-_, _≤_, _<_}
 use native.Mathlib.Omega.{arith}
 use mathlib.Core.Path.{_≡_, refl, sym, ap, subst, _∙_}
 use mathlib.Core.Bool.{Bool, true, false, cond, not, _&&_, _||_, true≢false, false≢true}
 use mathlib.Core.List.{List, [], _∷_, _++_}
-use lib.Dec.{eqb}
-use lib.ListN.{length, replicate, length-drop}
-use borrow.Author.Tests.{eqb-true, eqb-false, lt-ltb}
-use Rattle.checks.specs.Lists.{every}
+use lib.Dec.{eqb, ltb}
+use lib.ListN.{length, take, drop, replicate, length-append, length-drop, drop-of-length-le}
+use lib.Seq.{take-append-seam, drop-append-le}
+use borrow.Author.Tests.{eqb-true, eqb-false, eq-eqb, lt-ltb}
+use Rattle.checks.specs.Lists.{every, join}
 use Rattle.checks.proofs.Laws.{and-left, and-right}
 use Rattle.octets.specs.Buffer.{over}
+use Rattle.rows.specs.Storing.{zeros}
 use Rattle.player.specs.declared.Player.{Player}
-use Rattle.player.specs.Player.{beginning, due, having, roomy, callStep, tickStep, turnStep, usedOf, heldOf, closeStep, finishStep}
-use Rattle.played.proofs.Held.{used-some}
+use Rattle.player.specs.Player.{beginning, Step, roomy, lentChecks, given, tickStep, freeStep, turnChecked, turnStep, onlyHolds, heldOf, closeStep}
+use Rattle.played.specs.Theorem.{Deck, Lent, start, stepOn, afterTurn, Driven, drive, isDone, isPlenty, plenty}
+use Rattle.played.proofs.Turns.{used-within}
+use Rattle.played.proofs.Ends.{every-recording-ends}
 use Rattle.course.specs.declared.Stage.{Stage}
 use Rattle.course.specs.declared.Stage.the-variants.{Read, Play, Close, List as Listing, Over}
 use Rattle.course.specs.declared.Course.{Course}
 use Rattle.course.specs.Course.{isRead, isOver, staged, setOut, givenOf, wroteOf, restOf, usedUp, nextStage, turnedTo, playOn, playStep, endedBy, closeOn, listOn, stillOn, courseAt, courseStep}
 use Rattle.course.specs.Theorem.{Host, readNext, readOn, showing, goOn, playAll, hostOf, isSome, CourseEnding, EveryCourseEnds}
 use Rattle.course.proofs.Laws.{given-some}
-use Rattle.course.proofs.Whole.{rest-on, rest-read}
+use Rattle.course.proofs.Whole.{onward, drive-onward, rest-on, rest-read, zeros-fit}
 
 abbrev ready : Player → Bool
 ready p = p .broken || eqb (p .ticks) 0
 
--- where no tick is due, a piece that is not used up has octets left
-octets-left : (p : Player) (left : ℕ) → ready p ≡ true → usedUp p left ≡ false → eqb left 0 ≡ false
+-- ---- a turn on a piece is a turn with room and an octet on the recording
+
+-- where nothing of the piece is left, a tick is due
+tick-due : (p : Player) (left : ℕ) → eqb left 0 ≡ true → usedUp p left ≡ false → (p .broken ≡ false) × (ltb 0 (p .ticks) ≡ true)
 unfolding usedUp
-octets-left p left r u = go (eqb left 0) u
+tick-due p left e u = go (eqb left 0) e u
   where
-    go : (b : Bool) → (b && ready p) ≡ false → b ≡ false
-    go true e = absurd (true≢false (sym r ∙ e))
-    go false e = refl
+    both : (b : Bool) → p .broken ≡ b → (t : Bool) → eqb (p .ticks) 0 ≡ t → (b || t) ≡ false → (p .broken ≡ false) × (ltb 0 (p .ticks) ≡ true)
+    both true f t k h = absurd (true≢false h)
+    both false f true k h = absurd (true≢false h)
+    both false f false k h = let some : (p .ticks ≡ 0) → ⊥ = eqb-false (p .ticks) 0 k in (f, lt-ltb 0 (p .ticks) (omega (arith, some)))
 
-all-used : (p : Player) (octet : ℕ) (rest : List ℕ) → p .broken ≡ true → 1 ≤ usedOf p (octet ∷ rest)
-unfolding usedOf
-all-used p octet rest f = rw f (omega arith)
+    go : (b : Bool) → b ≡ true → (b && ready p) ≡ false → (p .broken ≡ false) × (ltb 0 (p .ticks) ≡ true)
+    go true k h = both (p .broken) refl (eqb (p .ticks) 0) refl h
+    go false k h = absurd (false≢true k)
 
-line-used : (p : Player) (octet : ℕ) (rest : List ℕ) → p .broken ≡ false → p .ticks ≡ 0 → 1 ≤ usedOf p (octet ∷ rest)
-unfolding usedOf
-line-used p octet rest f z = rw (f, z) (used-some (p .held) octet rest)
+-- and then a turn does not look at its input
+module _ (room : Bool) (p : Player) (line table input : List ℕ) (f : p .broken ≡ false) (k : ltb 0 (p .ticks) ≡ true) where
+  tick-turn : turnStep room p line table input ≡ given p table (lentChecks room (p .state) (length table)) (tickStep p table)
+  unfolding turnStep turnChecked freeStep
+  tick-turn = rw (f, k)
 
-some-used : (p : Player) (rest : List ℕ) → ready p ≡ true → eqb (length rest) 0 ≡ false → 1 ≤ usedOf p rest
-some-used p [] r e = absurd (true≢false e)
-some-used p (octet ∷ rest) r e = go (p .broken) refl r
+  tick-held : heldOf p line input ≡ line
+  unfolding heldOf onlyHolds
+  tick-held = rw (f, k)
+
+plenty-more : (lents : List Lent) (lent : Lent) → isPlenty lent ≡ true → plenty (lents ++ (lent ∷ [])) ≡ suc (plenty lents)
+unfolding plenty
+plenty-more [] lent e = rw e
+plenty-more (l ∷ lents) lent e = go (isPlenty l) (plenty-more lents lent e)
   where
-    go : (b : Bool) → p .broken ≡ b → (b || eqb (p .ticks) 0) ≡ true → 1 ≤ usedOf p (octet ∷ rest)
-    go true f k = all-used p octet rest f
-    go false f k = line-used p octet rest f (eqb-true (p .ticks) 0 k)
+    go : (b : Bool) → plenty (lents ++ (lent ∷ [])) ≡ suc (plenty lents)
+        → cond b (suc (plenty (lents ++ (lent ∷ [])))) (plenty (lents ++ (lent ∷ []))) ≡ suc (cond b (suc (plenty lents)) (plenty lents))
+    go true h = ap suc h
+    go false h = h
 
--- a turn in which a tick is due makes it, and uses nothing
-module _ (p : Player) (count : ℕ) (f : p .broken ≡ false) (e : p .ticks ≡ suc count) where
-  tick-uses : (rest : List ℕ) → usedOf p rest ≡ 0
-  unfolding usedOf
-  tick-uses rest = rw (f, lt-ltb 0 (p .ticks) (omega (arith, e)))
+abbrev deckOf : Player → List ℕ → List ℕ → Deck
+deckOf p line table = record { player = p; line = line; table = table }
 
-  tick-made : (line table rest : List ℕ) → (turnStep true p line table rest) .player .ticks ≡ count
-  unfolding turnStep tickStep callStep due having
-  tick-made line table rest = rw (f, lt-ltb 0 (p .ticks) (omega (arith, e))) (omega (arith, e))
+module _ (out : List ℕ) (room : roomy out ≡ true) (recording : List ℕ) where
+  -- so many turns at least with room and an octet led here
+  record Sofar (turns : ℕ) (d : Deck) (rest : List ℕ) : Type 0 where
+    lents : List Lent
+    many : turns ≤ plenty lents
+    text : List ℕ
+    same : drive lents (start (zeros 4118)) recording ≡ record { deck = d; rest = rest; text = text }
+
+  lent-plenty : (n : ℕ) → 0 < n → isPlenty (record { size = n; out = out }) ≡ true
+  unfolding isPlenty
+  lent-plenty n k = rw (room, lt-ltb 0 n k)
+
+  module _ (p : Player) (line table rest left : List ℕ) where
+    abbrev s : Step
+    s = turnStep (roomy out) p line table rest
+
+    abbrev after : Deck
+    after = deckOf (s .player) (heldOf p line rest) (s .table)
+
+    by-size : (turns n : ℕ) → 0 < n → turnStep (roomy out) p line table (take n (rest ++ left)) ≡ s
+        → heldOf p line (take n (rest ++ left)) ≡ heldOf p line rest
+        → Sofar turns (deckOf p line table) (rest ++ left) → Sofar (suc turns) after (drop (s .used) rest ++ left)
+    unfolding onward afterTurn stepOn
+    by-size turns n k e f t =
+        let lent : Lent = record { size = n; out = out } in
+        record {
+          lents = t .lents ++ (lent ∷ []);
+          many = omega (arith, t .many, plenty-more (t .lents) lent (lent-plenty n k));
+          text = t .text ++ s .text;
+          same = drive-onward (t .lents) lent (start (zeros 4118)) recording
+              ∙ ap (onward lent) (t .same)
+              ∙ (λ i. record {
+                deck = record { player = (e i) .player; line = f i; table = (e i) .table };
+                rest = drop ((e i) .used) (rest ++ left);
+                text = t .text ++ (e i) .text;
+              })
+              ∙ (λ i. record {
+                deck = after;
+                rest = drop-append-le (s .used) rest left (used-within (roomy out) p line table rest) i;
+                text = t .text ++ s .text;
+              });
+        }
+
+    turn-more : (turns : ℕ) → usedUp p (length rest) ≡ false → Sofar turns (deckOf p line table) (rest ++ left)
+        → Sofar (suc turns) after (drop (s .used) rest ++ left)
+    turn-more turns u t = go (eqb (length rest) 0) refl
+      where
+        go : (b : Bool) → eqb (length rest) 0 ≡ b → Sofar (suc turns) after (drop (s .used) rest ++ left)
+        go false e =
+            let some : (length rest ≡ 0) → ⊥ = eqb-false (length rest) 0 e in
+            by-size turns (length rest) (omega (arith, some)) (ap (turnStep (roomy out) p line table) (take-append-seam rest left))
+            (ap (heldOf p line) (take-append-seam rest left)) t
+        go true e =
+            let f = (tick-due p (length rest) e u) .0 in
+            let k = (tick-due p (length rest) e u) .1 in
+            by-size turns 1 (omega arith)
+            (tick-turn (roomy out) p line table (take 1 (rest ++ left)) f k ∙ sym (tick-turn (roomy out) p line table rest f k))
+            (tick-held (roomy out) p line table (take 1 (rest ++ left)) f k ∙ sym (tick-held (roomy out) p line table rest f k)) t
+
+  -- after 86,401 such turns for each octet nothing is left to do
+  all-done : (turns : ℕ) (p : Player) (line table rest : List ℕ) → 86401 * length recording ≤ turns → Sofar turns (deckOf p line table) rest
+      → (eqb (length rest) 0 && ready p) ≡ true
+  unfolding isDone
+  all-done turns p line table rest m t =
+      ap isDone (sym (t .same)) ∙ every-recording-ends (zeros 4118) recording (t .lents) zeros-fit (omega (arith, m, t .many))
 
 abbrev host : Stage → Player → ℕ → ℕ → List ℕ → List ℕ → List ℕ → List (List ℕ) → List ℕ → Host
 host stage p from to line table piece coming text =
     record { course = record { player = p; stage = stage; from = from; to = to }; line = line; table = table; piece = piece; coming = coming; text = text }
 
-module _ (ends : Bool) (out : List ℕ) (room : roomy out ≡ true) where
+module _ (ends : Bool) (out : List ℕ) (room : roomy out ≡ true) (recording : List ℕ) where
   -- from this host on
   record Done (h : Host) : Type 0 where
     steps : ℕ
@@ -95,114 +168,73 @@ module _ (ends : Bool) (out : List ℕ) (room : roomy out ≡ true) where
           list-done ((closeStep (roomy out) p table) .player) from to line table piece [] (text ++ (closeStep (roomy out) p table) .text)
       go false = done-now (goOn out (readNext false [] (host Read p from to line table piece [] text))) refl
 
-  -- a piece is played: then the pieces to come are
-  module _ (piece : List ℕ) (coming : List (List ℕ))
-      (next : (p : Player) (from to : ℕ) (line table text : List ℕ) → Done (host Read p from to line table piece coming text)) where
-    abbrev Plays : Player → ℕ → ℕ → List ℕ → List ℕ → List ℕ → Type 0
-    Plays p from to line table text = Done (host Play p from to line table piece coming text)
+  -- with so many turns more
+  record Goes (fuel : ℕ) : Type 0 where
+    reads : (turns : ℕ) (p : Player) (from to : ℕ) (line table piece : List ℕ) (coming : List (List ℕ)) (text : List ℕ)
+        → every isSome coming ≡ true → 86401 * length recording ≤ turns + fuel → Sofar out room recording turns (deckOf p line table) (join coming)
+        → Done (host Read p from to line table piece coming text)
+    plays : (turns : ℕ) (p : Player) (from to : ℕ) (line table piece : List ℕ) (coming : List (List ℕ)) (text : List ℕ)
+        → every isSome coming ≡ true → 86401 * length recording ≤ turns + fuel → usedUp p (length (restOf from to piece)) ≡ false
+        → Sofar out room recording turns (deckOf p line table) (restOf from to piece ++ join coming)
+        → Done (host Play p from to line table piece coming text)
 
-    module _ (p : Player) (from to : ℕ) (line table text : List ℕ) where
-      abbrev rest : List ℕ
-      rest = restOf from to piece
+  -- ---- a turn
 
-      abbrev used : ℕ
-      used = usedOf p rest
+  module _ (fuel : ℕ) (g : Goes fuel) (turns : ℕ) (p : Player) (from to : ℕ) (line table piece : List ℕ) (coming : List (List ℕ)) (text : List ℕ)
+      (some : every isSome coming ≡ true) (m : 86401 * length recording ≤ turns + suc fuel) (u : usedUp p (length (restOf from to piece)) ≡ false)
+      (t : Sofar out room recording turns (deckOf p line table) (restOf from to piece ++ join coming)) where
+    abbrev rest : List ℕ
+    rest = restOf from to piece
 
-      abbrev after : Player
-      after = (turnStep true p line table rest) .player
+    abbrev turn : Step
+    turn = turnStep (roomy out) p line table rest
 
-      -- so many octets are left after the turn
-      left-after : length (restOf (from + used) to piece) ≡ length rest - used
-      left-after = ap length (rest-on from to used piece) ∙ length-drop used rest
+    abbrev next : Deck
+    next = deckOf (turn .player) (heldOf p line rest) (turn .table)
 
-      -- after the turn: another one, or the next piece
-      turned : (usedUp after (length rest - used) ≡ false
-          → Plays after (from + used) to (heldOf p line rest) ((turnStep true p line table rest) .table) (text ++ (turnStep true p line table rest) .text))
-          → Done (showing (host Play p from to line table piece coming text) (playOn true (record { player = p; stage = Play; from = from; to = to }) line table rest))
-      unfolding showing wroteOf playOn turnedTo nextStage
-      turned more = go (usedUp after (length rest - used)) refl
-        where
-          go : (b : Bool) → usedUp after (length rest - used) ≡ b
-              → Done (host (cond b Read Play) after (from + used) to (heldOf p line rest) ((turnStep true p line table rest) .table) piece coming (text ++ (turnStep true p line table rest) .text))
-          go true e = next after (from + used) to (heldOf p line rest) ((turnStep true p line table rest) .table) (text ++ (turnStep true p line table rest) .text)
-          go false e = more e
+    made : Sofar out room recording (suc turns) next (drop (turn .used) rest ++ join coming)
+    made = turn-more out room recording p line table rest (join coming) turns u t
 
-      step-done : (usedUp after (length rest - used) ≡ false
-          → Plays after (from + used) to (heldOf p line rest) ((turnStep true p line table rest) .table) (text ++ (turnStep true p line table rest) .text))
-          → Done (goOn out (host Play p from to line table piece coming text))
-      unfolding goOn courseStep courseAt playStep
-      step-done more =
-          subst
-          (λ (b : Bool). Done (showing (host Play p from to line table piece coming text) (playOn b (record { player = p; stage = Play; from = from; to = to }) line table rest)))
-          (sym room) (turned more)
+    -- so many octets are left after the turn
+    left-after : length (restOf (from + turn .used) to piece) ≡ length rest - turn .used
+    left-after = ap length (rest-on from to (turn .used) piece) ∙ length-drop (turn .used) rest
 
-      turn-done : (usedUp after (length rest - used) ≡ false
-          → Plays after (from + used) to (heldOf p line rest) ((turnStep true p line table rest) .table) (text ++ (turnStep true p line table rest) .text))
-          → Plays p from to line table text
-      unfolding isOver isRead readOn
-      turn-done more = one-more (host Play p from to line table piece coming text) refl (step-done more)
+    none-left : length rest - turn .used ≡ 0 → Sofar out room recording (suc turns) next (join coming)
+    none-left z =
+        let k : length rest ≤ turn .used = omega (arith, z) in
+        subst (λ (l : List ℕ). Sofar out room recording (suc turns) next (l ++ join coming)) (drop-of-length-le rest k) made
 
-    -- every course comes to its end from fewer octets than these
-    abbrev Shorter : ℕ → Type 0
-    Shorter most =
-        (p : Player) (from to : ℕ) (line table text : List ℕ) → length (restOf from to piece) < most
-        → usedUp p (length (restOf from to piece)) ≡ false → Plays p from to line table text
+    some-left : Sofar out room recording (suc turns) next (restOf (from + turn .used) to piece ++ join coming)
+    some-left =
+        subst (λ (l : List ℕ). Sofar out room recording (suc turns) next (l ++ join coming)) (sym (rest-on from to (turn .used) piece)) made
 
-    by-octet : (most : ℕ) → Shorter most → (p : Player) (from to : ℕ) (line table text : List ℕ) → length (restOf from to piece) ≤ most
-        → ready p ≡ true → usedUp p (length (restOf from to piece)) ≡ false → Plays p from to line table text
-    by-octet most shorter p from to line table text m r u =
-        let rest = restOf from to piece in
-        let used = usedOf p rest in
-        let s = turnStep true p line table rest in
-        let k : 1 ≤ used = some-used p rest r (octets-left p (length rest) r u) in
-        let e = octets-left p (length rest) r u in
-        let some : (length rest ≡ 0) → ⊥ = eqb-false (length rest) 0 e in
-        let l = left-after p from to line table text in
-        turn-done p from to line table text
-        (λ v. shorter (s .player) (from + used) to (heldOf p line rest) (s .table) (text ++ s .text)
-        (rw l (omega (arith, m, k, some))) (ap (usedUp (s .player)) l ∙ v))
+    none-of : usedUp (turn .player) (length rest - turn .used) ≡ true → length rest - turn .used ≡ 0
+    unfolding usedUp
+    none-of e = eqb-true (length rest - turn .used) 0 (and-left (eqb (length rest - turn .used) 0) (ready (turn .player)) e)
 
-    by-ticks : (most : ℕ) → Shorter most → (count : ℕ) (p : Player) (from to : ℕ) (line table text : List ℕ) → length (restOf from to piece) ≤ most
-        → p .ticks ≡ count → usedUp p (length (restOf from to piece)) ≡ false → Plays p from to line table text
-    by-ticks most shorter zero p from to line table text m e u = by-octet most shorter p from to line table text m (go (p .broken)) u
+    -- another one, or the next piece
+    turned : Done (showing (host Play p from to line table piece coming text) (playOn (roomy out) (record { player = p; stage = Play; from = from; to = to }) line table rest))
+    unfolding showing wroteOf playOn turnedTo nextStage
+    turned = go (usedUp (turn .player) (length rest - turn .used)) refl
       where
-        go : (b : Bool) → (b || eqb (p .ticks) 0) ≡ true
-        go true = refl
-        go false = rw e
-    by-ticks most shorter (suc count) p from to line table text m e u =
-        go (p .broken) refl
-        (λ p′ from′ line′ table′ text′. by-ticks most shorter count p′ from′ to line′ table′ text′)
-      where
-        go : (b : Bool) → p .broken ≡ b
-            → ((p′ : Player) (from′ : ℕ) (line′ table′ text′ : List ℕ) → length (restOf from′ to piece) ≤ most → p′ .ticks ≡ count
-            → usedUp p′ (length (restOf from′ to piece)) ≡ false → Plays p′ from′ to line′ table′ text′)
-            → Plays p from to line table text
-        go true f next-tick = by-octet most shorter p from to line table text m (rw f) u
-        go false f next-tick =
-            let rest = restOf from to piece in
-            let s = turnStep true p line table rest in
-            let l = left-after p from to line table text in
-            turn-done p from to line table text
-            (λ v. next-tick (s .player) (from + usedOf p rest) (heldOf p line rest) (s .table) (text ++ s .text)
-            (rw l (omega (arith, m))) (tick-made p count f e line table rest) (ap (usedUp (s .player)) l ∙ v))
+        go : (b : Bool) → usedUp (turn .player) (length rest - turn .used) ≡ b
+            → Done (host (cond b Read Play) (turn .player) (from + turn .used) to (heldOf p line rest) (turn .table) piece coming (text ++ turn .text))
+        go true e =
+            g .reads (suc turns) (turn .player) (from + turn .used) to (heldOf p line rest) (turn .table) piece coming (text ++ turn .text) some
+            (omega (arith, m)) (none-left (none-of e))
+        go false e =
+            g .plays (suc turns) (turn .player) (from + turn .used) to (heldOf p line rest) (turn .table) piece coming (text ++ turn .text) some
+            (omega (arith, m)) (ap (usedUp (turn .player)) left-after ∙ e) some-left
 
-    by-octets : (most : ℕ) → Shorter most
-    by-octets zero p from to line table text m u = absurd (omega (arith, m))
-    by-octets (suc most) p from to line table text m u =
-        by-ticks most (by-octets most) (p .ticks) p from to line table text (omega (arith, m)) refl u
+    step-done : Done (goOn out (host Play p from to line table piece coming text))
+    unfolding goOn courseStep courseAt playStep
+    step-done = turned
 
-  -- the step that follows a read, without the read
-  first-turn : (piece : List ℕ) (coming : List (List ℕ))
-      → ((p : Player) (from to : ℕ) (line table text : List ℕ) → Done (host Read p from to line table piece coming text))
-      → (p : Player) (from to : ℕ) (line table text : List ℕ) → usedUp p (length (restOf from to piece)) ≡ false
-      → Done (goOn out (host Play p from to line table piece coming text))
-  first-turn piece coming next p from to line table text u =
-      let rest = restOf from to piece in
-      let s = turnStep true p line table rest in
-      let l = left-after piece coming next p from to line table text in
-      step-done piece coming next p from to line table text
-      (λ v. by-octets piece coming next (suc (length (restOf (from + usedOf p rest) to piece))) (s .player) (from + usedOf p rest) to (heldOf p line rest) (s .table) (text ++ s .text)
-      (le-refl (suc (length (restOf (from + usedOf p rest) to piece)))) (ap (usedUp (s .player)) l ∙ v))
+    turn-done : Done (host Play p from to line table piece coming text)
+    unfolding isOver isRead readOn
+    turn-done = one-more (host Play p from to line table piece coming text) refl step-done
+
+  -- ---- a read
 
   some-tail : (octets : List ℕ) (coming : List (List ℕ)) → every isSome (octets ∷ coming) ≡ true → every isSome coming ≡ true
   unfolding every
@@ -221,34 +253,77 @@ module _ (ends : Bool) (out : List ℕ) (room : roomy out ≡ true) where
   unfolding usedUp
   fresh-piece p octets buffer e = ap (λ (l : List ℕ). eqb (length l) 0 && ready p) (rest-read octets buffer) ∙ rw e
 
-  read-done : (p : Player) (from to : ℕ) (line table piece text octets : List ℕ) (coming : List (List ℕ)) → every isSome (octets ∷ coming) ≡ true
-      → ((p′ : Player) (from′ to′ : ℕ) (line′ table′ text′ : List ℕ) → Done (host Read p′ from′ to′ line′ table′ (over octets piece) coming text′))
+  read-done : (fuel : ℕ) → Goes fuel → (turns : ℕ) (p : Player) (from to : ℕ) (line table piece octets : List ℕ) (coming : List (List ℕ)) (text : List ℕ)
+      → every isSome (octets ∷ coming) ≡ true → 86401 * length recording ≤ turns + suc fuel
+      → Sofar out room recording turns (deckOf p line table) (join (octets ∷ coming))
       → Done (host Read p from to line table piece (octets ∷ coming) text)
-  unfolding isOver isRead readOn readNext
-  read-done p from to line table piece text octets coming e next =
+  unfolding isOver isRead readOn readNext join
+  read-done fuel g turns p from to line table piece octets coming text e m t =
       let buffer = over octets piece in
       let some = some-head octets coming e in
       let c : Course = record { player = p; stage = Read; from = from; to = to } in
-      let l = length (restOf 0 (length octets) buffer) in
       one-more (host Read p from to line table piece (octets ∷ coming) text) refl
       (subst
       (λ (x : Course). Done (goOn out (record { course = x; line = line; table = table; piece = buffer; coming = coming; text = text })))
       (sym (given-some c true (length octets) refl some))
-      (first-turn buffer coming next p 0 (length octets) line table text (fresh-piece p octets piece some)))
+      (step-done fuel g turns p 0 (length octets) line table buffer coming text (some-tail octets coming e) m (fresh-piece p octets piece some)
+      (subst (λ (l : List ℕ). Sofar out room recording turns (deckOf p line table) (l ++ join coming)) (sym (rest-read octets piece)) t)))
 
-  -- piece after piece
-  pieces-done : (coming : List (List ℕ)) → every isSome coming ≡ true → (p : Player) (from to : ℕ) (line table piece text : List ℕ)
-      → Done (host Read p from to line table piece coming text)
-  pieces-done [] e p from to line table piece text = none-done p from to line table piece text
-  pieces-done (octets ∷ coming) e p from to line table piece text =
-      read-done p from to line table piece text octets coming e
-      (λ p′ from′ to′ line′ table′ text′. pieces-done coming (some-tail octets coming e) p′ from′ to′ line′ table′ (over octets piece) text′)
+  -- ---- no turn is left: neither is an octet or a tick
 
-  course-ends : (buffer : List ℕ) (pieces : List (List ℕ)) → every isSome pieces ≡ true → Done (hostOf buffer pieces)
-  unfolding hostOf setOut
-  course-ends buffer pieces e = pieces-done pieces e beginning 0 0 _ _ buffer []
+  no-octet : (turns : ℕ) (p : Player) (line table octets : List ℕ) (coming : List (List ℕ)) → every isSome (octets ∷ coming) ≡ true
+      → 86401 * length recording ≤ turns → Sofar out room recording turns (deckOf p line table) (join (octets ∷ coming)) → ⊥
+  unfolding join
+  no-octet turns p line table octets coming e m t =
+      let all = octets ++ join coming in
+      let z = eqb-true (length all) 0 (and-left (eqb (length all) 0) (ready p) (all-done out room recording turns p line table all m t)) in
+      let some : (length octets ≡ 0) → ⊥ = eqb-false (length octets) 0 (some-head octets coming e) in
+      some (omega (arith, z, length-append octets (join coming)))
+
+  no-turn : (turns : ℕ) (p : Player) (line table rest left : List ℕ) → usedUp p (length rest) ≡ false
+      → 86401 * length recording ≤ turns → Sofar out room recording turns (deckOf p line table) (rest ++ left) → ⊥
+  unfolding usedUp
+  no-turn turns p line table rest left u m t =
+      let done = all-done out room recording turns p line table (rest ++ left) m t in
+      let z = eqb-true (length (rest ++ left)) 0 (and-left (eqb (length (rest ++ left)) 0) (ready p) done) in
+      let n : length rest ≡ 0 = omega (arith, z, length-append rest left) in
+      let r = and-right (eqb (length (rest ++ left)) 0) (ready p) done in
+      true≢false (sym (λ i. (eq-eqb (length rest) 0 n i) && (r i)) ∙ u)
+
+  goes : (fuel : ℕ) → Goes fuel
+  goes zero =
+      record {
+        reads = λ turns p from to line table piece coming text e m t. ending turns p from to line table piece coming text e m t;
+        plays = λ turns p from to line table piece coming text e m u t.
+            absurd (no-turn turns p line table (restOf from to piece) (join coming) u (omega (arith, m)) t);
+      }
+    where
+      ending : (turns : ℕ) (p : Player) (from to : ℕ) (line table piece : List ℕ) (coming : List (List ℕ)) (text : List ℕ)
+          → every isSome coming ≡ true → 86401 * length recording ≤ turns + 0 → Sofar out room recording turns (deckOf p line table) (join coming)
+          → Done (host Read p from to line table piece coming text)
+      ending turns p from to line table piece [] text e m t = none-done p from to line table piece text
+      ending turns p from to line table piece (octets ∷ coming) text e m t =
+          absurd (no-octet turns p line table octets coming e (omega (arith, m)) t)
+  goes (suc fuel) =
+      record {
+        reads = λ turns p from to line table piece coming text e m t. reading (goes fuel) turns p from to line table piece coming text e m t;
+        plays = λ turns p from to line table piece coming text e m u t. turn-done fuel (goes fuel) turns p from to line table piece coming text e m u t;
+      }
+    where
+      reading : Goes fuel → (turns : ℕ) (p : Player) (from to : ℕ) (line table piece : List ℕ) (coming : List (List ℕ)) (text : List ℕ)
+          → every isSome coming ≡ true → 86401 * length recording ≤ turns + suc fuel → Sofar out room recording turns (deckOf p line table) (join coming)
+          → Done (host Read p from to line table piece coming text)
+      reading g turns p from to line table piece [] text e m t = none-done p from to line table piece text
+      reading g turns p from to line table piece (octets ∷ coming) text e m t = read-done fuel g turns p from to line table piece octets coming text e m t
+
+course-ends : (ends : Bool) (out buffer : List ℕ) (pieces : List (List ℕ)) (room : roomy out ≡ true) → every isSome pieces ≡ true
+    → Done ends out room (join pieces) (hostOf buffer pieces)
+unfolding hostOf setOut start drive
+course-ends ends out buffer pieces room e =
+    goes ends out room (join pieces) (86401 * length (join pieces)) .reads 0 beginning 0 0 _ _ buffer pieces [] e (omega arith)
+    (record { lents = []; many = omega arith; text = []; same = refl })
 
 pub every-course-ends : EveryCourseEnds
 every-course-ends ends out buffer pieces room e =
-    let r = course-ends ends out room buffer pieces e in
+    let r = course-ends ends out buffer pieces room e in
     record { steps = r .steps; over = r .over }

@@ -9,7 +9,7 @@ use lib.ListN.{length, take, drop, length-take, length-drop}
 use Rattle.octets.specs.Buffer.{over}
 use Rattle.player.specs.declared.Player.{Player}
 use Rattle.player.specs.declared.Told.{Told}
-use Rattle.player.specs.Player.{Step, roomy, toldOf, turnStep, usedOf, heldOf}
+use Rattle.player.specs.Player.{Step, roomy, toldOf, turnStep, heldOf}
 use Rattle.played.proofs.Turns.{used-within}
 use Rattle.course.specs.declared.Stage.{Stage}
 use Rattle.course.specs.declared.Stage.the-variants.{Read, Play, Close, List as Listing, Over}
@@ -82,17 +82,16 @@ next-done p left e f t = rw (e, f, t)
 -- ---- a turn
 
 -- what a turn says that it used is within the rest
-module _ (s : Step) (p : Player) (r : Told) (rest : List ℕ) where
-  pub used-fits : r ≡ toldOf s (usedOf p rest) → r .used ≤ length rest
+module _ (room : Bool) (p : Player) (line table rest : List ℕ) (r : Told) (e : r ≡ toldOf (turnStep room p line table rest)) where
+  pub used-fits : r .used ≤ length rest
   unfolding toldOf
-  used-fits e = rw e (used-within p rest)
+  used-fits = rw e (used-within room p line table rest)
 
--- the next turn begins within the piece
-module _ (s : Step) (p : Player) (r : Told) (from to : ℕ) (piece rest : List ℕ) where
-  pub from-fits : r ≡ toldOf s (usedOf p rest) → rest ≡ restOf from to piece → r .used ≤ length piece - from
-  from-fits e f =
+  -- the next turn begins within the piece
+  pub from-fits : (from to : ℕ) (piece : List ℕ) → rest ≡ restOf from to piece → r .used ≤ length piece - from
+  from-fits from to piece f =
       let g : length rest ≤ length piece - from = rw f (rest-within from to piece) in
-      omega (arith, g, used-fits s p r rest e)
+      omega (arith, g, used-fits)
 
 -- the course after a turn is as it is told of
 module _ (c : Course) (out line table piece rest : List ℕ) (at : rest ≡ restOf (c .from) (c .to) piece) where
@@ -103,7 +102,7 @@ module _ (c : Course) (out line table piece rest : List ℕ) (at : rest ≡ rest
   unfolding playStep
   on-piece = ap (playOn (roomy out) c line table) at
 
-  pub played-on : (t : Told) → t ≡ toldOf turned (usedOf (c .player) rest)
+  pub played-on : (t : Told) → t ≡ toldOf turned
       → (stage : Stage) → stage ≡ nextStage (t .player) (length rest - t .used)
       → (line′ table′ out′ : List ℕ) → line′ ≡ heldOf (c .player) line rest → table′ ≡ turned .table → out′ ≡ over (turned .text) out
       → (_≡_ {A = Went} (record { course = record { player = t .player; stage = stage; from = c .from + t .used; to = c .to }; written = t .written })
@@ -122,7 +121,7 @@ module _ (c : Course) (out line table piece rest : List ℕ) (at : rest ≡ rest
       )
 
 -- close and listing
-pub ended-by : (c : Course) (s : Step) (stage : Stage) (line table : List ℕ) (t : Told) → t ≡ toldOf s 0
+pub ended-by : (c : Course) (s : Step) (stage : Stage) (line table : List ℕ) (t : Told) → t ≡ toldOf s
     → _≡_ {A = Went} (record { course = record { player = t .player; stage = stage; from = c .from; to = c .to }; written = t .written }) (wentOf (endedBy c s stage line table))
 unfolding toldOf wentOf endedBy
 ended-by c s stage line table t h =

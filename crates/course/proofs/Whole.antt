@@ -1,6 +1,6 @@
--- The theorem about a recording's course: after each step the turns so far are turns on the recording, and the rest of
--- it is what is left of the piece and the pieces to come. Assumes nothing.
-use Prim.Native.Nat.{ℕ, zero, suc, _+_, _-_, _≤_, min}
+-- The theorem about a recording's course: after each step the turns so far are turns on the recording, and the rest of it
+-- is what is left of the piece and the pieces to come. Assumes nothing.
+use Prim.Native.Nat.{ℕ, zero, suc, _+_, _-_, _≤_, _<_, min}
 use native.Mathlib.Omega.{arith}
 use mathlib.Core.Path.{_≡_, refl, sym, ap, subst, _∙_}
 use mathlib.Core.Bool.{Bool, true, false, cond, not, _&&_, _||_, true≢false, false≢true}
@@ -8,14 +8,16 @@ use mathlib.Core.List.{List, [], _∷_, _++_, append-nil, append-assoc}
 use lib.Dec.{eqb}
 use lib.ListN.{length, take, drop, length-append, length-drop, drop-of-length-le}
 use lib.Seq.{take-all, take-append-seam, drop-append-le, drop-drop}
-use borrow.Author.Tests.{eqb-true}
+use borrow.Author.Tests.{eqb-true, le-leb}
 use Rattle.checks.specs.Lists.{every, join}
 use Rattle.checks.proofs.Laws.{and-left, and-right, cond-elim}
 use Rattle.octets.specs.Buffer.{over}
+use Rattle.rows.specs.Storing.{zeros}
+use Rattle.rows.proofs.Laws.{zeros-length}
 use Rattle.player.specs.declared.Player.{Player}
-use Rattle.player.specs.Player.{beginning, roomy, turnStep, usedOf, heldOf, closeStep, finishStep}
+use Rattle.player.specs.Player.{beginning, Step, roomy, lineFits, turnStep, heldOf, closeStep, finishStep}
 use Rattle.played.specs.Output.{outputOf}
-use Rattle.played.specs.Theorem.{Deck, start, stepOn, afterTurn, Driven, writing, drive, isDone, closed, finished, written}
+use Rattle.played.specs.Theorem.{Deck, Lent, start, stepOn, afterTurn, Driven, writing, drive, isDone, closed, finished, written}
 use Rattle.played.proofs.Turns.{used-within}
 use Rattle.played.proofs.Playing.{recordings}
 use Rattle.course.specs.declared.Stage.{Stage}
@@ -28,27 +30,32 @@ use Rattle.course.specs.Theorem.{Host, readNext, readOn, showing, goOn, 
 -- ---- one turn more
 
 -- a turn on so many octets of what is left
-unfoldable onward : ℕ → Driven → Driven
-onward size r =
+unfoldable pub onward : Lent → Driven → Driven
+onward lent r =
     record {
-      deck = afterTurn (r .deck) (take size (r .rest));
-      rest = drop (usedOf (r .deck .player) (take size (r .rest))) (r .rest);
-      text = r .text ++ (stepOn (r .deck) (take size (r .rest))) .text;
+      deck = afterTurn (r .deck) lent (r .rest);
+      rest = drop ((stepOn (r .deck) lent (r .rest)) .used) (r .rest);
+      text = r .text ++ (stepOn (r .deck) lent (r .rest)) .text;
     }
 
 driven-path : (d : Deck) (rest text text′ : List ℕ) → text ≡ text′
     → _≡_ {A = Driven} (record { deck = d; rest = rest; text = text }) (record { deck = d; rest = rest; text = text′ })
 driven-path d rest text text′ e = λ i. record { deck = d; rest = rest; text = e i }
 
-drive-onward : (sizes : List ℕ) (size : ℕ) (d : Deck) (input : List ℕ) → drive (sizes ++ (size ∷ [])) d input ≡ onward size (drive sizes d input)
+pub drive-onward : (lents : List Lent) (lent : Lent) (d : Deck) (input : List ℕ) → drive (lents ++ (lent ∷ [])) d input ≡ onward lent (drive lents d input)
 unfolding drive writing onward
-drive-onward [] size d input =
-    driven-path (afterTurn d (take size input)) (drop (usedOf (d .player) (take size input)) input) _ _ (append-nil ((stepOn d (take size input)) .text))
-drive-onward (n ∷ sizes) size d input =
-    let r = drive sizes (afterTurn d (take n input)) (drop (usedOf (d .player) (take n input)) input) in
-    let said = (stepOn d (take n input)) .text in
-    ap (writing said) (drive-onward sizes size (afterTurn d (take n input)) (drop (usedOf (d .player) (take n input)) input))
-    ∙ driven-path _ _ _ _ (sym (append-assoc said (r .text) ((stepOn (r .deck) (take size (r .rest))) .text)))
+drive-onward [] lent d input =
+    driven-path (afterTurn d lent input) (drop ((stepOn d lent input) .used) input) _ _ (append-nil ((stepOn d lent input) .text))
+drive-onward (l ∷ lents) lent d input =
+    let r = drive lents (afterTurn d l input) (drop ((stepOn d l input) .used) input) in
+    let said = (stepOn d l input) .text in
+    ap (writing said) (drive-onward lents lent (afterTurn d l input) (drop ((stepOn d l input) .used) input))
+    ∙ driven-path _ _ _ _ (sym (append-assoc said (r .text) ((stepOn (r .deck) lent (r .rest)) .text)))
+
+-- a line buffer of the program
+pub zeros-fit : lineFits (zeros 4118) ≡ true
+unfolding lineFits
+zeros-fit = le-leb 4118 (length (zeros 4118)) (omega (arith, zeros-length 4118))
 
 -- ---- the rest of a piece
 
@@ -92,8 +99,8 @@ deckOf p line table = record { player = p; line = line; table = table }
 module _ (ends : Bool) (recording : List ℕ) where
   -- the turns so far
   record Sofar (d : Deck) (rest text : List ℕ) : Type 0 where
-    sizes : List ℕ
-    same : drive sizes start recording ≡ record { deck = d; rest = rest; text = text }
+    lents : List Lent
+    same : drive lents (start (zeros 4118)) recording ≡ record { deck = d; rest = rest; text = text }
 
   -- close was made behind the last turn
   record Closed (p : Player) (table text : List ℕ) : Type 0 where
@@ -107,7 +114,7 @@ module _ (ends : Bool) (recording : List ℕ) where
 
   -- all was said
   record Said (text : List ℕ) : Type 0 where
-    whole : ends ≡ true → text ≡ outputOf recording
+    whole : length recording < 18446744073709551616 → ends ≡ true → text ≡ outputOf recording
     unlisted : ends ≡ false → Unlisted recording text
 
   -- at each stage
@@ -142,9 +149,9 @@ module _ (ends : Bool) (recording : List ℕ) where
     no-more-given true e s = (s .0, (s .1 .0, e))
     no-more-given false e s =
         record {
-          whole = λ k. absurd (false≢true (sym e ∙ k));
+          whole = λ few k. absurd (false≢true (sym e ∙ k));
           unlisted = λ k. record {
-            sizes = s .0 .sizes;
+            lents = s .0 .lents;
             done = ap isDone (s .0 .same) ∙ s .1 .0;
             same = sym (ap (λ (r : Driven). r .text) (s .0 .same));
           };
@@ -166,7 +173,7 @@ module _ (ends : Bool) (recording : List ℕ) where
         go false e k =
             subst (λ (x : Course). Stands (given x)) (sym (given-some c true (length octets) refl e)) (
               record {
-                sizes = s .0 .sizes;
+                lents = s .0 .lents;
                 same = s .0 .same
                     ∙ (λ i. record { deck = deckOf p line table; rest = (sym (rest-read octets piece) i) ++ join coming; text = text });
               },
@@ -192,69 +199,68 @@ module _ (ends : Bool) (recording : List ℕ) where
     abbrev d : Deck
     d = deckOf p line table
 
-    abbrev used : ℕ
-    used = usedOf p rest
-
     abbrev course : Stage → Course
     course stage = record { player = p; stage = stage; from = from; to = to }
 
-    one-more : Sofar d (rest ++ join coming) text → Sofar (afterTurn d rest) (drop used rest ++ join coming) (text ++ (stepOn d rest) .text)
-    unfolding onward
-    one-more s =
-        record {
-          sizes = s .sizes ++ (length rest ∷ []);
-          same = drive-onward (s .sizes) (length rest) start recording ∙ ap (onward (length rest)) (s .same)
-              ∙ (λ i. record {
-                deck = afterTurn d (take-append-seam rest (join coming) i);
-                rest = drop (usedOf p (take-append-seam rest (join coming) i)) (rest ++ join coming);
-                text = text ++ (stepOn d (take-append-seam rest (join coming) i)) .text;
-              })
-              ∙ (λ i. record {
-                deck = afterTurn d rest;
-                rest = drop-append-le used rest (join coming) (used-within p rest) i;
-                text = text ++ (stepOn d rest) .text;
-              });
-        }
+    module _ (out : List ℕ) where
+      abbrev s : Step
+      s = turnStep (roomy out) p line table rest
 
-    -- the piece is used up
-    none-left : Sofar (afterTurn d rest) (drop used rest ++ join coming) (text ++ (stepOn d rest) .text) → length rest - used ≡ 0
-        → Sofar (afterTurn d rest) (join coming) (text ++ (stepOn d rest) .text)
-    none-left s z =
-        let k : length rest ≤ used = omega (arith, z) in
-        record {
-          sizes = s .sizes;
-          same = s .same
-              ∙ (λ i. record { deck = afterTurn d rest; rest = (drop-of-length-le rest k i) ++ join coming; text = text ++ (stepOn d rest) .text });
-        }
+      abbrev after : Deck
+      after = record { player = s .player; line = heldOf p line rest; table = s .table }
 
-    some-left : Sofar (afterTurn d rest) (drop used rest ++ join coming) (text ++ (stepOn d rest) .text)
-        → Sofar (afterTurn d rest) (restOf (from + used) to piece ++ join coming) (text ++ (stepOn d rest) .text)
-    some-left s =
-        record {
-          sizes = s .sizes;
-          same = s .same
-              ∙ (λ i. record {
-                deck = afterTurn d rest;
-                rest = (sym (rest-on from to used piece) i) ++ join coming;
-                text = text ++ (stepOn d rest) .text;
-              });
-        }
+      one-more : Sofar d (rest ++ join coming) text → Sofar after (drop (s .used) rest ++ join coming) (text ++ s .text)
+      unfolding onward afterTurn stepOn
+      one-more t =
+          let q = take-append-seam rest (join coming) in
+          record {
+            lents = t .lents ++ (record { size = length rest; out = out } ∷ []);
+            same = drive-onward (t .lents) (record { size = length rest; out = out }) (start (zeros 4118)) recording
+                ∙ ap (onward (record { size = length rest; out = out })) (t .same)
+                ∙ (λ i. record {
+                  deck = record {
+                    player = (turnStep (roomy out) p line table (q i)) .player;
+                    line = heldOf p line (q i);
+                    table = (turnStep (roomy out) p line table (q i)) .table;
+                  };
+                  rest = drop ((turnStep (roomy out) p line table (q i)) .used) (rest ++ join coming);
+                  text = text ++ (turnStep (roomy out) p line table (q i)) .text;
+                })
+                ∙ (λ i. record {
+                  deck = after;
+                  rest = drop-append-le (s .used) rest (join coming) (used-within (roomy out) p line table rest) i;
+                  text = text ++ s .text;
+                });
+          }
 
-    play-step : At Play p from to line table piece coming text
-        → Stands (showing (host Play p from to line table piece coming text) (playOn true (course Play) line table rest))
-    unfolding showing wroteOf playOn turnedTo nextStage usedUp stepOn afterTurn
-    play-step s = go (eqb (length rest - used) 0 && ready next) refl
-      where
-        next : Player
-        next = (turnStep true p line table rest) .player
+      -- the piece is used up
+      none-left : Sofar after (drop (s .used) rest ++ join coming) (text ++ s .text) → length rest - s .used ≡ 0 → Sofar after (join coming) (text ++ s .text)
+      none-left t z =
+          let k : length rest ≤ s .used = omega (arith, z) in
+          record {
+            lents = t .lents;
+            same = t .same ∙ (λ i. record { deck = after; rest = (drop-of-length-le rest k i) ++ join coming; text = text ++ s .text });
+          }
 
-        go : (b : Bool) → (eqb (length rest - used) 0 && ready next) ≡ b
-            → At (cond b Read Play) next (from + used) to (heldOf p line rest) ((turnStep true p line table rest) .table) piece coming (text ++ (turnStep true p line table rest) .text)
-        go true e = (
-          none-left (one-more (s .0)) (eqb-true (length rest - used) 0 (and-left (eqb (length rest - used) 0) (ready next) e)),
-          (and-right (eqb (length rest - used) 0) (ready next) e, s .1),
-        )
-        go false e = (some-left (one-more (s .0)), s .1)
+      some-left : Sofar after (drop (s .used) rest ++ join coming) (text ++ s .text) → Sofar after (restOf (from + s .used) to piece ++ join coming) (text ++ s .text)
+      some-left t =
+          record {
+            lents = t .lents;
+            same = t .same ∙ (λ i. record { deck = after; rest = (sym (rest-on from to (s .used) piece) i) ++ join coming; text = text ++ s .text });
+          }
+
+      play-step : At Play p from to line table piece coming text
+          → Stands (showing (host Play p from to line table piece coming text) (playOn (roomy out) (course Play) line table rest))
+      unfolding showing wroteOf playOn turnedTo nextStage usedUp
+      play-step t = go (eqb (length rest - s .used) 0 && ready (s .player)) refl
+        where
+          go : (b : Bool) → (eqb (length rest - s .used) 0 && ready (s .player)) ≡ b
+              → At (cond b Read Play) (s .player) (from + s .used) to (heldOf p line rest) (s .table) piece coming (text ++ s .text)
+          go true e = (
+            none-left (one-more (t .0)) (eqb-true (length rest - s .used) 0 (and-left (eqb (length rest - s .used) 0) (ready (s .player)) e)),
+            (and-right (eqb (length rest - s .used) 0) (ready (s .player)) e, t .1),
+          )
+          go false e = (some-left (one-more (t .0)), t .1)
 
     close-step : At Close p from to line table piece coming text
         → Stands (showing (host Close p from to line table piece coming text) (endedBy (course Close) (closeStep true p table) Listing line table))
@@ -270,11 +276,11 @@ module _ (ends : Bool) (recording : List ℕ) where
         let r = k .sofar in
         let last = (finished out (k .deck)) .text in
         record {
-          whole = λ e.
+          whole = λ few e.
               (λ i. (k .text-as i) ++ (finishStep out (k .player i) (k .table-as i)) .text)
               ∙ append-assoc (k .before) ((closed (k .deck)) .text) last
               ∙ ap (written out) (sym (r .same))
-              ∙ recordings .played recording (r .sizes) (ap isDone (r .same) ∙ k .none) .output out room;
+              ∙ recordings .played (zeros 4118) recording (r .lents) zeros-fit (ap isDone (r .same) ∙ k .none) .output few out room;
           unlisted = λ e. absurd (true≢false (sym (s .1) ∙ e));
         }
 
@@ -290,10 +296,7 @@ module _ (ends : Bool) (recording : List ℕ) where
         → At stage p from to line table piece coming text → Stands (goOn out (host stage p from to line table piece coming text))
     unfolding goOn courseStep courseAt playStep closeOn listOn
     step-kept Read p from to line table piece coming text s = still Read p from to line table piece coming text s
-    step-kept Play p from to line table piece coming text s =
-        subst
-        (λ (b : Bool). Stands (showing (host Play p from to line table piece coming text) (playOn b (record { player = p; stage = Play; from = from; to = to }) line table (restOf from to piece))))
-        (sym room) (play-step p from to line table piece coming text s)
+    step-kept Play p from to line table piece coming text s = play-step p from to line table piece coming text out s
     step-kept Close p from to line table piece coming text s =
         subst
         (λ (b : Bool). Stands (showing (host Close p from to line table piece coming text) (endedBy (record { player = p; stage = Close; from = from; to = to }) (closeStep b p table) Listing line table)))
@@ -326,7 +329,7 @@ module _ (ends : Bool) (recording : List ℕ) where
 -- before the first read
 set-out : (ends : Bool) (buffer : List ℕ) (pieces : List (List ℕ)) → every isSome pieces ≡ true → Stands ends (join pieces) (hostOf buffer pieces)
 unfolding hostOf setOut start drive beginning
-set-out ends buffer pieces e = (record { sizes = []; same = refl }, (refl, e))
+set-out ends buffer pieces e = (record { lents = []; same = refl }, (refl, e))
 
 module _ (ends : Bool) (pieces outs : List (List ℕ)) (buffer : List ℕ) (some : every isSome pieces ≡ true) (room : every roomy outs ≡ true) where
   abbrev h : Host
@@ -340,6 +343,6 @@ module _ (ends : Bool) (pieces outs : List (List ℕ)) (buffer : List ℕ) (some
 pub courses : Courses
 courses =
     record {
-      ended = λ pieces outs buffer some room e. said true pieces outs buffer some room e .whole refl;
+      ended = λ pieces outs buffer few some room e. said true pieces outs buffer some room e .whole few refl;
       failed = λ pieces outs buffer some room e. said false pieces outs buffer some room e .unlisted refl;
     }

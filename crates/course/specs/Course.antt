@@ -6,7 +6,7 @@ use mathlib.Core.List.{List, []}
 use lib.Dec.{eqb}
 use lib.ListN.{length, take, drop}
 use Rattle.player.specs.declared.Player.{Player}
-use Rattle.player.specs.Player.{beginning, Step, roomy, turnStep, usedOf, heldOf, closeStep, finishStep}
+use Rattle.player.specs.Player.{beginning, Step, roomy, turnStep, heldOf, closeStep, finishStep}
 use Rattle.course.specs.declared.Stage.{Stage}
 use Rattle.course.specs.declared.Stage.the-variants.{Read, Play, Close, List as Listing, Over}
 use Rattle.course.specs.declared.Course.{Course}
@@ -70,11 +70,11 @@ usedUp p left = eqb left 0 && (p .broken || eqb (p .ticks) 0)
 unfoldable pub nextStage : Player → ℕ → Stage
 nextStage p left = cond (usedUp p left) Read Play
 
--- after a turn that used so many octets of the rest
-unfoldable pub turnedTo : Course → Step → ℕ → List ℕ → List ℕ → Stepped
-turnedTo c s used line rest =
+-- after a turn on the rest
+unfoldable pub turnedTo : Course → Step → List ℕ → List ℕ → Stepped
+turnedTo c s line rest =
     record {
-      course = record { player = s .player; stage = nextStage (s .player) (length rest - used); from = c .from + used; to = c .to };
+      course = record { player = s .player; stage = nextStage (s .player) (length rest - s .used); from = c .from + s .used; to = c .to };
       line = line;
       table = s .table;
       text = s .text;
@@ -83,7 +83,7 @@ turnedTo c s used line rest =
 -- a turn
 unfoldable pub playOn : Bool → Course → List ℕ → List ℕ → List ℕ → Stepped
 playOn room c line table rest =
-    turnedTo c (turnStep room (c .player) line table rest) (usedOf (c .player) rest) (heldOf (c .player) line rest) rest
+    turnedTo c (turnStep room (c .player) line table rest) (heldOf (c .player) line rest) rest
 
 unfoldable pub playStep : List ℕ → Course → List ℕ → List ℕ → List ℕ → Stepped
 playStep out c line table piece = playOn (roomy out) c line table (restOf (c .from) (c .to) piece)

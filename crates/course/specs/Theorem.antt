@@ -1,6 +1,6 @@
 -- The theorem about a recording's course: the loop of the program, whatever pieces its reads give, writes what the
 -- recording says; and nothing of the end where a read fails.
-use Prim.Native.Nat.{ℕ}
+use Prim.Native.Nat.{ℕ, _<_}
 use mathlib.Core.Path.{_≡_}
 use mathlib.Core.Bool.{Bool, true, false, cond, not}
 use mathlib.Core.List.{List, [], _∷_, _++_}
@@ -12,7 +12,7 @@ use Rattle.rows.specs.Storing.{zeros}
 use Rattle.model.specs.Theorem.{emptyTable}
 use Rattle.player.specs.Player.{roomy}
 use Rattle.played.specs.Output.{outputOf}
-use Rattle.played.specs.Theorem.{start, drive, isDone}
+use Rattle.played.specs.Theorem.{Lent, start, drive, isDone}
 use Rattle.course.specs.declared.Course.{Course}
 use Rattle.course.specs.Course.{isRead, isOver, setOut, givenOf, wroteOf, Stepped, courseStep}
 
@@ -70,14 +70,15 @@ isSome octets = not (eqb (length octets) 0)
 
 -- what the player's turns write, once nothing of the recording is left and no tick is due; neither close nor listing
 pub record Unlisted (recording text : List ℕ) : Type 0 where
-  pub sizes : List ℕ
-  pub done : isDone (drive sizes start recording) ≡ true
-  pub same : text ≡ (drive sizes start recording) .text
+  pub lents : List Lent
+  pub done : isDone (drive lents (start (zeros 4118)) recording) ≡ true
+  pub same : text ≡ (drive lents (start (zeros 4118)) recording) .text
 
 pub record Courses : Type 0 where
-  -- the recording was read to its end: what it should write was written, all of it
+  -- the recording was read to its end: what it should write was written, all of it; lines are counted in 64 bits
   pub ended :
-      (pieces outs : List (List ℕ)) (buffer : List ℕ) → every isSome pieces ≡ true → every roomy outs ≡ true
+      (pieces outs : List (List ℕ)) (buffer : List ℕ) → length (join pieces) < 18446744073709551616
+      → every isSome pieces ≡ true → every roomy outs ≡ true
       → isOver ((playAll true outs (hostOf buffer pieces)) .course .stage) ≡ true
       → (playAll true outs (hostOf buffer pieces)) .text ≡ outputOf (join pieces)
   -- a read failed

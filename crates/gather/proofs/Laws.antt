@@ -4,9 +4,9 @@ use native.Mathlib.Numerals.{add-one}
 use native.Mathlib.Omega.{arith}
 use mathlib.Core.Path.{_≡_, refl, sym, ap, _∙_}
 use mathlib.Core.Bool.{true, false}
-use mathlib.Core.List.{List}
-use lib.ListN.{length, drop, set, getD, length-set, drop-of-length-le}
-use lib.Seq.{drop-cons}
+use mathlib.Core.List.{List, _++_, append-nil}
+use lib.ListN.{length, take, drop, set, getD, length-set, drop-of-length-le}
+use lib.Seq.{drop-cons, sets, sets-eq, length-take-le}
 use borrow.Author.Tests.{eq-eqb, ne-eqb}
 use Rattle.gather.specs.declared.Gathered.{Gathered}
 use Rattle.gather.specs.Gathering.{longer, gathered, lineAfter}
@@ -51,3 +51,20 @@ module _ {old : List ℕ} {held : ℕ} {input line : List ℕ} {size used : ℕ}
   pub used-up : length input ≤ used → Answered old held input record { used = used; held = size; ended = false } line
   unfolding gathered lineAfter
   used-up h = (sym (g .answer ∙ rw (drop-of-length-le input h)), sym (g .buffer ∙ rw (drop-of-length-le input h)))
+
+-- ---- put together outside the lent buffer
+
+-- the front of a buffer that has room for the longest line, copied over another of that size
+module _ (line whole : List ℕ) (h : 4118 ≤ length line) (k : length whole ≡ 4118) where
+  pub front-fits : 0 + length (take 4118 line) ≤ length whole
+  front-fits = omega (arith, length-take-le 4118 line h)
+
+  front-copied : sets whole 0 (take 4118 line) ≡ take 4118 line
+  front-copied =
+      let n : length (take 4118 line) ≡ 4118 = length-take-le 4118 line h in
+      let e : length whole ≤ 0 + length (take 4118 line) = omega arith in
+      sets-eq (take 4118 line) whole 0 front-fits ∙ ap (λ (r : List ℕ). take 4118 line ++ r) (drop-of-length-le whole e) ∙ append-nil (take 4118 line)
+
+  pub joined : (held : ℕ) (input copied new : List ℕ) → copied ≡ sets whole 0 (take 4118 line) → new ≡ lineAfter held copied input
+      → new ≡ lineAfter held (take 4118 line) input
+  joined held input copied new e f = f ∙ ap (λ (l : List ℕ). lineAfter held l input) (e ∙ front-copied)

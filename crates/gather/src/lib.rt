@@ -1,6 +1,7 @@
 // A recording comes in pieces of any size: the octets of one line are gathered in a lent buffer until octet 10 ends it.
 ghost use mathlib.Core.Path.{_≡_};
-ghost use lib.ListN.{set};
+ghost use Prim.Native.Nat.{_≤_};
+ghost use lib.ListN.{set, take, length};
 ghost use Rattle.gather.specs.Gathering.{longer, gathered, lineAfter, lineHeld};
 
 // One octet more than the longest good line has: a line that fills it is bad, whatever follows.
@@ -57,6 +58,16 @@ pub fn gather(line: &mut [u8], held: u16, input: &[u8]) -> Gathered
         held: size,
         ended: false,
     }
+}
+
+// Puts a line together outside the lent buffer, which stays as it is: what was held of it, and the octets of a piece.
+pub fn join_piece(whole: &mut [u8], line: &[u8], held: u16, input: &[u8]) -> Gathered
+    requires { ⌜ (4118 ≤ length (now line)) × (length (now whole) ≡ 4118) ⌝ }
+    ensures { λ r. ⌜ r ≡ gathered 0 held (now (input .entry)) ⌝ }
+    ensures { λ _. ⌜ now (whole .exit) ≡ lineAfter held (take 4118 (now (line .entry))) (now (input .entry)) ⌝ }
+{
+    storing::put(whole, 0, &line[..4118]);
+    gather(whole, held, input)
 }
 
 // The line that is held; where the buffer was too short for it, an empty one, which is bad.

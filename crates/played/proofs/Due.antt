@@ -12,7 +12,8 @@ use Rattle.model.specs.Model as M
 use Rattle.model.specs.Theorem.{Gateway, gatewayStep, gatewayFrom, run}
 use Rattle.calling.specs.Told.{callText, on}
 use Rattle.player.specs.declared.Player.{Player}
-use Rattle.played.specs.Output.{Line, eventIn, Opening, broken, opened, fromNet, fromCapability, fromOwn, openingOf, ticks, callsOf, goodCalls, callsTold, eventTold, toldFrom, toldText, eventsText, listed, openingText}
+use Rattle.played.specs.Output.{Line, eventIn, Opening, broken, opened, fromNet, fromCapability, fromOwn, openingOf, ticks, callsOf, goodCalls}
+use Rattle.played.proofs.ByCalls.{callsTold, eventTold, toldFrom, toldText, eventsText, listed, openingText}
 use Rattle.played.proofs.Laws.{join-append, run-append}
 
 -- ---- what is to be written, and the end

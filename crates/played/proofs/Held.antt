@@ -1,4 +1,5 @@
--- The line that is coming in: the lent buffer holds its first 4,118 octets, however it is cut into pieces. Assumes nothing.
+-- The line that is coming in: the lent buffer holds its first 4,118 octets, however it is cut into pieces. Assumes
+-- nothing.
 use Prim.Native.Nat.{ℕ, suc, _+_, _≤_, _<_, min, zero-le, suc-le-suc}
 use native.Mathlib.Nat.{le-refl}
 use native.Mathlib.Omega.{arith}
@@ -7,7 +8,7 @@ use mathlib.Core.Bool.{Bool, true, false, cond}
 use mathlib.Core.List.{List, [], _∷_, _++_}
 use lib.Dec.{ltb, eqb}
 use lib.ListN.{length, take, drop, set, length-append, length-set}
-use lib.Seq.{take-all, take-append-le, take-suc-set, set-out}
+use lib.Seq.{take-all, take-append-le, take-suc-set, take-set-le, take-take, length-take-le}
 use borrow.Author.Tests.{ltb-true, ltb-false, le-leb}
 use Rattle.checks.proofs.Laws.{cond-elim}
 use Rattle.gather.specs.declared.Gathered.{Gathered}
@@ -83,19 +84,19 @@ lines-after held count (octet ∷ rest) left = go (eqb octet 10) refl (lines-aft
 -- ---- what the buffer holds
 
 pub record Holds (held : List ℕ) (count : ℕ) (buffer : List ℕ) : Type 0 where
-  pub room : length buffer ≡ 4118
+  pub room : 4118 ≤ length buffer
   pub counted : count ≡ min (length held) 4118
   pub front : take count buffer ≡ take 4118 held
 
-pub holds-none : (buffer : List ℕ) → length buffer ≡ 4118 → Holds [] 0 buffer
+pub holds-none : (buffer : List ℕ) → 4118 ≤ length buffer → Holds [] 0 buffer
 holds-none buffer h = record { room = h; counted = refl; front = refl }
 
 module _ (held : List ℕ) (octet count : ℕ) (buffer : List ℕ) (h : Holds held count buffer) where
   one-longer : length (held ++ (octet ∷ [])) ≡ length held + 1
   one-longer = length-append held (octet ∷ [])
 
-  holds-room : length (set buffer count octet) ≡ 4118
-  holds-room = length-set buffer count octet ∙ h .room
+  holds-room : 4118 ≤ length (set buffer count octet)
+  holds-room = omega (arith, length-set buffer count octet, h .room)
 
   -- there is room for one more
   short-front : count < 4118 → take (suc count) (set buffer count octet) ≡ take 4118 (held ++ (octet ∷ []))
@@ -106,7 +107,7 @@ module _ (held : List ℕ) (octet count : ℕ) (buffer : List ℕ) (h : Holds he
   -- there is none, and what is behind does not matter
   long-front : 4118 ≤ count → take count (set buffer count octet) ≡ take 4118 (held ++ (octet ∷ []))
   long-front k =
-      ap (take count) (set-out buffer count octet (omega (arith, h .room))) ∙ h .front
+      take-set-le count buffer count octet (le-refl count) ∙ h .front
       ∙ sym (take-append-le 4118 held (octet ∷ []) (omega (arith, h .counted)))
 
   holds-longer : Holds (held ++ (octet ∷ [])) (longer count) (set buffer count octet)
@@ -141,3 +142,12 @@ holds-piece held count buffer (octet ∷ rest) h =
 pub holds-line : (held : List ℕ) (count : ℕ) (buffer : List ℕ) → Holds held count buffer → lineHeld count buffer ≡ take 4118 held
 unfolding lineHeld
 holds-line held count buffer h = rw (le-leb count (length buffer) (omega (arith, h .room, h .counted))) (h .front)
+
+-- its front is enough
+pub holds-front : (held : List ℕ) (count : ℕ) (buffer : List ℕ) → Holds held count buffer → Holds held count (take 4118 buffer)
+holds-front held count buffer h =
+    record {
+      room = omega (arith, length-take-le 4118 buffer (h .room));
+      counted = h .counted;
+      front = take-take count 4118 buffer (omega (arith, h .counted)) ∙ h .front;
+    }

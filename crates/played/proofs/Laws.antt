@@ -9,7 +9,7 @@ use lib.Seq.{drop-append-le}
 use Rattle.checks.specs.Lists.{every, join}
 use Rattle.checks.proofs.Laws.{and-left, and-right, and-both}
 use Rattle.model.specs.Model as M
-use Rattle.model.specs.Theorem.{Gateway, Seen, seenOf, seenFrom, gatewayStep, gatewayFrom}
+use Rattle.model.specs.Theorem.{Gateway, gatewayStep, gatewayFrom}
 
 -- ---- lists
 
@@ -43,7 +43,7 @@ unfolding gatewayFrom
 run-append b [] more = refl
 run-append b (call ∷ calls) more = run-append (gatewayStep call b) calls more
 
-pub seen-append : (b : Gateway) (calls more : List M.Call) → seenFrom b (calls ++ more) ≡ seenFrom b calls ++ seenFrom (gatewayFrom b calls) more
-unfolding gatewayFrom seenFrom
-seen-append b [] more = refl
-seen-append b (call ∷ calls) more = ap (λ (r : List Seen). seenOf call b ∷ r) (seen-append (gatewayStep call b) calls more)
+pub said-append : (m : M.Model) (calls more : List M.Call) → M.saidFrom m (calls ++ more) ≡ M.saidFrom m calls ++ M.saidFrom (M.modelFrom m calls) more
+unfolding M.modelFrom M.saidFrom
+said-append m [] more = refl
+said-append m (call ∷ calls) more = ap (λ (r : List M.Said). (M.step call m) .said ∷ r) (said-append ((M.step call m) .model) calls more)

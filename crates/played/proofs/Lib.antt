@@ -1,4 +1,5 @@
 pub mod Laws
+pub mod ByCalls
 pub mod Lines
 pub mod OneByOne
 pub mod Held
@@ -7,6 +8,10 @@ pub mod Due
 pub mod LineEnds
 pub mod Turns
 pub mod Listed
+pub mod ByModel
 pub mod Playing
+pub mod Refused
 pub mod Ends
+pub mod Unfolded
 pub mod Cases
+pub mod Answers

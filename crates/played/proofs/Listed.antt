@@ -20,7 +20,7 @@ use Rattle.model.specs.Theorem.{Gateway, outcomeOf, bufferAfter, seenOf}
 use Rattle.calling.specs.Told.{on}
 use Rattle.player.specs.declared.Player.{Player}
 use Rattle.player.specs.Player.{Step, roomy, listedIn, quietStep, finishStep}
-use Rattle.played.specs.Output.{listed}
+use Rattle.played.proofs.ByCalls.{listed}
 
 -- the text, where the call is carried out
 told-in : (carried : Bool) (answer : ℕ) (st : State) (text out : List ℕ)

@@ -11,13 +11,12 @@ use Rattle.neighbour.specs.declared.Settings.{Settings}
 use Rattle.recording.specs.Lines.{Event, bad, add, remove, start, stop, tick, rx, eventOf}
 use Rattle.recording.specs.Claims.{isAddress, inRange, isGood}
 use Rattle.recording.proofs.Events.{events}
-use Rattle.bad_line.specs.BadLine.{oneMore}
 use Rattle.model.specs.Model as M
-use Rattle.model.specs.Theorem.{Gateway, Seen, seenOf, seenFrom, gatewayStep, gatewayFrom, begun, seenBy, carriesOctets}
+use Rattle.model.specs.Theorem.{carriesOctets}
 use Rattle.model.proofs.Theorem.{list-of-calls}
 use Rattle.played.specs.Output.{Line, ended, unended, eventIn, ticks, callsOf, goodCalls, Told, badLine, called, callsTold, eventTold, toldFrom}
-use Rattle.played.specs.Theorem.{callsIn, seenIn, OneByOne}
-use Rattle.played.proofs.Laws.{every-append, seen-append}
+use Rattle.played.specs.Theorem.{callsIn, saidIn, OneByOne}
+use Rattle.played.proofs.Laws.{every-append, said-append}
 
 -- ---- the calls told of
 
@@ -25,61 +24,61 @@ calls-append : (l m : List Told) → callsIn (l ++ m) ≡ callsIn l ++ callsIn m
 unfolding callsIn
 calls-append [] m = refl
 calls-append (badLine number ∷ l) m = calls-append l m
-calls-append (called call seen ∷ l) m = ap (λ (r : List M.Call). call ∷ r) (calls-append l m)
+calls-append (called call said ∷ l) m = ap (λ (r : List M.Call). call ∷ r) (calls-append l m)
 
-calls-told : (b : Gateway) (calls : List M.Call) → callsIn (callsTold b calls) ≡ calls
+calls-told : (m : M.Model) (calls : List M.Call) → callsIn (callsTold m calls) ≡ calls
 unfolding callsIn callsTold
-calls-told b [] = refl
-calls-told b (call ∷ calls) = ap (λ (r : List M.Call). call ∷ r) (calls-told (gatewayStep call b) calls)
+calls-told m [] = refl
+calls-told m (call ∷ calls) = ap (λ (r : List M.Call). call ∷ r) (calls-told ((M.step call m) .model) calls)
 
-event-calls : (number : ℕ) (b : Gateway) (e : Event) → callsIn (eventTold number b e) ≡ callsOf e
+event-calls : (number : ℕ) (m : M.Model) (e : Event) → callsIn (eventTold number m e) ≡ callsOf e
 unfolding eventTold callsIn callsOf
-event-calls number b bad = refl
-event-calls number b (add a asn) = calls-told b (callsOf (add a asn))
-event-calls number b (remove a) = calls-told b (callsOf (remove a))
-event-calls number b (start a) = calls-told b (callsOf (start a))
-event-calls number b (stop a) = calls-told b (callsOf (stop a))
-event-calls number b (tick a count) = calls-told b (callsOf (tick a count))
-event-calls number b (rx a octets) = calls-told b (callsOf (rx a octets))
+event-calls number m bad = refl
+event-calls number m (add a asn) = calls-told m (callsOf (add a asn))
+event-calls number m (remove a) = calls-told m (callsOf (remove a))
+event-calls number m (start a) = calls-told m (callsOf (start a))
+event-calls number m (stop a) = calls-told m (callsOf (stop a))
+event-calls number m (tick a count) = calls-told m (callsOf (tick a count))
+event-calls number m (rx a octets) = calls-told m (callsOf (rx a octets))
 
-from-calls : (count : ℕ) (b : Gateway) (l : List Line) → callsIn (toldFrom count b l) ≡ goodCalls l
+from-calls : (count : ℕ) (m : M.Model) (l : List Line) → callsIn (toldFrom count m l) ≡ goodCalls l
 unfolding toldFrom goodCalls callsIn
-from-calls count b [] = refl
-from-calls count b (line ∷ l) =
-    calls-append (eventTold (oneMore count) b (eventIn line)) (toldFrom (oneMore count) (gatewayFrom b (callsOf (eventIn line))) l)
-    ∙ rw (event-calls (oneMore count) b (eventIn line))
-    (ap (λ (r : List M.Call). callsOf (eventIn line) ++ r) (from-calls (oneMore count) (gatewayFrom b (callsOf (eventIn line))) l))
+from-calls count m [] = refl
+from-calls count m (line ∷ l) =
+    calls-append (eventTold (suc count) m (eventIn line)) (toldFrom (suc count) (M.modelFrom m (callsOf (eventIn line))) l)
+    ∙ rw (event-calls (suc count) m (eventIn line))
+    (ap (λ (r : List M.Call). callsOf (eventIn line) ++ r) (from-calls (suc count) (M.modelFrom m (callsOf (eventIn line))) l))
 
 -- ---- what is seen of them
 
-seen-told-append : (l m : List Told) → seenIn (l ++ m) ≡ seenIn l ++ seenIn m
-unfolding seenIn
+seen-told-append : (l m : List Told) → saidIn (l ++ m) ≡ saidIn l ++ saidIn m
+unfolding saidIn
 seen-told-append [] m = refl
 seen-told-append (badLine number ∷ l) m = seen-told-append l m
-seen-told-append (called call seen ∷ l) m = ap (λ (r : List Seen). seen ∷ r) (seen-told-append l m)
+seen-told-append (called call said ∷ l) m = ap (λ (r : List M.Said). said ∷ r) (seen-told-append l m)
 
-seen-told : (b : Gateway) (calls : List M.Call) → seenIn (callsTold b calls) ≡ seenFrom b calls
-unfolding seenIn callsTold seenFrom
-seen-told b [] = refl
-seen-told b (call ∷ calls) = ap (λ (r : List Seen). seenOf call b ∷ r) (seen-told (gatewayStep call b) calls)
+seen-told : (m : M.Model) (calls : List M.Call) → saidIn (callsTold m calls) ≡ M.saidFrom m calls
+unfolding saidIn callsTold M.saidFrom
+seen-told m [] = refl
+seen-told m (call ∷ calls) = ap (λ (r : List M.Said). (M.step call m) .said ∷ r) (seen-told ((M.step call m) .model) calls)
 
-event-seen : (number : ℕ) (b : Gateway) (e : Event) → seenIn (eventTold number b e) ≡ seenFrom b (callsOf e)
-unfolding eventTold seenIn callsOf seenFrom
-event-seen number b bad = refl
-event-seen number b (add a asn) = seen-told b (callsOf (add a asn))
-event-seen number b (remove a) = seen-told b (callsOf (remove a))
-event-seen number b (start a) = seen-told b (callsOf (start a))
-event-seen number b (stop a) = seen-told b (callsOf (stop a))
-event-seen number b (tick a count) = seen-told b (callsOf (tick a count))
-event-seen number b (rx a octets) = seen-told b (callsOf (rx a octets))
+event-seen : (number : ℕ) (m : M.Model) (e : Event) → saidIn (eventTold number m e) ≡ M.saidFrom m (callsOf e)
+unfolding eventTold saidIn callsOf M.saidFrom
+event-seen number m bad = refl
+event-seen number m (add a asn) = seen-told m (callsOf (add a asn))
+event-seen number m (remove a) = seen-told m (callsOf (remove a))
+event-seen number m (start a) = seen-told m (callsOf (start a))
+event-seen number m (stop a) = seen-told m (callsOf (stop a))
+event-seen number m (tick a count) = seen-told m (callsOf (tick a count))
+event-seen number m (rx a octets) = seen-told m (callsOf (rx a octets))
 
-from-seen : (count : ℕ) (b : Gateway) (l : List Line) → seenIn (toldFrom count b l) ≡ seenFrom b (goodCalls l)
-unfolding toldFrom goodCalls seenIn seenFrom
-from-seen count b [] = refl
-from-seen count b (line ∷ l) =
-    seen-told-append (eventTold (oneMore count) b (eventIn line)) (toldFrom (oneMore count) (gatewayFrom b (callsOf (eventIn line))) l)
-    ∙ rw (event-seen (oneMore count) b (eventIn line), seen-append b (callsOf (eventIn line)) (goodCalls l))
-    (ap (λ (r : List Seen). seenFrom b (callsOf (eventIn line)) ++ r) (from-seen (oneMore count) (gatewayFrom b (callsOf (eventIn line))) l))
+from-seen : (count : ℕ) (m : M.Model) (l : List Line) → saidIn (toldFrom count m l) ≡ M.saidFrom m (goodCalls l)
+unfolding toldFrom goodCalls saidIn M.saidFrom
+from-seen count m [] = refl
+from-seen count m (line ∷ l) =
+    seen-told-append (eventTold (suc count) m (eventIn line)) (toldFrom (suc count) (M.modelFrom m (callsOf (eventIn line))) l)
+    ∙ rw (event-seen (suc count) m (eventIn line), said-append m (callsOf (eventIn line)) (goodCalls l))
+    (ap (λ (r : List M.Said). M.saidFrom m (callsOf (eventIn line)) ++ r) (from-seen (suc count) (M.modelFrom m (callsOf (eventIn line))) l))
 
 -- ---- their messages are of octets
 
@@ -104,12 +103,12 @@ line-octets line = go (eventOf line) (events .range line)
         (and-right (leb (length octets) 2049) (every (λ o. ltb o 256) octets)
         (and-right (isAddress a) (leb (length octets) 2049 && every (λ o. ltb o 256) octets) (h refl))) refl
 
-in-octets : (line : Line) → every carriesOctets (callsOf (eventIn line)) ≡ true
+pub in-octets : (line : Line) → every carriesOctets (callsOf (eventIn line)) ≡ true
 unfolding eventIn callsOf every
 in-octets (ended line) = line-octets line
 in-octets (unended line) = refl
 
-from-octets : (l : List Line) → every carriesOctets (goodCalls l) ≡ true
+pub from-octets : (l : List Line) → every carriesOctets (goodCalls l) ≡ true
 unfolding goodCalls every
 from-octets [] = refl
 from-octets (line ∷ l) = every-append carriesOctets (callsOf (eventIn line)) (goodCalls l) (in-octets line) (from-octets l)
@@ -117,11 +116,10 @@ from-octets (line ∷ l) = every-append carriesOctets (callsOf (eventIn line)) (
 -- ---- the whole
 
 pub one-by-one : (g : Settings) (l : List Line) → OneByOne g l
-unfolding seenBy
 one-by-one g l =
     record {
-      calls = from-calls 4 (begun g) l;
-      seen = from-seen 4 (begun g) l;
+      calls = from-calls 4 (M.empty g) l;
+      said = from-seen 4 (M.empty g) l;
       octets = from-octets l;
       agreement = λ z. list-of-calls g z (goodCalls l);
     }

@@ -1,32 +1,36 @@
--- The theorem about recordings: turn after turn the player writes what the whole recording says, and ends as it says. Assumes nothing.
+-- The theorem about recordings: turn after turn the player writes what the whole recording says, and ends as it says.
+-- Assumes nothing.
 use Prim.Native.Nat.{ℕ, zero, suc, min, _≤_, _<_}
 use mathlib.Core.Path.{_≡_, refl, sym, ap, _∙_}
 use mathlib.Core.Bool.{Bool, true, false, cond, _&&_, _||_, true≢false, false≢true}
 use mathlib.Core.List.{List, [], _∷_, _++_, append-nil}
 use lib.Dec.{ltb, eqb}
 use lib.ListN.{length, take, drop, take-append-drop}
-use borrow.Author.Tests.{eqb-true, eqb-false, ltb-true, ltb-false, lt-ltb, le-ltb}
+use borrow.Author.Tests.{eqb-true, eqb-false, ltb-true, ltb-false, lt-ltb, le-ltb, leb-true}
 use native.Mathlib.Omega.{arith}
+use Rattle.checks.specs.Checks.{check, ifOk}
 use Rattle.checks.specs.Lists.{join}
 use Rattle.checks.proofs.Laws.{and-left, and-right}
 use Rattle.rows.specs.Storing.{zeros}
-use Rattle.rows.proofs.Laws.{zeros-length}
 use Rattle.neighbour.specs.declared.Settings.{Settings}
 use Rattle.values.specs.Numbers.{whenNumber}
 use Rattle.bad_line.specs.BadLine.{badText, oneMore}
 use Rattle.model.specs.Theorem.{Gateway, gatewayFrom, run, emptyTable}
 use Rattle.calling.specs.Told.{on}
 use Rattle.player.specs.declared.Player.{Player}
-use Rattle.player.specs.Player.{beginning, roomy, nextLine, breaking, reported, badStep, brokenStep, quietStep, usedOf, closeStep, finishStep}
-use Rattle.played.specs.Output.{Line, unended, linesFrom, linesOf, eventIn, valueIn, broken, opened, openingOf, fromOwn, fromCapability, fromNet, callsOf, goodCalls, eventTold, toldFrom, toldText, eventsText, listed, openingText, outputOf}
-use Rattle.played.specs.Theorem.{Deck, start, stepOn, afterTurn, Driven, writing, drive, isDone, closed, finished, written, EndsAs, Played, Recordings}
+use Rattle.player.specs.Player.{beginning, roomy, lineFits, nextLine, breaking, reportCheck, given, withUsed, reported, badStep, brokenStep, quietStep, turnStep, heldOf, closeStep, finishStep}
+use Rattle.played.specs.Output.{Line, unended, linesFrom, linesOf, eventIn, valueIn, broken, opened, openingOf, fromOwn, fromCapability, fromNet, callsOf, goodCalls, outputOf}
+use Rattle.played.proofs.ByCalls.{eventTold, toldFrom, toldText, eventsText, listed, openingText}
+use Rattle.played.specs.Theorem.{Deck, start, Lent, stepOn, afterTurn, Driven, writing, drive, isDone, closed, finished, written, EndsAs, Played, Recordings}
 use Rattle.played.proofs.Laws.{no-length, left-of}
 use Rattle.played.proofs.OneByOne.{one-by-one}
+use Rattle.model.proofs.Theorem.{list-of-calls}
 use Rattle.played.proofs.Listed.{finish-in}
+use Rattle.played.proofs.ByModel.{recording-text, fresh-took}
 use Rattle.played.proofs.Held.{holds-none}
 use Rattle.played.proofs.Due.{Final, unplayed, playedTo, Due, saying, saying-twice, silence, eventsDue, finalOf, openingDue, openingFrom, remaining, remaining-broken, remaining-early}
 use Rattle.played.proofs.LineEnds.{Kept, kept-early, then-events, more-lines}
-use Rattle.played.proofs.Turns.{Sound, dueOf, turned, used-within}
+use Rattle.played.proofs.Turns.{Sound, dueOf, deckOf, turned, used-within}
 
 -- ---- the end of the recording
 
@@ -60,7 +64,7 @@ module _ (d : Deck) (held : List ℕ) (f : d .player .broken ≡ false) where
   p = d .player
 
   early-end : p .lines < 4 → remaining p (d .table) (linesFrom held []) ≡ endDue d
-  unfolding linesFrom openingDue openingText finalOf endDue closed finished closeStep finishStep finalIn brokenStep reported breaking nextLine quietStep
+  unfolding linesFrom openingDue openingText finalOf endDue closed finished closeStep finishStep finalIn brokenStep reported reportCheck check given ifOk withUsed breaking nextLine quietStep
   early-end k =
       remaining-early p (d .table) (linesFrom held []) f k ∙ ap openingDue (early-missing (p .lines) k (p .settings) held (eqb (length held) 0))
       ∙ rw (f, lt-ltb (p .lines) 4 k) (λ i. record { text = sym (append-nil (badText (oneMore (p .lines)))) i; final = unplayed })
@@ -68,7 +72,7 @@ module _ (d : Deck) (held : List ℕ) (f : d .player .broken ≡ false) where
   module _ (late : 4 ≤ p .lines) (z : p .ticks ≡ 0) (counted : p .held ≡ min (length held) 4118) where
     -- an unended line is bad
     unended-end : eqb (length held) 0 ≡ false → eventsDue (p .lines) (on (p .state) (d .table)) (linesFrom held []) ≡ endDue d
-    unfolding linesFrom endDue closed finished closeStep finishStep finalIn badStep reported nextLine eventsDue eventsText toldFrom eventTold eventIn callsOf goodCalls gatewayFrom join toldText listed
+    unfolding linesFrom endDue closed finished closeStep finishStep finalIn badStep reported reportCheck check given ifOk withUsed nextLine eventsDue eventsText toldFrom eventTold eventIn callsOf goodCalls gatewayFrom join toldText listed
     unended-end e =
         let some : (length held ≡ 0) → ⊥ = eqb-false (length held) 0 e in
         let k : 0 < p .held = omega (arith, counted, some) in
@@ -113,35 +117,36 @@ pub record Finishes (d : Deck) (held input : List ℕ) (r : Driven) : Type 0 whe
 no-more : (rest : List ℕ) (done : Bool) → (eqb (length rest) 0 && done) ≡ true → rest ≡ []
 no-more rest done h = no-length rest (eqb-true (length rest) 0 (and-left (eqb (length rest) 0) done h))
 
-finishes : (sizes : List ℕ) (d : Deck) (held input : List ℕ) → Sound d held → isDone (drive sizes d input) ≡ true → Finishes d held input (drive sizes d input)
-unfolding drive isDone writing saying
+finishes : (lents : List Lent) (d : Deck) (held input : List ℕ) → Sound d held → isDone (drive lents d input) ≡ true → Finishes d held input (drive lents d input)
+unfolding drive isDone writing saying stepOn afterTurn
 finishes [] d held input ok done =
     let k = d .player .broken || eqb (d .player .ticks) 0 in
     record {
       kept = ok .kept;
       same = ap (dueOf d held) (no-more input k done) ∙ at-end d held ok (and-right (eqb (length input) 0) k done);
     }
-finishes (size ∷ sizes) d held input ok done =
-    let piece = take size input in
-    let used = usedOf (d .player) piece in
-    let t = turned d held piece (drop size input) ok in
-    let r = finishes sizes (afterTurn d piece) (t .next) (drop used input) (t .sound) done in
-    let said = (stepOn d piece) .text in
+finishes (lent ∷ lents) d held input ok done =
+    let piece = take (lent .size) input in
+    let room = roomy (lent .out) in
+    let s = turnStep room (d .player) (d .line) (d .table) piece in
+    let next = deckOf s (heldOf (d .player) (d .line) piece) in
+    let t = turned d held piece (drop (lent .size) input) ok room in
+    let r = finishes lents next (t .next) (drop (s .used) input) (t .sound) done in
     record {
       kept = r .kept;
-      same = ap (dueOf d held) (sym (take-append-drop size input)) ∙ t .same
-          ∙ ap (λ (l : List ℕ). saying said (dueOf (afterTurn d piece) (t .next) l)) (left-of size used input (used-within (d .player) piece))
-          ∙ ap (saying said) (r .same)
-          ∙ saying-twice said ((drive sizes (afterTurn d piece) (drop used input)) .text) (endDue ((drive sizes (afterTurn d piece) (drop used input)) .deck));
+      same = ap (dueOf d held) (sym (take-append-drop (lent .size) input)) ∙ t .same
+          ∙ ap (λ (l : List ℕ). saying (s .text) (dueOf next (t .next) l)) (left-of (lent .size) (s .used) input (used-within room (d .player) (d .line) (d .table) piece))
+          ∙ ap (saying (s .text)) (r .same)
+          ∙ saying-twice (s .text) ((drive lents next (drop (s .used) input)) .text) (endDue ((drive lents next (drop (s .used) input)) .deck));
     }
 
-start-sound : Sound start []
-unfolding start beginning
-start-sound = record { holds = holds-none (zeros 4118) (zeros-length 4118); kept = kept-early beginning refl }
+pub start-sound : (line : List ℕ) → lineFits line ≡ true → Sound (start line) []
+unfolding start beginning lineFits
+start-sound line h = record { holds = holds-none line (leb-true 4118 (length line) h); kept = kept-early beginning refl (λ e k. absurd (omega (arith, k))) }
 
-start-due : (recording : List ℕ) → dueOf start [] recording ≡ openingDue (openingOf (linesOf recording))
+start-due : (line recording : List ℕ) → dueOf (start line) [] recording ≡ openingDue (openingOf (linesOf recording))
 unfolding dueOf start beginning remaining openingFrom linesOf
-start-due recording = refl
+start-due line recording = refl
 
 -- ---- the end, told from what was due
 
@@ -176,21 +181,21 @@ unplayed-final d k e = go (d .player .broken) refl (ltb (d .player .lines) 4) re
 
 -- ---- the theorem
 
-module _ (recording sizes : List ℕ) (done : isDone (drive sizes start recording) ≡ true) where
+module _ (line recording : List ℕ) (lents : List Lent) (fits : lineFits line ≡ true) (done : isDone (drive lents (start line) recording) ≡ true) where
   abbrev r : Driven
-  r = drive sizes start recording
+  r = drive lents (start line) recording
 
-  finished-so : Finishes start [] recording r
-  finished-so = finishes sizes start [] recording start-sound done
+  finished-so : Finishes (start line) [] recording r
+  finished-so = finishes lents (start line) [] recording (start-sound line fits) done
 
   whole-due : openingDue (openingOf (linesOf recording)) ≡ saying (r .text) (endDue (r .deck))
-  whole-due = sym (start-due recording) ∙ finished-so .same
+  whole-due = sym (start-due line recording) ∙ finished-so .same
 
-  same-output : (out : List ℕ) → roomy out ≡ true → written out r ≡ outputOf recording
+  same-output : length recording < 18446744073709551616 → (out : List ℕ) → roomy out ≡ true → written out r ≡ outputOf recording
   unfolding written finished outputOf openingDue saying endDue
-  same-output out h =
+  same-output few out h =
       ap (λ (l : List ℕ). r .text ++ ((closed (r .deck)) .text ++ l)) (finish-in out ((closed (r .deck)) .player) (r .deck .table) h)
-      ∙ sym (ap (λ (d : Due). d .text) whole-due)
+      ∙ sym (ap (λ (d : Due). d .text) whole-due) ∙ recording-text recording few
 
   same-final : finalOf (openingOf (linesOf recording)) ≡ finalIn (r .deck)
   unfolding openingDue saying endDue
@@ -200,13 +205,14 @@ module _ (recording sizes : List ℕ) (done : isDone (drive sizes start recordin
   unfolding finalOf on
   ends-as g l e =
       let k = played-final (r .deck) (run g (goodCalls l)) (sym (ap finalOf e) ∙ same-final) in
-      record { state = sym (ap (λ (b : Gateway). b .state) k); table = sym (ap (λ (b : Gateway). b .table) k) }
+      let a = list-of-calls g (fresh-took recording g l e) (goodCalls l) in
+      record { state = sym (ap (λ (b : Gateway). b .state) k) ∙ a .state; table = sym (ap (λ (b : Gateway). b .table) k) ∙ a .table }
 
   left-alone : (number : ℕ) → openingOf (linesOf recording) ≡ broken number → r .deck .table ≡ emptyTable
   unfolding finalOf
   left-alone number e = unplayed-final (r .deck) (finished-so .kept) (sym (ap finalOf e) ∙ same-final)
 
-  pub as-played : Played recording sizes
+  pub as-played : Played line recording lents
   as-played = record { output = same-output; ends = ends-as; untouched = left-alone }
 
 pub recordings : Recordings

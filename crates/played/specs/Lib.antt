@@ -1,3 +1,4 @@
 pub mod Output
 pub mod Theorem
 pub mod Cases
+pub mod Answers

@@ -1,22 +1,21 @@
--- What playing a recording writes, told of the whole recording at once: its lines, the calls of its good lines, and what each call shows.
+-- What playing a recording writes, told of the whole recording at once: its lines, the calls of its good lines, and
+-- what the model says of each.
 use Prim.Native.Nat.{ℕ, zero, suc}
 use mathlib.Core.Bool.{cond}
 use mathlib.Core.List.{List, [], _∷_, _++_, map}
 use lib.Dec.{eqb}
 use lib.ListN.{length}
 use Rattle.checks.specs.Lists.{join}
-use Rattle.rows.specs.Storing.{zeros}
 use Rattle.neighbour.specs.declared.Settings.{Settings}
 use Rattle.slots.specs.Calls.{freshOf}
+use Rattle.lines.specs.Lines.{listingText}
 use Rattle.values.specs.declared.Number.{Number}
 use Rattle.values.specs.declared.Number.the-variants.{Bad}
 use Rattle.values.specs.Numbers.{whenNumber}
 use Rattle.recording.specs.Lines.{Event, bad, add, remove, start, stop, tick, rx, eventOf, ownAsOf, ownOf, capabilityOf, netOf}
-use Rattle.bad_line.specs.BadLine.{badText, oneMore}
+use Rattle.bad_line.specs.BadLine.{badText}
 use Rattle.model.specs.Model as M
-use Rattle.model.specs.Theorem.{Gateway, Seen, seenOf, gatewayStep, gatewayFrom, begun, run}
-use Rattle.calling.specs.Told.{lent, repliesText, addressOf}
-use Rattle.player.specs.Player.{listedIn}
+use Rattle.calling.specs.Told.{lent, txText, addressOf}
 
 -- ---- lines
 
@@ -93,49 +92,45 @@ goodCalls (line ∷ rest) = callsOf (eventIn line) ++ goodCalls rest
 
 -- ---- what is told, in order
 
+-- a bad line, or a call and what the model says of it
 pub data Told : Type 0 where
   badLine : ℕ → Told
-  called : M.Call → Seen → Told
+  called : M.Call → M.Said → Told
 
--- each call, and what its caller sees
-unfoldable pub callsTold : Gateway → List M.Call → List Told
-callsTold b [] = []
-callsTold b (call ∷ rest) = called call (seenOf call b) ∷ callsTold (gatewayStep call b) rest
+unfoldable pub callsTold : M.Model → List M.Call → List Told
+callsTold m [] = []
+callsTold m (call ∷ rest) = called call ((M.step call m) .said) ∷ callsTold ((M.step call m) .model) rest
 
 -- "A bad event line is reported in its place as `bad=` and its line number, from 1"
-unfoldable pub eventTold : ℕ → Gateway → Event → List Told
-eventTold number b bad = badLine number ∷ []
-eventTold number b (add a asn) = callsTold b (callsOf (add a asn))
-eventTold number b (remove a) = callsTold b (callsOf (remove a))
-eventTold number b (start a) = callsTold b (callsOf (start a))
-eventTold number b (stop a) = callsTold b (callsOf (stop a))
-eventTold number b (tick a count) = callsTold b (callsOf (tick a count))
-eventTold number b (rx a octets) = callsTold b (callsOf (rx a octets))
+unfoldable pub eventTold : ℕ → M.Model → Event → List Told
+eventTold number m bad = badLine number ∷ []
+eventTold number m (add a asn) = callsTold m (callsOf (add a asn))
+eventTold number m (remove a) = callsTold m (callsOf (remove a))
+eventTold number m (start a) = callsTold m (callsOf (start a))
+eventTold number m (stop a) = callsTold m (callsOf (stop a))
+eventTold number m (tick a count) = callsTold m (callsOf (tick a count))
+eventTold number m (rx a octets) = callsTold m (callsOf (rx a octets))
 
 -- these lines, behind so many
-unfoldable pub toldFrom : ℕ → Gateway → List Line → List Told
-toldFrom lines b [] = []
-toldFrom lines b (line ∷ rest) =
-    eventTold (oneMore lines) b (eventIn line) ++ toldFrom (oneMore lines) (gatewayFrom b (callsOf (eventIn line))) rest
+unfoldable pub toldFrom : ℕ → M.Model → List Line → List Told
+toldFrom lines m [] = []
+toldFrom lines m (line ∷ rest) =
+    eventTold (suc lines) m (eventIn line) ++ toldFrom (suc lines) (M.modelFrom m (callsOf (eventIn line))) rest
 
 -- as text: "each reply message as a `tx` line"
 unfoldable pub toldText : Told → List ℕ
 toldText (badLine number) = badText number
-toldText (called call seen) = repliesText (addressOf call) seen
+toldText (called call said) = txText (addressOf call) (said .first) ++ txText (addressOf call) (said .second)
 
-unfoldable pub eventsText : ℕ → Gateway → List Line → List ℕ
-eventsText lines b events = join (map toldText (toldFrom lines b events))
+unfoldable pub eventsText : ℕ → M.Model → List Line → List ℕ
+eventsText lines m events = join (map toldText (toldFrom lines m events))
 
--- ---- the whole
+-- ---- the whole, from the model alone
 
--- "the listing at the end", in a buffer of the least size
-unfoldable pub listed : Gateway → List ℕ
-listed b = listedIn (zeros 65536) b
-
--- "and nothing is played or listed" where one of the first four lines is not good
+-- "the listing at the end", and "nothing is played or listed" where one of the first four lines is not good
 unfoldable pub openingText : Opening → List ℕ
 openingText (broken number) = badText number
-openingText (opened g events) = eventsText 4 (begun g) events ++ listed (run g (goodCalls events))
+openingText (opened g events) = eventsText 4 (M.empty g) events ++ listingText (M.listed (M.model g (goodCalls events)))
 
 unfoldable pub outputOf : List ℕ → List ℕ
 outputOf recording = openingText (openingOf (linesOf recording))

@@ -2,7 +2,7 @@
 use Prim.Native.Nat.{ℕ, _≤_, _<_, _-_}
 use native.Mathlib.Omega.{arith}
 use mathlib.Core.Path.{_≡_, refl, sym, ap, _∙_}
-use mathlib.Core.Bool.{Bool, true, false, cond}
+use mathlib.Core.Bool.{Bool, true, false, cond, not, _&&_}
 use mathlib.Core.List.{List, [], _∷_}
 use lib.Dec.{leb, ltb, eqb}
 use lib.ListN.{length, take, drop}
@@ -10,12 +10,13 @@ use lib.Seq.{take-append-seam}
 use borrow.Author.Tests.{lt-ltb, le-ltb, le-leb, lt-leb, leb-true, eq-eqb, ne-eqb}
 use types.Run.{OneOf, miss}
 use denote.Enum.Declared.{tagOf}
-use Rattle.checks.specs.Checks.{ifOk}
+use Rattle.checks.specs.Checks.{check, ifOk}
 use Rattle.checks.proofs.Laws.{and-left, and-right, cond-elim}
 use Rattle.octets.specs.Buffer.{over}
 use Rattle.neighbour.specs.declared.Settings.{Settings}
 use Rattle.state.specs.declared.State.{State}
 use Rattle.state.specs.declared.Outcome.{Outcome}
+use Rattle.state.specs.Formed.{stateFormed}
 use Rattle.state.specs.Outcomes.{refusedOf, silentOf}
 use Rattle.slots.specs.Calls.{freshOf, addOf, removeOf}
 use Rattle.gather.specs.declared.Gathered.{Gathered}
@@ -42,14 +43,14 @@ use Rattle.recording.specs.Meant.{meant}
 use Rattle.recording.specs.Steps.{standsOn}
 use Rattle.player.specs.declared.Player.{Player}
 use Rattle.player.specs.declared.Told.{Told}
-use Rattle.player.specs.Player.{Step, nextLine, holding, due, settled, having, roomy, reported, badStep, brokenStep, quietStep, withAs, withOwn, withCapability, withNet, settingStep, freshStep, netStep, headStep, callStep, eventStep, lineStep, tickStep, turnStep, usedOf, heldOf, toldOf, closeStep, listedIn, finishStep}
+use Rattle.player.specs.Player.{Step, nextLine, holding, breaking, due, settled, having, roomy, lineFits, lentChecks, formedCheck, reportCheck, given, reported, withUsed, badStep, brokenStep, quietStep, withAs, withOwn, withCapability, withNet, settingStep, freshStep, netStep, headStep, callStep, eventStep, eventChecked, lineStep, lineChecked, tickStep, endedLine, freeStep, turnChecked, turnStep, onlyHolds, heldOf, toldOf, closeStep, listedIn, finishStep}
 use Rattle.player.specs.declared.Heard.{Heard}
 use Rattle.player.specs.declared.Heard.the-variants as H
 use Rattle.player.specs.Steps.{heardOf, carriedTurn, usingOf}
 
 -- what is promised of a step: the turn that is answered, and the output buffer after it
-abbrev pub Taken : Step → ℕ → Told → List ℕ → List ℕ → Type 0
-Taken s used r old new = (r ≡ toldOf s used) × (new ≡ over (s .text) old)
+abbrev pub Taken : Step → Told → List ℕ → List ℕ → Type 0
+Taken s r old new = (r ≡ toldOf s) × (new ≡ over (s .text) old)
 
 -- a choice whose test is known
 pub on-true : {A : Type 0} (b : Bool) (x y : A) → b ≡ true → cond b x y ≡ x
@@ -59,40 +60,110 @@ pub on-false : {A : Type 0} (b : Bool) (x y : A) → b ≡ false → cond b x y 
 on-false b x y e = rw e
 
 -- the step that is taken, by another name
-pub taken-as : {s s′ : Step} (used : ℕ) {r : Told} (old : List ℕ) {new : List ℕ} → s ≡ s′ → Taken s′ used r old new → Taken s used r old new
-taken-as used old e h = rw e h
+pub taken-as : {s s′ : Step} {r : Told} (old : List ℕ) {new : List ℕ} → s ≡ s′ → Taken s′ r old new → Taken s r old new
+taken-as old e h = rw e h
 
 -- a quiet step leaves the output buffer alone
-pub quiet-taken : (s : Step) (p : Player) (table : List ℕ) (answer used : ℕ) (r : Told) (out : List ℕ)
-    → s ≡ quietStep p table answer → r ≡ toldOf (quietStep p table answer) used → Taken s used r out out
+pub quiet-taken : (s : Step) (p : Player) (table : List ℕ) (answer : ℕ) (r : Told) (out : List ℕ)
+    → s ≡ quietStep p table answer → r ≡ toldOf (quietStep p table answer) → Taken s r out out
 unfolding quietStep over
-quiet-taken s p table answer used r out e h = rw e (h, refl)
+quiet-taken s p table answer r out e h = rw e (h, refl)
 
 -- what holds for every table, for the answer and for the buffer
 pub for-each : {A B : List ℕ → Type 0} → ((table : List ℕ) → A table × B table) → ((table : List ℕ) → A table) × ((table : List ℕ) → B table)
 for-each h = (λ table. h table .0, λ table. h table .1)
 
+-- ---- what the host must lend
+
+module _ (room : Bool) (st : State) (numbers : ℕ) where
+  pub lent-1 : stateFormed st ≡ false → 1 ≡ lentChecks room st numbers
+  unfolding lentChecks check
+  lent-1 e = rw e
+
+  module _ (f : stateFormed st ≡ true) where
+    pub lent-2 : (numbers ≡ 3072 → ⊥) → 2 ≡ lentChecks room st numbers
+    unfolding lentChecks check
+    lent-2 n = rw (f, ne-eqb numbers 3072 n)
+
+    module _ (e : numbers ≡ 3072) where
+      pub lent-3 : room ≡ false → 3 ≡ lentChecks room st numbers
+      unfolding lentChecks check
+      lent-3 h = rw (f, eq-eqb numbers 3072 e, h)
+
+      pub lent-0 : room ≡ true → 0 ≡ lentChecks room st numbers
+      unfolding lentChecks check
+      lent-0 h = rw (f, eq-eqb numbers 3072 e, h)
+
+-- where all is lent there is room
+pub lent-room : (out : List ℕ) (st : State) (numbers : ℕ) → lentChecks (roomy out) st numbers ≡ 0 → 65536 ≤ length out
+unfolding roomy lentChecks check
+lent-room out st numbers e = go (stateFormed st) (eqb numbers 3072) (leb 65536 (length out)) refl e
+  where
+    go : (f n b : Bool) → leb 65536 (length out) ≡ b → _≡_ {A = ℕ} (cond f (cond n (cond b 0 3) 2) 1) 0 → 65536 ≤ length out
+    go true true true k h = leb-true 65536 (length out) k
+    go true true false k h = absurd (omega (arith, h))
+    go true false b k h = absurd (omega (arith, h))
+    go false n b k h = absurd (omega (arith, h))
+
+pub report-room : (out : List ℕ) → reportCheck (roomy out) 19 ≡ 0 → 65536 ≤ length out
+unfolding roomy reportCheck check
+report-room out e = go (leb 65536 (length out)) refl e
+  where
+    go : (b : Bool) → leb 65536 (length out) ≡ b → _≡_ {A = ℕ} (cond b 0 19) 0 → 65536 ≤ length out
+    go true k h = leb-true 65536 (length out) k
+    go false k h = absurd (omega (arith, h))
+
+module _ (p : Player) (table : List ℕ) (refusal : ℕ) (s : Step) where
+  pub given-whole : refusal ≡ 0 → given p table refusal s ≡ s
+  unfolding given ifOk
+  given-whole e = on-true (eqb refusal 0) _ _ (eq-eqb refusal 0 e)
+
+  pub given-refused : (refusal ≡ 0 → ⊥) → given p table refusal s ≡ quietStep p table refusal
+  unfolding given ifOk
+  given-refused n = on-false (eqb refusal 0) _ _ (ne-eqb refusal 0 n)
+
+-- a report, and none for want of room
+module _ (p : Player) (table out : List ℕ) (used : ℕ) (s : Step) (r : Told) where
+  pub reported-not : length out < 65536 → (s .answer ≡ 0 → ⊥) → r ≡ toldOf (quietStep p table (s .answer)) → Taken (reported (roomy out) p table used s) r out out
+  unfolding roomy reported reportCheck check quietStep over
+  reported-not h n e =
+      taken-as out (ap (λ (b : Bool). given p table (cond b 0 (s .answer)) (withUsed used s)) (lt-leb 65536 (length out) h) ∙ given-refused p table (s .answer) (withUsed used s) n)
+      (e, refl)
+
+  pub reported-so : 65536 ≤ length out → (new : List ℕ) → r ≡ toldOf (withUsed used s) → new ≡ over (s .text) out → Taken (reported (roomy out) p table used s) r out new
+  unfolding roomy reported reportCheck check withUsed
+  reported-so h new e f =
+      taken-as out (ap (λ (b : Bool). given p table (cond b 0 (s .answer)) (withUsed used s)) (le-leb 65536 (length out) h) ∙ given-whole p table 0 (withUsed used s) refl)
+      (e, f)
+
+-- what reports nothing needs no room
+pub reported-quiet : (room : Bool) (p q : Player) (table : List ℕ) (used : ℕ)
+    → reported room p table used (quietStep q table 0) ≡ withUsed used (quietStep q table 0)
+unfolding reported reportCheck check quietStep
+reported-quiet true p q table used = given-whole p table 0 _ refl
+reported-quiet false p q table used = given-whole p table 0 _ refl
+
+pub quiet-using : (s : Step) (p : Player) (table : List ℕ) (used : ℕ) (q r : Told) (out : List ℕ)
+    → s ≡ withUsed used (quietStep p table 0) → q ≡ toldOf (quietStep p table 0) → r ≡ usingOf q used → Taken s r out out
+unfolding quietStep withUsed usingOf toldOf over
+quiet-using s p table used q r out e h u = rw e (u ∙ ap (λ (t : Told). usingOf t used) h, refl)
+
 -- ---- bad lines
 
-module _ (p : Player) (out : List ℕ) where
-  pub report-short : length out < 65536 → (0 ≡ length (reported (roomy out) p)) × (out ≡ over (reported (roomy out) p) out)
-  unfolding roomy reported over
-  report-short h = rw (lt-leb 65536 (length out) h) (refl, refl)
+-- the line behind those taken is reported by its number
+module _ (p next : Player) (e : next ≡ nextLine p) (table : List ℕ) (written : ℕ) (f : written ≡ length (badText (next .lines))) where
+  pub bad-told : record { player = next; answer = 19; used = 0; written = written } ≡ toldOf (withUsed 0 (badStep p table))
+  unfolding toldOf withUsed badStep
+  bad-told = λ i. record { player = e i; answer = 19; used = 0; written = (f ∙ ap (λ (q : Player). length (badText (q .lines))) e) i }
 
-  pub report-roomy : 65536 ≤ length out → (n : ℕ) (new : List ℕ) → n ≡ length (badText (p .lines)) → new ≡ over (badText (p .lines)) out
-      → (n ≡ length (reported (roomy out) p)) × (new ≡ over (reported (roomy out) p) out)
-  unfolding roomy reported
-  report-roomy h n new e f = rw (le-leb 65536 (length out) h) (e, f)
+  pub broken-told : (answer used : ℕ) (q : Player) → q ≡ breaking next
+      → record { player = q; answer = answer; used = used; written = written } ≡ toldOf (withUsed used (brokenStep p table answer))
+  unfolding toldOf withUsed brokenStep
+  broken-told answer used q k =
+      λ i. record { player = (k ∙ ap breaking e) i; answer = answer; used = used; written = (f ∙ ap (λ (q : Player). length (badText (q .lines))) e) i }
 
-  pub bad-taken : (s : Step) (table : List ℕ) (r : Told) (new : List ℕ) → s ≡ badStep (roomy out) p table
-      → r ≡ toldOf (badStep (roomy out) p table) 0 → new ≡ over (reported (roomy out) p) out → Taken s 0 r out new
-  unfolding badStep
-  bad-taken s table r new e h k = rw e (h, k)
-
-  pub broken-taken : (s : Step) (table : List ℕ) (answer : ℕ) (r : Told) (new : List ℕ) → s ≡ brokenStep (roomy out) p table answer
-      → r ≡ toldOf (brokenStep (roomy out) p table answer) 0 → new ≡ over (reported (roomy out) p) out → Taken s 0 r out new
-  unfolding brokenStep
-  broken-taken s table answer r new e h k = rw e (h, k)
+pub line-told : (p next : Player) → next ≡ nextLine p → (out new : List ℕ) → new ≡ over (badText (next .lines)) out → new ≡ over (badText ((nextLine p) .lines)) out
+line-told p next e out new f = f ∙ ap (λ (q : Player). over (badText (q .lines)) out) e
 
 -- ---- the first four lines
 
@@ -123,37 +194,37 @@ unfolding whenNumber
 one-value value some n e = rw e
 
 -- which of the four is read
-module _ (g : Settings) (number : ℕ) (line : List ℕ) where
-  pub heard-1 : number ≡ 1 → whenNumber (ownAsOf line) H.Bad (λ n. H.Part (withAs g n)) ≡ heardOf g number line
+module _ (g : Settings) (lines : ℕ) (line : List ℕ) where
+  pub heard-1 : lines ≡ 0 → whenNumber (ownAsOf line) H.Bad (λ n. H.Part (withAs g n)) ≡ heardOf g lines line
   unfolding heardOf
-  heard-1 e = sym (on-true (eqb number 1) _ _ (eq-eqb number 1 e))
+  heard-1 e = sym (on-true (eqb lines 0) _ _ (eq-eqb lines 0 e))
 
-  pub heard-2 : (number ≡ 1 → ⊥) → number ≡ 2 → whenNumber (ownOf line) H.Bad (λ n. H.Part (withOwn g n)) ≡ heardOf g number line
+  pub heard-2 : (lines ≡ 0 → ⊥) → lines ≡ 1 → whenNumber (ownOf line) H.Bad (λ n. H.Part (withOwn g n)) ≡ heardOf g lines line
   unfolding heardOf
-  heard-2 a e = sym (on-false (eqb number 1) _ _ (ne-eqb number 1 a) ∙ on-true (eqb number 2) _ _ (eq-eqb number 2 e))
+  heard-2 a e = sym (on-false (eqb lines 0) _ _ (ne-eqb lines 0 a) ∙ on-true (eqb lines 1) _ _ (eq-eqb lines 1 e))
 
-  pub heard-3 : (number ≡ 1 → ⊥) → (number ≡ 2 → ⊥) → number ≡ 3
-      → whenNumber (capabilityOf line) H.Bad (λ n. H.Part (withCapability g n)) ≡ heardOf g number line
+  pub heard-3 : (lines ≡ 0 → ⊥) → (lines ≡ 1 → ⊥) → lines ≡ 2
+      → whenNumber (capabilityOf line) H.Bad (λ n. H.Part (withCapability g n)) ≡ heardOf g lines line
   unfolding heardOf
   heard-3 a b e =
-      sym (on-false (eqb number 1) _ _ (ne-eqb number 1 a) ∙ on-false (eqb number 2) _ _ (ne-eqb number 2 b) ∙ on-true (eqb number 3) _ _ (eq-eqb number 3 e))
+      sym (on-false (eqb lines 0) _ _ (ne-eqb lines 0 a) ∙ on-false (eqb lines 1) _ _ (ne-eqb lines 1 b) ∙ on-true (eqb lines 2) _ _ (eq-eqb lines 2 e))
 
-  pub heard-4 : (number ≡ 1 → ⊥) → (number ≡ 2 → ⊥) → (number ≡ 3 → ⊥)
-      → whenNumber (netOf line) H.Bad (λ n. H.Whole (withNet g n)) ≡ heardOf g number line
+  pub heard-4 : (lines ≡ 0 → ⊥) → (lines ≡ 1 → ⊥) → (lines ≡ 2 → ⊥)
+      → whenNumber (netOf line) H.Bad (λ n. H.Whole (withNet g n)) ≡ heardOf g lines line
   unfolding heardOf
   heard-4 a b e =
-      sym (on-false (eqb number 1) _ _ (ne-eqb number 1 a) ∙ on-false (eqb number 2) _ _ (ne-eqb number 2 b) ∙ on-false (eqb number 3) _ _ (ne-eqb number 3 e))
+      sym (on-false (eqb lines 0) _ _ (ne-eqb lines 0 a) ∙ on-false (eqb lines 1) _ _ (ne-eqb lines 1 b) ∙ on-false (eqb lines 2) _ _ (ne-eqb lines 2 e))
 
 -- the step that such a line asks for
-module _ (room : Bool) (p : Player) (table : List ℕ) where
+module _ (p : Player) (table : List ℕ) where
   heardStep : Heard → Step
-  heardStep H.Bad = brokenStep room p table 19
-  heardStep (H.Part g) = quietStep (settled p g) table 0
-  heardStep (H.Whole g) = freshStep room p table g
+  heardStep H.Bad = brokenStep p table 19
+  heardStep (H.Part g) = quietStep (settled (nextLine p) g) table 0
+  heardStep (H.Whole g) = freshStep p table g
 
   by-number : (one two three : Bool) (asn own capability net : Number)
-      → cond one (settingStep room p table asn withAs)
-      (cond two (settingStep room p table own withOwn) (cond three (settingStep room p table capability withCapability) (netStep room p table net)))
+      → cond one (settingStep p table asn withAs)
+      (cond two (settingStep p table own withOwn) (cond three (settingStep p table capability withCapability) (netStep p table net)))
       ≡ heardStep
       (cond one (whenNumber asn H.Bad (λ n. H.Part (withAs (p .settings) n)))
       (cond two (whenNumber own H.Bad (λ n. H.Part (withOwn (p .settings) n)))
@@ -170,155 +241,177 @@ module _ (room : Bool) (p : Player) (table : List ℕ) where
   by-number false false false asn own capability (Is n) = refl
 
   module _ (line : List ℕ) (h : Heard) (e : h ≡ heardOf (p .settings) (p .lines) line) where
-    heard-step : headStep room p table line ≡ heardStep h
+    heard-step : headStep p table line ≡ heardStep h
     unfolding headStep heardOf
     heard-step =
-        by-number (eqb (p .lines) 1) (eqb (p .lines) 2) (eqb (p .lines) 3) (ownAsOf line) (ownOf line) (capabilityOf line) (netOf line) ∙ ap heardStep (sym e)
+        by-number (eqb (p .lines) 0) (eqb (p .lines) 1) (eqb (p .lines) 2) (ownAsOf line) (ownOf line) (capabilityOf line) (netOf line) ∙ ap heardStep (sym e)
 
-    pub heard-bad : h ≡ H.Bad → headStep room p table line ≡ brokenStep room p table 19
+    pub heard-bad : h ≡ H.Bad → headStep p table line ≡ brokenStep p table 19
     unfolding heardStep
     heard-bad k = heard-step ∙ ap heardStep k
 
-    pub heard-part : (g : Settings) → h ≡ H.Part g → headStep room p table line ≡ quietStep (settled p g) table 0
+    pub heard-part : (g : Settings) → h ≡ H.Part g → headStep p table line ≡ quietStep (settled (nextLine p) g) table 0
     unfolding heardStep
     heard-part g k = heard-step ∙ ap heardStep k
 
-    pub heard-whole : (g : Settings) → h ≡ H.Whole g → headStep room p table line ≡ freshStep room p table g
+    pub heard-whole : (g : Settings) → h ≡ H.Whole g → headStep p table line ≡ freshStep p table g
     unfolding heardStep
     heard-whole g k = heard-step ∙ ap heardStep k
 
-module _ (room : Bool) (p : Player) (table : List ℕ) (g : Settings) (o : Outcome) (e : o ≡ freshOf (g .asn) (g .own) (g .capability) (g .net)) where
-  pub fresh-refused : (o .answer ≡ 0 → ⊥) → freshStep room p table g ≡ brokenStep room p table (o .answer)
+module _ (p : Player) (table : List ℕ) (g : Settings) (o : Outcome) (e : o ≡ freshOf (g .asn) (g .own) (g .capability) (g .net)) where
+  pub fresh-refused : (o .answer ≡ 0 → ⊥) → freshStep p table g ≡ brokenStep p table (o .answer)
   unfolding freshStep
   fresh-refused n = rw (sym e, ne-eqb (o .answer) 0 n)
 
-  pub fresh-had : o .answer ≡ 0 → freshStep room p table g ≡ quietStep (having (settled p g) (o .state)) table 0
+  pub fresh-had : o .answer ≡ 0 → freshStep p table g ≡ quietStep (having (settled (nextLine p) g) (o .state)) table 0
   unfolding freshStep
   fresh-had z = rw (sym e, eq-eqb (o .answer) 0 z)
 
+-- a step by another name, reported
+pub reported-as : (room : Bool) (p : Player) (table : List ℕ) (used : ℕ) {s s′ : Step} → s ≡ s′ → reported room p table used s ≡ reported room p table used s′
+reported-as room p table used e = ap (reported room p table used) e
+
 -- none of the four touches the table
-module _ (room : Bool) (p : Player) (table : List ℕ) where
-  setting-table : (value : Number) (put : Settings → ℕ → Settings) → (settingStep room p table value put) .table ≡ table
+module _ (p : Player) (table : List ℕ) where
+  setting-table : (value : Number) (put : Settings → ℕ → Settings) → (settingStep p table value put) .table ≡ table
   unfolding settingStep whenNumber brokenStep quietStep
   setting-table Bad put = refl
   setting-table (Is n) put = refl
 
-  fresh-table : (g : Settings) → (freshStep room p table g) .table ≡ table
+  fresh-table : (g : Settings) → (freshStep p table g) .table ≡ table
   unfolding freshStep brokenStep quietStep
   fresh-table g = cond-elim (λ (s : Step). s .table ≡ table) (eqb ((freshOf (g .asn) (g .own) (g .capability) (g .net)) .answer) 0) _ _ (λ e. refl) (λ e. refl)
 
-  net-table : (value : Number) → (netStep room p table value) .table ≡ table
+  net-table : (value : Number) → (netStep p table value) .table ≡ table
   unfolding netStep whenNumber brokenStep
   net-table Bad = refl
   net-table (Is n) = fresh-table (withNet (p .settings) n)
 
-  pub head-table : (line : List ℕ) → (headStep room p table line) .table ≡ table
+  head-table : (line : List ℕ) → (headStep p table line) .table ≡ table
   unfolding headStep
   head-table line =
-      cond-elim (λ (s : Step). s .table ≡ table) (eqb (p .lines) 1) _ _ (λ e. setting-table (ownAsOf line) withAs)
-      (λ e. cond-elim (λ (s : Step). s .table ≡ table) (eqb (p .lines) 2) _ _ (λ e. setting-table (ownOf line) withOwn)
-      (λ e. cond-elim (λ (s : Step). s .table ≡ table) (eqb (p .lines) 3) _ _ (λ e. setting-table (capabilityOf line) withCapability)
+      cond-elim (λ (s : Step). s .table ≡ table) (eqb (p .lines) 0) _ _ (λ e. setting-table (ownAsOf line) withAs)
+      (λ e. cond-elim (λ (s : Step). s .table ≡ table) (eqb (p .lines) 1) _ _ (λ e. setting-table (ownOf line) withOwn)
+      (λ e. cond-elim (λ (s : Step). s .table ≡ table) (eqb (p .lines) 2) _ _ (λ e. setting-table (capabilityOf line) withCapability)
       (λ e. net-table (netOf line))))
 
--- ---- events without room
+  pub reported-table : (room : Bool) (used : ℕ) (line : List ℕ) → (reported room p table used (headStep p table line)) .table ≡ table
+  unfolding reported given ifOk quietStep withUsed
+  reported-table room used line =
+      cond-elim (λ (s : Step). s .table ≡ table) (eqb (reportCheck room ((headStep p table line) .answer)) 0) _ _ (λ e. head-table line) (λ e. refl)
 
-pub short-bad : (read : Read) (p : Player) (line table : List ℕ) → read ≡ R.Bad → eventStep false p table (meant read line) ≡ quietStep p table 19
-unfolding meant eventStep badStep reported quietStep
-short-bad read p line table e = rw e
+-- ---- what an event asks for
 
-pub short-tick : (read : Read) (p : Player) (line table : List ℕ) (a count : ℕ) → read ≡ R.Tick a count
-    → eventStep false p table (meant read line) ≡ quietStep (due p a count) table 0
-unfolding meant eventStep
-short-tick read p line table a count e = rw e
+module _ (room : Bool) (st : State) (numbers : ℕ) (read : Read) (line : List ℕ) where
+  pub asks-bad : read ≡ R.Bad → eventChecked room st numbers (meant read line) ≡ reportCheck room 19
+  unfolding meant eventChecked
+  asks-bad e = rw e
 
--- but for these two, they are refused
-pub short-call : (read : Read) (p : Player) (line table : List ℕ) → OneOf (1 ∷ 2 ∷ 3 ∷ 4 ∷ 6 ∷ []) (tagOf the-type read)
-    → eventStep false p table (meant read line) ≡ quietStep p table 3
-unfolding meant eventStep callStep
-short-call R.Bad p line table h = absurd (miss (1 ∷ 2 ∷ 3 ∷ 4 ∷ 6 ∷ []) 0 tt h)
-short-call (R.Add a asn) p line table h = refl
-short-call (R.Remove a) p line table h = refl
-short-call (R.Start a) p line table h = refl
-short-call (R.Stop a) p line table h = refl
-short-call (R.Tick a count) p line table h = absurd (miss (1 ∷ 2 ∷ 3 ∷ 4 ∷ 6 ∷ []) 5 tt h)
-short-call (R.Receive a at) p line table h = refl
+  pub asks-add : (a asn : ℕ) → read ≡ R.Add a asn → eventChecked room st numbers (meant read line) ≡ formedCheck st
+  unfolding meant eventChecked
+  asks-add a asn e = rw e
 
--- nothing is written and the table is left, whatever the event
-pub short-quiet : (p : Player) (table : List ℕ) (e : Event) → ((eventStep false p table e) .table ≡ table) × ((eventStep false p table e) .text ≡ [])
-unfolding eventStep callStep badStep reported quietStep
-short-quiet p table bad = (refl, refl)
-short-quiet p table (add a asn) = (refl, refl)
-short-quiet p table (remove a) = (refl, refl)
-short-quiet p table (start a) = (refl, refl)
-short-quiet p table (stop a) = (refl, refl)
-short-quiet p table (tick a count) = (refl, refl)
-short-quiet p table (rx a octets) = (refl, refl)
+  pub asks-remove : (a : ℕ) → read ≡ R.Remove a → eventChecked room st numbers (meant read line) ≡ formedCheck st
+  unfolding meant eventChecked
+  asks-remove a e = rw e
+
+  pub asks-tick : (a count : ℕ) → read ≡ R.Tick a count → eventChecked room st numbers (meant read line) ≡ 0
+  unfolding meant eventChecked
+  asks-tick a count e = rw e
+
+  pub asks-start : (a : ℕ) → read ≡ R.Start a → eventChecked room st numbers (meant read line) ≡ lentChecks room st numbers
+  unfolding meant eventChecked
+  asks-start a e = rw e
+
+  pub asks-stop : (a : ℕ) → read ≡ R.Stop a → eventChecked room st numbers (meant read line) ≡ lentChecks room st numbers
+  unfolding meant eventChecked
+  asks-stop a e = rw e
+
+  pub asks-rx : (a at : ℕ) → read ≡ R.Receive a at → eventChecked room st numbers (meant read line) ≡ lentChecks room st numbers
+  unfolding meant eventChecked
+  asks-rx a at e = rw e
+
+-- a call with replies
+pub asks-call : (room : Bool) (st : State) (numbers : ℕ) (read : Read) (line : List ℕ) → OneOf (3 ∷ 4 ∷ 6 ∷ []) (tagOf the-type read)
+    → eventChecked room st numbers (meant read line) ≡ lentChecks room st numbers
+unfolding meant eventChecked
+asks-call room st numbers R.Bad line h = absurd (miss (3 ∷ 4 ∷ 6 ∷ []) 0 tt h)
+asks-call room st numbers (R.Add a asn) line h = absurd (miss (3 ∷ 4 ∷ 6 ∷ []) 1 tt h)
+asks-call room st numbers (R.Remove a) line h = absurd (miss (3 ∷ 4 ∷ 6 ∷ []) 2 tt h)
+asks-call room st numbers (R.Start a) line h = refl
+asks-call room st numbers (R.Stop a) line h = refl
+asks-call room st numbers (R.Tick a count) line h = absurd (miss (3 ∷ 4 ∷ 6 ∷ []) 5 tt h)
+asks-call room st numbers (R.Receive a at) line h = refl
 
 -- ---- calls
 
 -- what is promised of a step that may change the table
-abbrev pub Made : Step → ℕ → Told → List ℕ → List ℕ → List ℕ → Type 0
-Made s used r table old new = (r ≡ toldOf s used) × ((table ≡ s .table) × (new ≡ over (s .text) old))
+abbrev pub Made : Step → Told → List ℕ → List ℕ → List ℕ → Type 0
+Made s r table old new = (r ≡ toldOf s) × ((table ≡ s .table) × (new ≡ over (s .text) old))
 
-pub made-as : {s s′ : Step} (used : ℕ) {r : Told} {table : List ℕ} (old : List ℕ) {new : List ℕ} → s ≡ s′ → Made s′ used r table old new → Made s used r table old new
-made-as used old e h = rw e h
+pub made-as : {s s′ : Step} {r : Told} {table : List ℕ} (old : List ℕ) {new : List ℕ} → s ≡ s′ → Made s′ r table old new → Made s r table old new
+made-as old e h = rw e h
 
-pub quiet-made : (p : Player) (table : List ℕ) (answer used : ℕ) (r : Told) (out : List ℕ)
-    → r ≡ toldOf (quietStep p table answer) used → Made (quietStep p table answer) used r table out out
+pub quiet-made : (p : Player) (table : List ℕ) (answer : ℕ) (r : Told) (out : List ℕ)
+    → r ≡ toldOf (quietStep p table answer) → Made (quietStep p table answer) r table out out
 unfolding quietStep over
-quiet-made p table answer used r out h = (h, (refl, refl))
+quiet-made p table answer r out h = (h, (refl, refl))
 
-pub bad-made : (p : Player) (table : List ℕ) (r : Told) (out new : List ℕ)
-    → r ≡ toldOf (badStep (roomy out) p table) 0 → new ≡ over (reported (roomy out) p) out → 65536 ≤ length out → Made (badStep true p table) 0 r table out new
-unfolding badStep roomy
-bad-made p table r out new h k room = rw (sym (le-leb 65536 (length out) room)) (h, (refl, k))
+-- with room, a bad line is reported
+pub bad-made : (p : Player) (table : List ℕ) (r : Told) (out new : List ℕ) → reportCheck (roomy out) 19 ≡ 0
+    → r ≡ toldOf (reported (roomy out) p table 0 (badStep p table)) → new ≡ over ((reported (roomy out) p table 0 (badStep p table)) .text) out
+    → Made (badStep p table) r table out new
+unfolding reported badStep withUsed
+bad-made p table r out new room h k =
+    let e = given-whole p table (reportCheck (roomy out) 19) (badStep p table) room in
+    (h ∙ ap toldOf e, (refl, k ∙ ap (λ (s : Step). over (s .text) out) e))
 
--- a call, and the turn that carries what it left
-pub call-made : (call : M.Call) (p : Player) (table after : List ℕ) (k : Called) (r : Told) (out new : List ℕ)
-    → k ≡ calledOf call (on (p .state) table) → r ≡ carriedTurn p k
-    → after ≡ tableAfter call (on (p .state) table) → new ≡ over (callText call (on (p .state) table)) out → Made (callStep true p table call) 0 r after out new
-unfolding callStep carriedTurn calledOf toldOf
-call-made call p table after k r out new e f h t = (f ∙ ap (carriedTurn p) e, (h, t))
+-- a call from the player's state, and the turn that carries what it left to the player behind the line
+module _ (p next : Player) (n : next ≡ nextLine p) (table after : List ℕ) (k : Called) (r : Told) (out new : List ℕ) where
+  pub call-made : (call : M.Call)
+      → k ≡ calledOf call (on (p .state) table) → r ≡ carriedTurn next k
+      → after ≡ tableAfter call (on (p .state) table) → new ≡ over (callText call (on (p .state) table)) out → Made (callStep (nextLine p) table call) r after out new
+  unfolding callStep carriedTurn calledOf toldOf nextLine
+  call-made call e f h t = (f ∙ ap (λ (q : Player). carriedTurn q k) n ∙ ap (carriedTurn (nextLine p)) e, (h, t))
 
--- add and remove are silent, and leave the table
-pub add-made : (a asn : ℕ) (p : Player) (table : List ℕ) (k : Called) (r : Told) (out : List ℕ)
-    → k ≡ calledOf (M.add a asn) (on (p .state) table) → r ≡ carriedTurn p k → Made (callStep true p table (M.add a asn)) 0 r table out out
-unfolding tableAfter callText repliesText seenOf outcomeOf bufferAfter addOf silentOf on txText over
-add-made a asn p table k r out e f = call-made (M.add a asn) p table table k r out out e f refl refl
+module _ (p next : Player) (n : next ≡ nextLine p) (table : List ℕ) (k : Called) (r : Told) (out : List ℕ) where
+  -- add and remove are silent, and leave the table
+  pub add-made : (a asn : ℕ) → k ≡ calledOf (M.add a asn) (on (p .state) table) → r ≡ carriedTurn next k → Made (callStep (nextLine p) table (M.add a asn)) r table out out
+  unfolding tableAfter callText repliesText seenOf outcomeOf bufferAfter addOf silentOf on txText over
+  add-made a asn e f = call-made p next n table table k r out out (M.add a asn) e f refl refl
 
-pub remove-made : (a : ℕ) (p : Player) (table : List ℕ) (k : Called) (r : Told) (out : List ℕ)
-    → k ≡ calledOf (M.remove a) (on (p .state) table) → r ≡ carriedTurn p k → Made (callStep true p table (M.remove a)) 0 r table out out
-unfolding tableAfter callText repliesText seenOf outcomeOf bufferAfter removeOf silentOf on txText over
-remove-made a p table k r out e f = call-made (M.remove a) p table table k r out out e f refl refl
+  pub remove-made : (a : ℕ) → k ≡ calledOf (M.remove a) (on (p .state) table) → r ≡ carriedTurn next k → Made (callStep (nextLine p) table (M.remove a)) r table out out
+  unfolding tableAfter callText repliesText seenOf outcomeOf bufferAfter removeOf silentOf on txText over
+  remove-made a e f = call-made p next n table table k r out out (M.remove a) e f refl refl
 
 -- what an event is, by the answer of its reader
-module _ (room : Bool) (p : Player) (table : List ℕ) (read : Read) (line : List ℕ) where
-  pub event-bad : read ≡ R.Bad → eventStep room p table (meant read line) ≡ badStep room p table
+module _ (p : Player) (table : List ℕ) (read : Read) (line : List ℕ) where
+  pub event-bad : read ≡ R.Bad → eventStep p table (meant read line) ≡ badStep p table
   unfolding eventStep meant
   event-bad e = rw e
 
-  pub event-add : (a asn : ℕ) → read ≡ R.Add a asn → eventStep room p table (meant read line) ≡ callStep room p table (M.add a asn)
+  pub event-add : (a asn : ℕ) → read ≡ R.Add a asn → eventStep p table (meant read line) ≡ callStep (nextLine p) table (M.add a asn)
   unfolding eventStep meant
   event-add a asn e = rw e
 
-  pub event-remove : (a : ℕ) → read ≡ R.Remove a → eventStep room p table (meant read line) ≡ callStep room p table (M.remove a)
+  pub event-remove : (a : ℕ) → read ≡ R.Remove a → eventStep p table (meant read line) ≡ callStep (nextLine p) table (M.remove a)
   unfolding eventStep meant
   event-remove a e = rw e
 
-  pub event-start : (a : ℕ) → read ≡ R.Start a → eventStep room p table (meant read line) ≡ callStep room p table (M.start a lent)
+  pub event-start : (a : ℕ) → read ≡ R.Start a → eventStep p table (meant read line) ≡ callStep (nextLine p) table (M.start a lent)
   unfolding eventStep meant
   event-start a e = rw e
 
-  pub event-stop : (a : ℕ) → read ≡ R.Stop a → eventStep room p table (meant read line) ≡ callStep room p table (M.stop a lent)
+  pub event-stop : (a : ℕ) → read ≡ R.Stop a → eventStep p table (meant read line) ≡ callStep (nextLine p) table (M.stop a lent)
   unfolding eventStep meant
   event-stop a e = rw e
 
-  pub event-tick : (a count : ℕ) → read ≡ R.Tick a count → eventStep room p table (meant read line) ≡ quietStep (due p a count) table 0
+  pub event-tick : (a count : ℕ) → read ≡ R.Tick a count → eventStep p table (meant read line) ≡ quietStep (due (nextLine p) a count) table 0
   unfolding eventStep meant
   event-tick a count e = rw e
 
   pub event-rx : (a at : ℕ) → read ≡ R.Receive a at
-      → eventStep room p table (meant read line) ≡ callStep room p table (M.receive a (hexOctets (drop at line)) [] lent)
+      → eventStep p table (meant read line) ≡ callStep (nextLine p) table (M.receive a (hexOctets (drop at line)) [] lent)
   unfolding eventStep meant
   event-rx a at e = rw e
 
@@ -335,126 +428,177 @@ rx-stands read line a at e h =
 
 -- the part of the line that is handed over is its rest
 pub rx-made : (read : Read) (line : List ℕ) (a at : ℕ) → read ≡ R.Receive a at → (digits : List ℕ) → digits ≡ drop at line
-    → (p : Player) (table after : List ℕ) (k : Called) (r : Told) (out new : List ℕ)
-    → k ≡ calledOf (M.receive a (hexOctets digits) [] lent) (on (p .state) table) → r ≡ carriedTurn p k
+    → (p next : Player) → next ≡ nextLine p → (table after : List ℕ) (k : Called) (r : Told) (out new : List ℕ)
+    → k ≡ calledOf (M.receive a (hexOctets digits) [] lent) (on (p .state) table) → r ≡ carriedTurn next k
     → after ≡ tableAfter (M.receive a (hexOctets digits) [] lent) (on (p .state) table)
-    → new ≡ over (callText (M.receive a (hexOctets digits) [] lent) (on (p .state) table)) out → Made (eventStep true p table (meant read line)) 0 r after out new
-rx-made read line a at e digits d p table after k r out new h f t u =
-    made-as 0 out (event-rx true p table read line a at e)
-    (call-made (M.receive a (hexOctets (drop at line)) [] lent) p table after k r out new
+    → new ≡ over (callText (M.receive a (hexOctets digits) [] lent) (on (p .state) table)) out → Made (eventStep p table (meant read line)) r after out new
+rx-made read line a at e digits d p next n table after k r out new h f t u =
+    made-as out (event-rx p table read line a at e)
+    (call-made p next n table after k r out new (M.receive a (hexOctets (drop at line)) [] lent)
     (h ∙ ap (λ (l : List ℕ). calledOf (M.receive a (hexOctets l) [] lent) (on (p .state) table)) d) f
     (t ∙ ap (λ (l : List ℕ). tableAfter (M.receive a (hexOctets l) [] lent) (on (p .state) table)) d)
     (u ∙ ap (λ (l : List ℕ). over (callText (M.receive a (hexOctets l) [] lent) (on (p .state) table)) out) d))
 
 -- ---- lines and ticks
 
-module _ (room : Bool) (p : Player) (table line : List ℕ) where
-  pub line-head : p .lines < 4 → lineStep room p table line ≡ headStep room (nextLine p) table line
-  unfolding lineStep
-  line-head h = on-true (ltb (p .lines) 4) _ _ (lt-ltb (p .lines) 4 h)
+-- a step made without using octets, told with those used
+pub using-made : (s : Step) (used : ℕ) (q r : Told) (table out new : List ℕ) → Made s q table out new → r ≡ usingOf q used → Made (withUsed used s) r table out new
+unfolding usingOf toldOf withUsed
+using-made s used q r table out new m e = (e ∙ ap (λ (t : Told). usingOf t used) (m .0), m .1)
 
-  pub line-event : 4 ≤ p .lines → lineStep room p table line ≡ eventStep room (nextLine p) table (eventOf line)
-  unfolding lineStep
-  line-event h = on-false (ltb (p .lines) 4) _ _ (le-ltb (p .lines) 4 h)
+module _ (p : Player) (table line out : List ℕ) (used : ℕ) (r : Told) where
+  abbrev taken : Step
+  taken = given p table (lineChecked (roomy out) p table line) (withUsed used (lineStep p table line))
 
-module _ (p q : Player) (e : q ≡ nextLine p) (table line out : List ℕ) (r : Told) where
+  line-as : (c : ℕ) (s : Step) → lineChecked (roomy out) p table line ≡ c → lineStep p table line ≡ s → taken ≡ given p table c (withUsed used s)
+  line-as c s e f = ap (λ (n : ℕ). given p table n (withUsed used (lineStep p table line))) e ∙ ap (λ (x : Step). given p table c (withUsed used x)) f
+
   -- one of the first four
-  pub line-setting : p .lines < 4 → (new : List ℕ) → r ≡ toldOf (headStep (roomy out) q table line) 0 → new ≡ over ((headStep (roomy out) q table line) .text) out
-      → Made (lineStep (roomy out) p table line) 0 r table out new
+  pub line-setting : p .lines < 4 → (new : List ℕ) → r ≡ toldOf (reported (roomy out) p table used (headStep p table line))
+      → new ≡ over ((reported (roomy out) p table used (headStep p table line)) .text) out → Made taken r table out new
+  unfolding lineStep lineChecked reported
   line-setting h new f k =
-      made-as 0 out (line-head (roomy out) p table line h ∙ ap (λ (x : Player). headStep (roomy out) x table line) (sym e))
-      (f, (sym (head-table (roomy out) q table line), k))
+      let t = lt-ltb (p .lines) 4 h in
+      made-as out
+      (line-as (reportCheck (roomy out) ((headStep p table line) .answer)) (headStep p table line) (on-true (ltb (p .lines) 4) _ _ t) (on-true (ltb (p .lines) 4) _ _ t))
+      (f, (sym (reported-table p table (roomy out) used line), k))
 
   module _ (read : Read) (m : meant read line ≡ eventOf line) (h : 4 ≤ p .lines) where
-    line-step : (b : Bool) → roomy out ≡ b → lineStep (roomy out) p table line ≡ eventStep b q table (meant read line)
-    line-step b room =
-        line-event (roomy out) p table line h ∙ ap (λ (x : Bool). eventStep x (nextLine p) table (eventOf line)) room
-        ∙ ap (λ (x : Player). eventStep b x table (eventOf line)) (sym e) ∙ ap (λ (x : Event). eventStep b q table x) (sym m)
+    abbrev asked : ℕ
+    asked = eventChecked (roomy out) (p .state) (length table) (meant read line)
 
-    pub line-short : length out < 65536 → r ≡ toldOf (eventStep false q table (meant read line)) 0 → Made (lineStep (roomy out) p table line) 0 r table out out
-    unfolding roomy over
-    line-short k f =
-        let s = short-quiet q table (meant read line) in
-        made-as 0 out (line-step false (lt-leb 65536 (length out) k)) (f, (sym (s .0), rw (s .1) refl))
+    event-as : taken ≡ given p table asked (withUsed used (eventStep p table (meant read line)))
+    unfolding lineStep lineChecked
+    event-as =
+        let t = le-ltb (p .lines) 4 h in
+        line-as asked (eventStep p table (meant read line))
+        (on-false (ltb (p .lines) 4) _ _ t ∙ ap (eventChecked (roomy out) (p .state) (length table)) (sym m))
+        (on-false (ltb (p .lines) 4) _ _ t ∙ ap (eventStep p table) (sym m))
 
-    pub line-made : 65536 ≤ length out → (after new : List ℕ) → Made (eventStep true q table (meant read line)) 0 r after out new
-        → Made (lineStep (roomy out) p table line) 0 r after out new
-    unfolding roomy
-    line-made k after new f = made-as 0 out (line-step true (le-leb 65536 (length out) k)) f
+    pub line-refused : (refusal : ℕ) → refusal ≡ asked → (refusal ≡ 0 → ⊥) → r ≡ toldOf (quietStep p table refusal) → Made taken r table out out
+    line-refused refusal e n f =
+        made-as out (event-as ∙ ap (λ (k : ℕ). given p table k (withUsed used (eventStep p table (meant read line)))) (sym e) ∙ given-refused p table refusal _ n)
+        (quiet-made p table refusal r out f)
 
-module _ (p : Player) (table out : List ℕ) (r : Told) (q : Player) (e : q ≡ due p (p .address) (p .ticks - 1)) where
-  pub tick-short : length out < 65536 → r ≡ toldOf (quietStep q table 3) 0 → Made (tickStep (roomy out) p table) 0 r table out out
-  unfolding tickStep callStep roomy
-  tick-short h f =
-      made-as 0 out (on-false (leb 65536 (length out)) _ _ (lt-leb 65536 (length out) h)) (quiet-made (due p (p .address) (p .ticks - 1)) table 3 0 r out (rw e at f))
+    pub line-made : asked ≡ 0 → (after new : List ℕ) → Made (withUsed used (eventStep p table (meant read line))) r after out new → Made taken r after out new
+    line-made e after new f = made-as out (event-as ∙ given-whole p table asked _ e) f
 
-  pub tick-made : 65536 ≤ length out → (k : Called) (after new : List ℕ) → k ≡ calledOf (M.tick (p .address) lent) (on (p .state) table) → r ≡ carriedTurn q k
+module _ (p : Player) (table out : List ℕ) (r : Told) (refusal : ℕ) (e : refusal ≡ lentChecks (roomy out) (p .state) (length table)) where
+  abbrev ticked : Step
+  ticked = given p table (lentChecks (roomy out) (p .state) (length table)) (tickStep p table)
+
+  pub tick-refused : (refusal ≡ 0 → ⊥) → r ≡ toldOf (quietStep p table refusal) → Made ticked r table out out
+  tick-refused n f =
+      made-as out (ap (λ (k : ℕ). given p table k (tickStep p table)) (sym e) ∙ given-refused p table refusal _ n) (quiet-made p table refusal r out f)
+
+  pub tick-made : refusal ≡ 0 → (q : Player) → q ≡ due p (p .address) (p .ticks - 1)
+      → (k : Called) (after new : List ℕ) → k ≡ calledOf (M.tick (p .address) lent) (on (p .state) table) → r ≡ carriedTurn q k
       → after ≡ tableAfter (M.tick (p .address) lent) (on (p .state) table) → new ≡ over (callText (M.tick (p .address) lent) (on (p .state) table)) out
-      → Made (tickStep (roomy out) p table) 0 r after out new
-  unfolding tickStep roomy due
-  tick-made h k after new c f a t =
-      rw (le-leb 65536 (length out) h) (call-made (M.tick (p .address) lent) (due p (p .address) (p .ticks - 1)) table after k r out new c (rw e at f) a t)
+      → Made ticked r after out new
+  unfolding tickStep callStep carriedTurn calledOf toldOf due
+  tick-made z q d k after new c f a t =
+      made-as out (given-whole p table _ (tickStep p table) (sym e ∙ z))
+      (f ∙ ap (λ (x : Player). carriedTurn x k) d ∙ ap (carriedTurn (due p (p .address) (p .ticks - 1))) c, (a, t))
 
 -- ---- the turn
 
 -- what is promised of a turn: the answer, the line buffer, the table and the output buffer
 abbrev pub Turned : Player → List ℕ → List ℕ → List ℕ → List ℕ → Told → List ℕ → List ℕ → List ℕ → Type 0
 Turned p line table input out r line′ table′ out′ =
-    (r ≡ toldOf (turnStep (roomy out) p line table input) (usedOf p input))
+    (r ≡ toldOf (turnStep (roomy out) p line table input))
     × ((line′ ≡ heldOf p line input) × ((table′ ≡ (turnStep (roomy out) p line table input) .table) × (out′ ≡ over ((turnStep (roomy out) p line table input) .text) out)))
 
+-- the line buffer is touched only where a piece is held
+module _ (p : Player) (line input : List ℕ) where
+  untouched : onlyHolds p line input ≡ false → heldOf p line input ≡ line
+  unfolding heldOf
+  untouched e = on-false (onlyHolds p line input) _ _ e
+
+  held-broken : p .broken ≡ true → heldOf p line input ≡ line
+  unfolding onlyHolds
+  held-broken e = untouched (rw e)
+
+  module _ (b : p .broken ≡ false) where
+    held-tick : ltb 0 (p .ticks) ≡ true → heldOf p line input ≡ line
+    unfolding onlyHolds
+    held-tick e = untouched (rw (b, e))
+
+    module _ (t : ltb 0 (p .ticks) ≡ false) where
+      held-unfit : lineFits line ≡ false → heldOf p line input ≡ line
+      unfolding onlyHolds
+      held-unfit e = untouched (rw (b, t, e))
+
+      held-ended : lineFits line ≡ true → (gathered 0 (p .held) input) .ended ≡ true → heldOf p line input ≡ line
+      unfolding onlyHolds
+      held-ended f e = untouched (rw (b, t, f, e))
+
+      held-held : lineFits line ≡ true → (gathered 0 (p .held) input) .ended ≡ false → heldOf p line input ≡ lineAfter (p .held) line input
+      unfolding onlyHolds heldOf
+      held-held f e = on-true (not (p .broken) && not (ltb 0 (p .ticks)) && lineFits line && not ((gathered 0 (p .held) input) .ended)) _ _ (rw (b, t, f, e))
+
 module _ (p : Player) (line table input out : List ℕ) (r : Told) where
-  -- what a way through the turn does, from the step, the octets used and the line buffer that it has
-  turned : (s : Step) (used : ℕ) (line′ table′ out′ : List ℕ) → turnStep (roomy out) p line table input ≡ s → usedOf p input ≡ used → heldOf p line input ≡ line′
-      → Made s used r table′ out out′ → Turned p line table input out r line′ table′ out′
-  turned s used line′ table′ out′ e f h m = rw (e, f, h) (m .0, (refl, (m .1 .0, m .1 .1)))
+  -- what a way through the turn does, from what it asks for, its step and the line buffer that it leaves
+  turned : (c : ℕ) (s : Step) (line′ table′ out′ : List ℕ) → turnChecked (roomy out) p line table input ≡ c → freeStep p line table input ≡ s
+      → heldOf p line input ≡ line′ → Made (given p table c s) r table′ out out′ → Turned p line table input out r line′ table′ out′
+  unfolding turnStep
+  turned c s line′ table′ out′ e f h m =
+      let k = ap (λ (n : ℕ). given p table n (freeStep p line table input)) e ∙ ap (given p table c) f in
+      (m .0 ∙ ap toldOf (sym k), (sym h, (m .1 .0 ∙ ap (λ (x : Step). x .table) (sym k), m .1 .1 ∙ ap (λ (x : Step). over (x .text) out) (sym k))))
 
   -- a broken player uses the whole piece
-  pub turn-broken : p .broken ≡ true → r ≡ toldOf (quietStep p table 0) (length input) → Turned p line table input out r line table out
-  unfolding turnStep usedOf heldOf
-  turn-broken b h =
-      turned (quietStep p table 0) (length input) line table out (on-true (p .broken) _ _ b) (on-true (p .broken) _ _ b) (on-true (p .broken) _ _ b)
-      (quiet-made p table 0 (length input) r out h)
+  pub turn-broken : p .broken ≡ true → (q : Told) → q ≡ toldOf (quietStep p table 0) → r ≡ usingOf q (length input) → Turned p line table input out r line table out
+  unfolding turnChecked freeStep
+  turn-broken b q h u =
+      turned 0 (withUsed (length input) (quietStep p table 0)) line table out (on-true (p .broken) _ _ b) (on-true (p .broken) _ _ b) (held-broken p line input b)
+      (made-as out (given-whole p table 0 _ refl) (using-made (quietStep p table 0) (length input) q r table out out (quiet-made p table 0 q out h) u))
 
   module _ (b : p .broken ≡ false) where
     -- one of the ticks that are due; of the piece nothing is used
-    pub turn-tick : 0 < p .ticks → (table′ out′ : List ℕ) → Made (tickStep (roomy out) p table) 0 r table′ out out′ → Turned p line table input out r line table′ out′
-    unfolding turnStep usedOf heldOf
+    pub turn-tick : 0 < p .ticks → (table′ out′ : List ℕ)
+        → Made (given p table (lentChecks (roomy out) (p .state) (length table)) (tickStep p table)) r table′ out out′ → Turned p line table input out r line table′ out′
+    unfolding turnChecked freeStep
     turn-tick t table′ out′ m =
         let k = lt-ltb 0 (p .ticks) t in
-        turned (tickStep (roomy out) p table) 0 line table′ out′ (on-false (p .broken) _ _ b ∙ on-true (ltb 0 (p .ticks)) _ _ k)
-        (on-false (p .broken) _ _ b ∙ on-true (ltb 0 (p .ticks)) _ _ k) (on-false (p .broken) _ _ b ∙ on-true (ltb 0 (p .ticks)) _ _ k) m
+        turned (lentChecks (roomy out) (p .state) (length table)) (tickStep p table) line table′ out′ (on-false (p .broken) _ _ b ∙ on-true (ltb 0 (p .ticks)) _ _ k)
+        (on-false (p .broken) _ _ b ∙ on-true (ltb 0 (p .ticks)) _ _ k) (held-tick p line input b k) m
 
-    module _ (t : p .ticks ≤ 0) (g : Gathered) (e : g ≡ gathered 0 (p .held) input) (line′ : List ℕ) (l : line′ ≡ lineAfter (p .held) line input) where
-      -- the piece ends no line
-      pub turn-held : g .ended ≡ false → r ≡ toldOf (quietStep (holding p (g .held)) table 0) (g .used) → Turned p line table input out r line′ table out
-      unfolding turnStep usedOf heldOf
-      turn-held n h =
+    module _ (t : p .ticks ≤ 0) where
+      -- the line buffer is too short
+      pub turn-unfit : length line < 4118 → r ≡ toldOf (quietStep p table 3) → Turned p line table input out r line table out
+      unfolding turnChecked lineFits check
+      turn-unfit h f =
           let k = le-ltb 0 (p .ticks) t in
-          turned (quietStep (holding p (g .held)) table 0) (g .used) line′ table out
-          (on-false (p .broken) _ _ b ∙ on-false (ltb 0 (p .ticks)) _ _ k ∙ rw (sym e) (on-false (g .ended) _ _ n))
-          (on-false (p .broken) _ _ b ∙ on-false (ltb 0 (p .ticks)) _ _ k ∙ rw (sym e) refl)
-          (on-false (p .broken) _ _ b ∙ on-false (ltb 0 (p .ticks)) _ _ k ∙ sym l) (quiet-made (holding p (g .held)) table 0 (g .used) r out h)
+          let l = lt-leb 4118 (length line) h in
+          turned 3 (freeStep p line table input) line table out
+          (on-false (p .broken) _ _ b ∙ on-false (ltb 0 (p .ticks)) _ _ k ∙ on-false (leb 4118 (length line)) _ _ l) refl (held-unfit p line input b k l)
+          (made-as out (given-refused p table 3 _ (λ z. absurd (omega (arith, z)))) (quiet-made p table 3 r out f))
 
-      -- a line has ended
-      pub turn-line : g .ended ≡ true → (table′ out′ : List ℕ) → Made (lineStep (roomy out) p table (lineHeld (g .held) line′)) (g .used) r table′ out out′
-          → Turned p line table input out r line′ table′ out′
-      unfolding turnStep usedOf heldOf
-      turn-line n table′ out′ m =
-          let k = le-ltb 0 (p .ticks) t in
-          turned (lineStep (roomy out) p table (lineHeld (g .held) line′)) (g .used) line′ table′ out′
-          (on-false (p .broken) _ _ b ∙ on-false (ltb 0 (p .ticks)) _ _ k ∙ rw (sym e, sym l) (on-true (g .ended) _ _ n))
-          (on-false (p .broken) _ _ b ∙ on-false (ltb 0 (p .ticks)) _ _ k ∙ rw (sym e) refl)
-          (on-false (p .broken) _ _ b ∙ on-false (ltb 0 (p .ticks)) _ _ k ∙ sym l) m
+      module _ (fits : 4118 ≤ length line) (g : Gathered) (e : g ≡ gathered 0 (p .held) input) where
+        -- the piece ends no line
+        pub turn-held : g .ended ≡ false → (q : Told) → q ≡ toldOf (quietStep (holding p (g .held)) table 0) → r ≡ usingOf q (g .used)
+            → (line′ : List ℕ) → line′ ≡ lineAfter (p .held) line input → Turned p line table input out r line′ table out
+        unfolding turnChecked freeStep lineFits check
+        turn-held n q h u line′ l =
+            let k = le-ltb 0 (p .ticks) t in
+            let m = le-leb 4118 (length line) fits in
+            turned 0 (withUsed (g .used) (quietStep (holding p (g .held)) table 0)) line′ table out
+            (on-false (p .broken) _ _ b ∙ on-false (ltb 0 (p .ticks)) _ _ k ∙ on-true (leb 4118 (length line)) _ _ m ∙ rw (sym e) (on-false (g .ended) _ _ n))
+            (on-false (p .broken) _ _ b ∙ on-false (ltb 0 (p .ticks)) _ _ k ∙ rw (sym e) (ap (withUsed (g .used)) (on-false (g .ended) _ _ n)))
+            (held-held p line input b k m (ap (λ (x : Gathered). x .ended) (sym e) ∙ n) ∙ sym l)
+            (made-as out (given-whole p table 0 _ refl) (using-made (quietStep (holding p (g .held)) table 0) (g .used) q r table out out (quiet-made (holding p (g .held)) table 0 q out h) u))
 
--- a step made without using octets, told with those used
-pub using-made : (s : Step) (used : ℕ) (q r : Told) (table out new : List ℕ) → Made s 0 q table out new → r ≡ usingOf q used → Made s used r table out new
-unfolding usingOf toldOf
-using-made s used q r table out new m e = (e ∙ ap (λ (t : Told). usingOf t used) (m .0), m .1)
-
-pub using-told : (s : Step) (used : ℕ) (q r : Told) → q ≡ toldOf s 0 → r ≡ usingOf q used → r ≡ toldOf s used
-unfolding usingOf toldOf
-using-told s used q r h e = e ∙ ap (λ (t : Told). usingOf t used) h
+        -- a line has ended
+        pub turn-line : g .ended ≡ true → (whole : List ℕ) → whole ≡ lineAfter (p .held) (take 4118 line) input → (table′ out′ : List ℕ)
+            → Made (given p table (lineChecked (roomy out) p table (lineHeld (g .held) whole)) (withUsed (g .used) (lineStep p table (lineHeld (g .held) whole)))) r table′ out out′
+            → Turned p line table input out r line table′ out′
+        unfolding turnChecked freeStep lineFits check endedLine
+        turn-line n whole l table′ out′ m =
+            let k = le-ltb 0 (p .ticks) t in
+            let o = le-leb 4118 (length line) fits in
+            turned (lineChecked (roomy out) p table (lineHeld (g .held) whole)) (withUsed (g .used) (lineStep p table (lineHeld (g .held) whole))) line table′ out′
+            (on-false (p .broken) _ _ b ∙ on-false (ltb 0 (p .ticks)) _ _ k ∙ on-true (leb 4118 (length line)) _ _ o ∙ rw (sym e, sym l) (on-true (g .ended) _ _ n))
+            (on-false (p .broken) _ _ b ∙ on-false (ltb 0 (p .ticks)) _ _ k ∙ rw (sym e, sym l) (ap (withUsed (g .used)) (on-true (g .ended) _ _ n)))
+            (held-ended p line input b k o (ap (λ (x : Gathered). x .ended) (sym e) ∙ n)) m
 
 -- ---- the listing
 
@@ -477,12 +621,12 @@ module _ (out : List ℕ) (p : Player) (table : List ℕ) where
 
   pub finish-listed : p .broken ≡ false → 4 ≤ p .lines → (o : Outcome) (new : List ℕ)
       → o ≡ listingOutcome (p .state) table out → new ≡ listingBuffer (p .state) table out
-      → Taken (finishStep out p table) 0 record { player = p; answer = o .answer; used = 0; written = o .first } out new
+      → Taken (finishStep out p table) record { player = p; answer = o .answer; used = 0; written = o .first } out new
   unfolding finishStep listedIn seenOf outcomeOf bufferAfter on listingOutcome listingBuffer ifOk toldOf
   finish-listed b h o new e f =
       let checks = listingChecks (p .state) table out in
       let l = listed-as (eqb checks 0) checks (p .state) (listingText (entries (p .state) table)) out o new e f in
-      taken-as 0 out (on-false (p .broken) _ _ b ∙ on-false (ltb (p .lines) 4) _ _ (le-ltb (p .lines) 4 h))
+      taken-as out (on-false (p .broken) _ _ b ∙ on-false (ltb (p .lines) 4) _ _ (le-ltb (p .lines) 4 h))
       (rw (sym e, sym f) (ap (λ (n : ℕ). record { player = p; answer = o .answer; used = 0; written = n }) (l .0), l .1))
 
 -- ---- the end of the recording
@@ -492,11 +636,11 @@ module _ (room : Bool) (p : Player) (table : List ℕ) where
   unfolding closeStep
   close-broken b = on-true (p .broken) _ _ b
 
-  pub close-missing : p .broken ≡ false → p .lines < 4 → closeStep room p table ≡ brokenStep room (nextLine p) table 19
+  pub close-missing : p .broken ≡ false → p .lines < 4 → closeStep room p table ≡ reported room p table 0 (brokenStep p table 19)
   unfolding closeStep
   close-missing b h = on-false (p .broken) _ _ b ∙ on-true (ltb (p .lines) 4) _ _ (lt-ltb (p .lines) 4 h)
 
-  pub close-unended : p .broken ≡ false → 4 ≤ p .lines → 0 < p .held → closeStep room p table ≡ badStep room (nextLine p) table
+  pub close-unended : p .broken ≡ false → 4 ≤ p .lines → 0 < p .held → closeStep room p table ≡ reported room p table 0 (badStep p table)
   unfolding closeStep
   close-unended b h k =
       on-false (p .broken) _ _ b ∙ on-false (ltb (p .lines) 4) _ _ (le-ltb (p .lines) 4 h) ∙ on-true (ltb 0 (p .held)) _ _ (lt-ltb 0 (p .held) k)

@@ -1,12 +1,15 @@
--- The player: it is handed a recording in pieces, and each turn makes at most one call. 02: "Playing a recording must equal making the calls of its
--- good lines one by one"; that it does is stated in the crate `played`.
+-- The player: it is handed a recording in pieces, and each turn makes at most one call. 02: "Playing a recording must
+-- equal
+-- making the calls of its good lines one by one"; that it does is stated in the crate `played`.
 use Prim.Native.Nat.{ℕ, _-_}
-use mathlib.Core.Bool.{Bool, true, false, cond}
+use mathlib.Core.Bool.{Bool, true, false, cond, not, _&&_}
 use mathlib.Core.List.{List, []}
 use lib.Dec.{leb, ltb, eqb}
 use lib.ListN.{length, take}
+use Rattle.checks.specs.Checks.{check, ifOk}
 use Rattle.neighbour.specs.declared.Settings.{Settings}
 use Rattle.state.specs.declared.State.{State}
+use Rattle.state.specs.Formed.{stateFormed}
 use Rattle.slots.specs.Calls.{freshOf, zeroState}
 use Rattle.values.specs.declared.Number.{Number}
 use Rattle.values.specs.Numbers.{whenNumber}
@@ -106,32 +109,71 @@ having p st =
 
 -- ---- what one turn leaves
 
--- the player, the lent table, the number that it answers, and the octets that it writes
+-- the player, the lent table, the number that it answers, how many octets of the piece it used, and those that it
+-- writes
 pub record Step : Type 0 where
   pub player : Player
   pub table : List ℕ
   pub answer : ℕ
+  pub used : ℕ
   pub text : List ℕ
+
+-- nothing is used or written
+unfoldable pub quietStep : Player → List ℕ → ℕ → Step
+quietStep p table answer = record { player = p; table = table; answer = answer; used = 0; text = [] }
+
+-- the same step, with so many octets used
+unfoldable pub withUsed : ℕ → Step → Step
+withUsed used s = record { player = s .player; table = s .table; answer = s .answer; used = used; text = s .text }
+
+-- what the host is told of a step
+unfoldable pub toldOf : Step → Told
+toldOf s = record { player = s .player; answer = s .answer; used = s .used; written = length (s .text) }
+
+-- ---- what the host must lend
 
 -- 01: "listing buffer at least 65,536"; less is too little for any output
 unfoldable pub roomy : List ℕ → Bool
 roomy out = leb 65536 (length out)
 
--- a line is reported by its number, where there is room
-unfoldable pub reported : Bool → Player → List ℕ
-reported room p = cond room (badText (p .lines)) []
+-- the longest good line and one octet
+unfoldable pub lineFits : List ℕ → Bool
+lineFits line = leb 4118 (length line)
 
--- 02: "19, bad line, before all others"; it is "skipped whole"
-unfoldable pub badStep : Bool → Player → List ℕ → Step
-badStep room p table = record { player = p; table = table; answer = 19; text = reported room p }
+-- 01: 1 "state not well formed", 2 "table not 3,072 numbers", 3 "buffer too short", in this order: what a call with
+-- replies asks for
+unfoldable pub lentChecks : Bool → State → ℕ → ℕ
+lentChecks room st numbers = check (stateFormed st) 1 (check (eqb numbers 3072) 2 (check room 3 0))
 
--- "If one of the first four lines is bad or missing, or fresh refuses them, the first such line .. alone is so reported"
-unfoldable pub brokenStep : Bool → Player → List ℕ → ℕ → Step
-brokenStep room p table answer = record { player = breaking p; table = table; answer = answer; text = reported room p }
+-- 01: "fresh, add and remove take no table or buffer"
+unfoldable pub formedCheck : State → ℕ
+formedCheck st = check (stateFormed st) 1 0
 
--- nothing is written
-unfoldable pub quietStep : Player → List ℕ → ℕ → Step
-quietStep p table answer = record { player = p; table = table; answer = answer; text = [] }
+-- a line's report needs room; without, its number is still the answer: 02: "19, bad line, before all others"
+unfoldable pub reportCheck : Bool → ℕ → ℕ
+reportCheck room answer = check room answer 0
+
+-- A step is said below as if all were lent that it needs. Where something is not, it is refused with that number and
+-- everything is as given. 01: "Every refusal returns the state as given, keeps the table". Nothing of the recording is
+-- used, so the host can come back, and the turn is made then.
+unfoldable pub given : Player → List ℕ → ℕ → Step → Step
+given p table refusal s = ifOk refusal s (quietStep p table refusal)
+
+-- a step whose report needs room, with so many octets used
+unfoldable pub reported : Bool → Player → List ℕ → ℕ → Step → Step
+reported room p table used s = given p table (reportCheck room (s .answer)) (withUsed used s)
+
+-- ---- bad lines
+
+-- it is "reported in its place as `bad=` and its line number, from 1, and skipped whole"
+unfoldable pub badStep : Player → List ℕ → Step
+badStep p table = record { player = nextLine p; table = table; answer = 19; used = 0; text = badText ((nextLine p) .lines) }
+
+-- "If one of the first four lines is bad or missing, or fresh refuses them, the first such line .. alone is so
+-- reported"
+unfoldable pub brokenStep : Player → List ℕ → ℕ → Step
+brokenStep p table answer =
+    record { player = breaking (nextLine p); table = table; answer = answer; used = 0; text = badText ((nextLine p) .lines) }
 
 -- ---- the first four lines
 
@@ -148,83 +190,109 @@ unfoldable pub withNet : Settings → ℕ → Settings
 withNet g net = record { asn = g .asn; own = g .own; capability = g .capability; net = net }
 
 -- one of the first three: a setting, or the end
-unfoldable pub settingStep : Bool → Player → List ℕ → Number → (Settings → ℕ → Settings) → Step
-settingStep room p table value set =
-    whenNumber value (brokenStep room p table 19) (λ n. quietStep (settled p (set (p .settings) n)) table 0)
+unfoldable pub settingStep : Player → List ℕ → Number → (Settings → ℕ → Settings) → Step
+settingStep p table value set =
+    whenNumber value (brokenStep p table 19) (λ n. quietStep (settled (nextLine p) (set (p .settings) n)) table 0)
 
--- fresh, once all four are read; its refusal is reported as the fourth line
-unfoldable pub freshStep : Bool → Player → List ℕ → Settings → Step
-freshStep room p table g =
+-- fresh, once all four are read; its refusal is reported as the fourth line, and answered with its own number
+unfoldable pub freshStep : Player → List ℕ → Settings → Step
+freshStep p table g =
     cond (eqb ((freshOf (g .asn) (g .own) (g .capability) (g .net)) .answer) 0)
-    (quietStep (having (settled p g) ((freshOf (g .asn) (g .own) (g .capability) (g .net)) .state)) table 0)
-    (brokenStep room p table ((freshOf (g .asn) (g .own) (g .capability) (g .net)) .answer))
+    (quietStep (having (settled (nextLine p) g) ((freshOf (g .asn) (g .own) (g .capability) (g .net)) .state)) table 0)
+    (brokenStep p table ((freshOf (g .asn) (g .own) (g .capability) (g .net)) .answer))
 
 -- the fourth
-unfoldable pub netStep : Bool → Player → List ℕ → Number → Step
-netStep room p table value = whenNumber value (brokenStep room p table 19) (λ n. freshStep room p table (withNet (p .settings) n))
+unfoldable pub netStep : Player → List ℕ → Number → Step
+netStep p table value = whenNumber value (brokenStep p table 19) (λ n. freshStep p table (withNet (p .settings) n))
 
--- which of the four it is, its number tells
-unfoldable pub headStep : Bool → Player → List ℕ → List ℕ → Step
-headStep room p table line =
-    cond (eqb (p .lines) 1) (settingStep room p table (ownAsOf line) withAs)
-    (cond (eqb (p .lines) 2) (settingStep room p table (ownOf line) withOwn)
-    (cond (eqb (p .lines) 3) (settingStep room p table (capabilityOf line) withCapability)
-    (netStep room p table (netOf line))))
+-- which of the four it is, the number of lines before it tells
+unfoldable pub headStep : Player → List ℕ → List ℕ → Step
+headStep p table line =
+    cond (eqb (p .lines) 0) (settingStep p table (ownAsOf line) withAs)
+    (cond (eqb (p .lines) 1) (settingStep p table (ownOf line) withOwn)
+    (cond (eqb (p .lines) 2) (settingStep p table (capabilityOf line) withCapability)
+    (netStep p table (netOf line))))
 
 -- ---- the events
 
--- one call, made if there is room for its replies
-unfoldable pub callStep : Bool → Player → List ℕ → M.Call → Step
-callStep room p table call =
-    cond room
-    (record {
+-- one call: the state that it leaves is this player's from then on
+unfoldable pub callStep : Player → List ℕ → M.Call → Step
+callStep p table call =
+    record {
       player = having p ((outcomeOf call (on (p .state) table)) .state);
       table = tableAfter call (on (p .state) table);
       answer = (outcomeOf call (on (p .state) table)) .answer;
+      used = 0;
       text = callText call (on (p .state) table);
-    })
-    (quietStep p table 3)
+    }
 
 -- an event; ticks are made one a turn, from the next on
-unfoldable pub eventStep : Bool → Player → List ℕ → Event → Step
-eventStep room p table bad = badStep room p table
-eventStep room p table (add a asn) = callStep room p table (M.add a asn)
-eventStep room p table (remove a) = callStep room p table (M.remove a)
-eventStep room p table (start a) = callStep room p table (M.start a lent)
-eventStep room p table (stop a) = callStep room p table (M.stop a lent)
-eventStep room p table (tick a count) = quietStep (due p a count) table 0
-eventStep room p table (rx a octets) = callStep room p table (M.receive a octets [] lent)
+unfoldable pub eventStep : Player → List ℕ → Event → Step
+eventStep p table bad = badStep p table
+eventStep p table (add a asn) = callStep (nextLine p) table (M.add a asn)
+eventStep p table (remove a) = callStep (nextLine p) table (M.remove a)
+eventStep p table (start a) = callStep (nextLine p) table (M.start a lent)
+eventStep p table (stop a) = callStep (nextLine p) table (M.stop a lent)
+eventStep p table (tick a count) = quietStep (due (nextLine p) a count) table 0
+eventStep p table (rx a octets) = callStep (nextLine p) table (M.receive a octets [] lent)
+
+-- what it asks for: a report or a call with replies needs room, add and remove do not, and a tick line writes nothing
+-- itself
+unfoldable pub eventChecked : Bool → State → ℕ → Event → ℕ
+eventChecked room st numbers bad = reportCheck room 19
+eventChecked room st numbers (add a asn) = formedCheck st
+eventChecked room st numbers (remove a) = formedCheck st
+eventChecked room st numbers (start a) = lentChecks room st numbers
+eventChecked room st numbers (stop a) = lentChecks room st numbers
+eventChecked room st numbers (tick a count) = 0
+eventChecked room st numbers (rx a octets) = lentChecks room st numbers
 
 -- an ended line
-unfoldable pub lineStep : Bool → Player → List ℕ → List ℕ → Step
-lineStep room p table line =
-    cond (ltb (p .lines) 4) (headStep room (nextLine p) table line) (eventStep room (nextLine p) table (eventOf line))
+unfoldable pub lineStep : Player → List ℕ → List ℕ → Step
+lineStep p table line = cond (ltb (p .lines) 4) (headStep p table line) (eventStep p table (eventOf line))
+
+unfoldable pub lineChecked : Bool → Player → List ℕ → List ℕ → ℕ
+lineChecked room p table line =
+    cond (ltb (p .lines) 4) (reportCheck room ((headStep p table line) .answer))
+    (eventChecked room (p .state) (length table) (eventOf line))
 
 -- one of the ticks that are due
-unfoldable pub tickStep : Bool → Player → List ℕ → Step
-tickStep room p table = callStep room (due p (p .address) (p .ticks - 1)) table (M.tick (p .address) lent)
+unfoldable pub tickStep : Player → List ℕ → Step
+tickStep p table = callStep (due p (p .address) (p .ticks - 1)) table (M.tick (p .address) lent)
 
 -- ---- the turn: a tick that is due, or a line if the piece ends one
 
+-- the line that a piece ends: what was held of it, and what the piece has. It is put together outside the lent buffer.
+unfoldable pub endedLine : Player → List ℕ → List ℕ → List ℕ
+endedLine p line input = lineHeld ((gathered 0 (p .held) input) .held) (lineAfter (p .held) (take 4118 line) input)
+
+-- a broken player uses the piece and does nothing
+unfoldable pub freeStep : Player → List ℕ → List ℕ → List ℕ → Step
+freeStep p line table input =
+    cond (p .broken) (withUsed (length input) (quietStep p table 0))
+    (cond (ltb 0 (p .ticks)) (tickStep p table)
+    (withUsed ((gathered 0 (p .held) input) .used)
+    (cond ((gathered 0 (p .held) input) .ended) (lineStep p table (endedLine p line input))
+    (quietStep (holding p ((gathered 0 (p .held) input) .held)) table 0))))
+
+-- what a turn asks for: a tick all that a call does, else the line buffer, and what the line asks for if one ends
+unfoldable pub turnChecked : Bool → Player → List ℕ → List ℕ → List ℕ → ℕ
+turnChecked room p line table input =
+    cond (p .broken) 0
+    (cond (ltb 0 (p .ticks)) (lentChecks room (p .state) (length table))
+    (check (lineFits line) 3
+    (cond ((gathered 0 (p .held) input) .ended) (lineChecked room p table (endedLine p line input)) 0)))
+
 unfoldable pub turnStep : Bool → Player → List ℕ → List ℕ → List ℕ → Step
-turnStep room p line table input =
-    cond (p .broken) (quietStep p table 0)
-    (cond (ltb 0 (p .ticks)) (tickStep room p table)
-    (cond ((gathered 0 (p .held) input) .ended)
-    (lineStep room p table (lineHeld ((gathered 0 (p .held) input) .held) (lineAfter (p .held) line input)))
-    (quietStep (holding p ((gathered 0 (p .held) input) .held)) table 0)))
+turnStep room p line table input = given p table (turnChecked room p line table input) (freeStep p line table input)
 
--- how many octets of the piece it used: all once the player is broken, none while ticks are due
-unfoldable pub usedOf : Player → List ℕ → ℕ
-usedOf p input = cond (p .broken) (length input) (cond (ltb 0 (p .ticks)) 0 ((gathered 0 (p .held) input) .used))
+-- whether it only holds the octets of the piece
+unfoldable pub onlyHolds : Player → List ℕ → List ℕ → Bool
+onlyHolds p line input = not (p .broken) && not (ltb 0 (p .ticks)) && lineFits line && not ((gathered 0 (p .held) input) .ended)
 
--- and the line buffer after it
+-- the line buffer after a turn: one that does anything else has not touched it
 unfoldable pub heldOf : Player → List ℕ → List ℕ → List ℕ
-heldOf p line input = cond (p .broken) line (cond (ltb 0 (p .ticks)) line (lineAfter (p .held) line input))
-
--- what the host is told of a step
-unfoldable pub toldOf : Step → ℕ → Told
-toldOf s used = record { player = s .player; answer = s .answer; used = used; written = length (s .text) }
+heldOf p line input = cond (onlyHolds p line input) (lineAfter (p .held) line input) line
 
 -- ---- the end of the recording
 
@@ -232,15 +300,16 @@ toldOf s used = record { player = s .player; answer = s .answer; used = used; wr
 unfoldable pub closeStep : Bool → Player → List ℕ → Step
 closeStep room p table =
     cond (p .broken) (quietStep p table 0)
-    (cond (ltb (p .lines) 4) (brokenStep room (nextLine p) table 19)
-    (cond (ltb 0 (p .held)) (badStep room (nextLine p) table)
+    (cond (ltb (p .lines) 4) (reported room p table 0 (brokenStep p table 19))
+    (cond (ltb 0 (p .held)) (reported room p table 0 (badStep p table))
     (quietStep p table 0)))
 
 -- the text of a listing in this buffer; none where it is refused
 unfoldable pub listedIn : List ℕ → Gateway → List ℕ
 listedIn out b = take ((seenOf (M.listing out) b) .first) ((seenOf (M.listing out) b) .buffer)
 
--- "the listing at the end"; "nothing is .. listed" where the first four lines are not good
+-- "the listing at the end", its answer the listing's own; "nothing is .. listed" where the first four lines are not
+-- good
 unfoldable pub finishStep : List ℕ → Player → List ℕ → Step
 finishStep out p table =
     cond (p .broken) (quietStep p table 0)
@@ -249,5 +318,6 @@ finishStep out p table =
       player = p;
       table = table;
       answer = (outcomeOf (M.listing out) (on (p .state) table)) .answer;
+      used = 0;
       text = listedIn out (on (p .state) table);
     }))

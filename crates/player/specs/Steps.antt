@@ -13,12 +13,12 @@ use Rattle.player.specs.declared.Heard.{Heard}
 use Rattle.player.specs.declared.Heard.the-variants as H
 use Rattle.player.specs.Player.{having, withAs, withOwn, withCapability, withNet}
 
--- the settings with that of the line of this number
+-- the settings with that of the line behind so many
 unfoldable pub heardOf : Settings → ℕ → List ℕ → Heard
-heardOf g number line =
-    cond (eqb number 1) (whenNumber (ownAsOf line) H.Bad (λ n. H.Part (withAs g n)))
-    (cond (eqb number 2) (whenNumber (ownOf line) H.Bad (λ n. H.Part (withOwn g n)))
-    (cond (eqb number 3) (whenNumber (capabilityOf line) H.Bad (λ n. H.Part (withCapability g n)))
+heardOf g lines line =
+    cond (eqb lines 0) (whenNumber (ownAsOf line) H.Bad (λ n. H.Part (withAs g n)))
+    (cond (eqb lines 1) (whenNumber (ownOf line) H.Bad (λ n. H.Part (withOwn g n)))
+    (cond (eqb lines 2) (whenNumber (capabilityOf line) H.Bad (λ n. H.Part (withCapability g n)))
     (whenNumber (netOf line) H.Bad (λ n. H.Whole (withNet g n)))))
 
 -- after a call

@@ -1,18 +1,20 @@
-// Plays a recording that comes in pieces of any size. Each turn makes at most one call, so the output of a turn is bounded.
+// Plays a recording that comes in pieces of any size. Each turn makes at most one call, so the output of a turn is
+// bounded.
 use calling::Called;
 use neighbour::Settings;
 use recording::Read;
 use state::State;
 use values::Number;
 ghost use mathlib.Core.Path.{_≡_};
-ghost use mathlib.Core.Bool.{true, false};
+ghost use mathlib.Core.Bool.{true};
 ghost use mathlib.Core.List.{List};
-ghost use Prim.Native.Nat.{ℕ, _≤_, _<_};
+ghost use Prim.Native.Nat.{ℕ, _<_};
+ghost use lib.Dec.{leb};
 ghost use lib.ListN.{length};
 ghost use Rattle.octets.specs.Buffer.{over};
 ghost use Rattle.recording.specs.Meant.{meant};
 ghost use Rattle.recording.specs.Steps.{standsOn};
-ghost use Rattle.player.specs.Player.{beginning, nextLine, holding, breaking, due, settled, having, roomy, reported, badStep, brokenStep, quietStep, freshStep, headStep, eventStep, lineStep, tickStep, turnStep, usedOf, heldOf, toldOf, closeStep, finishStep};
+ghost use Rattle.player.specs.Player.{beginning, nextLine, holding, breaking, due, settled, having, roomy, lentChecks, formedCheck, reportCheck, reported, given, withUsed, badStep, brokenStep, quietStep, freshStep, headStep, eventStep, eventChecked, lineStep, lineChecked, tickStep, turnStep, heldOf, toldOf, closeStep, finishStep};
 ghost use Rattle.player.specs.Steps.{heardOf, carriedTurn, usingOf};
 
 // The least output buffer, as for a listing.
@@ -34,7 +36,8 @@ pub struct Player {
     pub state: State,
 }
 
-// What a turn leaves: how many octets of the piece it used and how many it wrote, and the number of 01 or 19 for a bad line.
+// What a turn leaves: how many octets of the piece it used and how many it wrote, and the number of 01 or 19 for a bad
+// line.
 pub struct Told {
     pub player: Player,
     pub answer: u8,
@@ -99,9 +102,9 @@ fn have(p: Player, st: State) -> Player
     next
 }
 
-// A turn that writes nothing.
+// A turn that uses and writes nothing: all is as given.
 fn quiet(p: Player, answer: u8) -> Told
-    ensures { λ r. ⌜ ((table : List ℕ) → r ≡ toldOf (quietStep p table answer) 0) ⌝ }
+    ensures { λ r. ⌜ ((table : List ℕ) → r ≡ toldOf (quietStep p table answer)) ⌝ }
 {
     Told {
         player: p,
@@ -111,25 +114,62 @@ fn quiet(p: Player, answer: u8) -> Told
     }
 }
 
-// Reports the line just counted, where there is room.
-fn report(p: Player, out: &mut [u8]) -> usize
-    ensures { λ r. ⌜ r ≡ length (reported (roomy (now (out .entry))) p) ⌝ }
-    ensures { λ _. ⌜ now (out .exit) ≡ over (reported (roomy (now (out .entry))) p) (now (out .entry)) ⌝ }
+fn with_used(t: Told, used: usize) -> Told
+    ensures { λ r. ⌜ r ≡ usingOf t used ⌝ }
 {
-    if out.len() < ROOM {
-        return 0;
+    let mut next = t;
+    next.used = used;
+    next
+}
+
+// 1, 2 and 3: what a call with replies asks of the host.
+fn lent_answer(st: State, numbers: usize, room: usize) -> u8
+    ensures { λ r. ⌜ r ≡ lentChecks (leb 65536 room) st numbers ⌝ }
+{
+    if !state::well_formed(st) {
+        return 1;
     }
-    bad_line::put_bad(out, p.lines)
+    if numbers != 3072 {
+        return 2;
+    }
+    if room < ROOM {
+        return 3;
+    }
+    0
+}
+
+// A report asks for room; without, the line's number is answered.
+fn report_answer(answer: u8, room: usize) -> u8
+    ensures { λ r. ⌜ r ≡ reportCheck (leb 65536 room) answer ⌝ }
+{
+    if room < ROOM {
+        return answer;
+    }
+    0
+}
+
+// Add and remove ask for a state only.
+fn formed_answer(st: State) -> u8
+    ensures { λ r. ⌜ r ≡ formedCheck st ⌝ }
+{
+    if !state::well_formed(st) {
+        return 1;
+    }
+    0
 }
 
 // A bad event line.
 fn skip_line(p: Player, out: &mut [u8]) -> Told
-    ensures { λ r. ⌜ ((table : List ℕ) → r ≡ toldOf (badStep (roomy (now (out .entry))) p table) 0) ⌝ }
-    ensures { λ _. ⌜ now (out .exit) ≡ over (reported (roomy (now (out .entry))) p) (now (out .entry)) ⌝ }
+    ensures { λ r. ⌜ ((table : List ℕ) → r ≡ toldOf (reported (roomy (now (out .entry))) p table 0 (badStep p table))) ⌝ }
+    ensures { λ _. ⌜ ((table : List ℕ) → now (out .exit) ≡ over ((reported (roomy (now (out .entry))) p table 0 (badStep p table)) .text) (now (out .entry))) ⌝ }
 {
-    let written = report(p, out);
+    if out.len() < ROOM {
+        return quiet(p, 19);
+    }
+    let next = next_line(p);
+    let written = bad_line::put_bad(out, next.lines);
     Told {
-        player: p,
+        player: next,
         answer: 19,
         used: 0,
         written,
@@ -137,15 +177,20 @@ fn skip_line(p: Player, out: &mut [u8]) -> Told
 }
 
 // One of the first four lines is bad or missing, or fresh refused them.
-fn give_up(p: Player, answer: u8, out: &mut [u8]) -> Told
-    ensures { λ r. ⌜ ((table : List ℕ) → r ≡ toldOf (brokenStep (roomy (now (out .entry))) p table answer) 0) ⌝ }
-    ensures { λ _. ⌜ now (out .exit) ≡ over (reported (roomy (now (out .entry))) p) (now (out .entry)) ⌝ }
+fn give_up(p: Player, answer: u8, used: usize, out: &mut [u8]) -> Told
+    requires { ⌜ (answer ≡ 0 → ⊥) ⌝ }
+    ensures { λ r. ⌜ ((table : List ℕ) → r ≡ toldOf (reported (roomy (now (out .entry))) p table used (brokenStep p table answer))) ⌝ }
+    ensures { λ _. ⌜ ((table : List ℕ) → now (out .exit) ≡ over ((reported (roomy (now (out .entry))) p table used (brokenStep p table answer)) .text) (now (out .entry))) ⌝ }
 {
-    let written = report(p, out);
+    if out.len() < ROOM {
+        return quiet(p, answer);
+    }
+    let next = next_line(p);
+    let written = bad_line::put_bad(out, next.lines);
     Told {
-        player: break_off(p),
+        player: break_off(next),
         answer,
-        used: 0,
+        used,
         written,
     }
 }
@@ -159,26 +204,26 @@ enum Heard {
     Whole(Settings),
 }
 
-// The line of this number: our own AS, our own address, the capability, the common net.
-fn read_setting(settings: Settings, number: u64, line: &[u8]) -> Heard
-    ensures { λ r. ⌜ r ≡ heardOf settings number (now (line .entry)) ⌝ }
+// The line behind so many: our own AS, our own address, the capability, the common net.
+fn read_setting(settings: Settings, lines: u64, line: &[u8]) -> Heard
+    ensures { λ r. ⌜ r ≡ heardOf settings lines (now (line .entry)) ⌝ }
 {
     let mut next = settings;
-    if number == 1 {
+    if lines == 0 {
         let Number::Is(n) = recording::own_as(line) else {
             return Heard::Bad;
         };
         next.asn = n as u16;
         return Heard::Part(next);
     }
-    if number == 2 {
+    if lines == 1 {
         let Number::Is(n) = recording::own(line) else {
             return Heard::Bad;
         };
         next.own = n;
         return Heard::Part(next);
     }
-    if number == 3 {
+    if lines == 2 {
         let Number::Is(n) = recording::capability(line) else {
             return Heard::Bad;
         };
@@ -193,9 +238,9 @@ fn read_setting(settings: Settings, number: u64, line: &[u8]) -> Heard
 }
 
 // All four are read: a fresh state.
-fn begin_state(p: Player, settings: Settings, out: &mut [u8]) -> Told
-    ensures { λ r. ⌜ ((table : List ℕ) → r ≡ toldOf (freshStep (roomy (now (out .entry))) p table settings) 0) ⌝ }
-    ensures { λ _. ⌜ ((table : List ℕ) → now (out .exit) ≡ over ((freshStep (roomy (now (out .entry))) p table settings) .text) (now (out .entry))) ⌝ }
+fn begin_state(p: Player, settings: Settings, used: usize, out: &mut [u8]) -> Told
+    ensures { λ r. ⌜ ((table : List ℕ) → r ≡ toldOf (reported (roomy (now (out .entry))) p table used (freshStep p table settings))) ⌝ }
+    ensures { λ _. ⌜ ((table : List ℕ) → now (out .exit) ≡ over ((reported (roomy (now (out .entry))) p table used (freshStep p table settings)) .text) (now (out .entry))) ⌝ }
 {
     let o = slots::fresh(
         settings.asn,
@@ -204,23 +249,23 @@ fn begin_state(p: Player, settings: Settings, out: &mut [u8]) -> Told
         settings.net,
     );
     if o.answer != 0 {
-        return give_up(p, o.answer, out);
+        return give_up(p, o.answer, used, out);
     }
     let st = o.state;
-    quiet(have(settle(p, settings), st), 0)
+    with_used(quiet(have(settle(next_line(p), settings), st), 0), used)
 }
 
-// One of the first four lines, already counted.
-fn take_setting(p: Player, line: &[u8], out: &mut [u8]) -> Told
-    ensures { λ r. ⌜ ((table : List ℕ) → r ≡ toldOf (headStep (roomy (now (out .entry))) p table (now (line .entry))) 0) ⌝ }
-    ensures { λ _. ⌜ ((table : List ℕ) → now (out .exit) ≡ over ((headStep (roomy (now (out .entry))) p table (now (line .entry))) .text) (now (out .entry))) ⌝ }
+// One of the first four lines.
+fn take_setting(p: Player, line: &[u8], used: usize, out: &mut [u8]) -> Told
+    ensures { λ r. ⌜ ((table : List ℕ) → r ≡ toldOf (reported (roomy (now (out .entry))) p table used (headStep p table (now (line .entry))))) ⌝ }
+    ensures { λ _. ⌜ ((table : List ℕ) → now (out .exit) ≡ over ((reported (roomy (now (out .entry))) p table used (headStep p table (now (line .entry)))) .text) (now (out .entry))) ⌝ }
 {
     let settings = p.settings;
     let heard = read_setting(settings, p.lines, line);
     match heard {
-        Heard::Bad => give_up(p, 19, out),
-        Heard::Part(next) => quiet(settle(p, next), 0),
-        Heard::Whole(next) => begin_state(p, next, out),
+        Heard::Bad => give_up(p, 19, used, out),
+        Heard::Part(next) => with_used(quiet(settle(next_line(p), next), 0), used),
+        Heard::Whole(next) => begin_state(p, next, used, out),
     }
 }
 
@@ -237,74 +282,74 @@ fn carry(p: Player, c: Called) -> Told
     }
 }
 
-// An event without room for what it may write: no call is made.
-fn play_short(p: Player, read: Read) -> Told
-    ensures { λ r. ⌜ ((line table : List ℕ) → r ≡ toldOf (eventStep false p table (meant read line)) 0) ⌝ }
+// What an event asks of the host: the number that refuses it, 0 if nothing is wanting.
+fn event_answer(st: State, read: Read, numbers: usize, room: usize) -> u8
+    ensures { λ r. ⌜ ((line : List ℕ) → r ≡ eventChecked (leb 65536 room) st numbers (meant read line)) ⌝ }
 {
     match read {
-        Read::Bad => quiet(p, 19),
-        Read::Tick(address, count) => quiet(owe_ticks(p, address, count), 0),
-        _ => quiet(p, 3),
+        Read::Bad => report_answer(19, room),
+        Read::Add(_, _) => formed_answer(st),
+        Read::Remove(_) => formed_answer(st),
+        Read::Tick(_, _) => 0,
+        _ => lent_answer(st, numbers, room),
     }
 }
 
-// An event, with room.
+// An event that has what it asks for.
 fn play_event(p: Player, read: Read, line: &[u8], table: &mut [u32], out: &mut [u8]) -> Told
-    requires { ⌜ (standsOn read (now line) ≡ true) × (65536 ≤ length (now out)) ⌝ }
-    ensures { λ r. ⌜ r ≡ toldOf (eventStep true p (now (table .entry)) (meant read (now (line .entry)))) 0 ⌝ }
-    ensures { λ _. ⌜ now (table .exit) ≡ (eventStep true p (now (table .entry)) (meant read (now (line .entry)))) .table ⌝ }
-    ensures { λ _. ⌜ now (out .exit) ≡ over ((eventStep true p (now (table .entry)) (meant read (now (line .entry)))) .text) (now (out .entry)) ⌝ }
+    requires { ⌜ (standsOn read (now line) ≡ true) × (eventChecked (roomy (now out)) (p .state) (length (now table)) (meant read (now line)) ≡ 0) ⌝ }
+    ensures { λ r. ⌜ r ≡ toldOf (eventStep p (now (table .entry)) (meant read (now (line .entry)))) ⌝ }
+    ensures { λ _. ⌜ now (table .exit) ≡ (eventStep p (now (table .entry)) (meant read (now (line .entry)))) .table ⌝ }
+    ensures { λ _. ⌜ now (out .exit) ≡ over ((eventStep p (now (table .entry)) (meant read (now (line .entry)))) .text) (now (out .entry)) ⌝ }
 {
+    let next = next_line(p);
     let st = p.state;
     match read {
         Read::Bad => skip_line(p, out),
-        Read::Add(a, asn) => carry(p, calling::add_neighbour(st, a, asn)),
-        Read::Remove(a) => carry(p, calling::remove_neighbour(st, a)),
-        Read::Start(a) => carry(p, calling::start_neighbour(st, table, out, a)),
-        Read::Stop(a) => carry(p, calling::stop_neighbour(st, table, out, a)),
-        Read::Tick(a, count) => quiet(owe_ticks(p, a, count), 0),
-        Read::Receive(a, at) => carry(p, calling::hear_neighbour(st, table, out, a, &line[at..])),
+        Read::Add(a, asn) => carry(next, calling::add_neighbour(st, a, asn)),
+        Read::Remove(a) => carry(next, calling::remove_neighbour(st, a)),
+        Read::Start(a) => carry(next, calling::start_neighbour(st, table, out, a)),
+        Read::Stop(a) => carry(next, calling::stop_neighbour(st, table, out, a)),
+        Read::Tick(a, count) => quiet(owe_ticks(next, a, count), 0),
+        Read::Receive(a, at) => carry(
+            next,
+            calling::hear_neighbour(st, table, out, a, &line[at..]),
+        ),
     }
 }
 
 // A line that has ended.
-fn take_line(p: Player, line: &[u8], table: &mut [u32], out: &mut [u8]) -> Told
-    ensures { λ r. ⌜ r ≡ toldOf (lineStep (roomy (now (out .entry))) p (now (table .entry)) (now (line .entry))) 0 ⌝ }
-    ensures { λ _. ⌜ now (table .exit) ≡ (lineStep (roomy (now (out .entry))) p (now (table .entry)) (now (line .entry))) .table ⌝ }
-    ensures { λ _. ⌜ now (out .exit) ≡ over ((lineStep (roomy (now (out .entry))) p (now (table .entry)) (now (line .entry))) .text) (now (out .entry)) ⌝ }
+fn take_line(p: Player, line: &[u8], used: usize, table: &mut [u32], out: &mut [u8]) -> Told
+    ensures { λ r. ⌜ r ≡ toldOf (given p (now (table .entry)) (lineChecked (roomy (now (out .entry))) p (now (table .entry)) (now (line .entry))) (withUsed used (lineStep p (now (table .entry)) (now (line .entry))))) ⌝ }
+    ensures { λ _. ⌜ now (table .exit) ≡ (given p (now (table .entry)) (lineChecked (roomy (now (out .entry))) p (now (table .entry)) (now (line .entry))) (withUsed used (lineStep p (now (table .entry)) (now (line .entry))))) .table ⌝ }
+    ensures { λ _. ⌜ now (out .exit) ≡ over ((given p (now (table .entry)) (lineChecked (roomy (now (out .entry))) p (now (table .entry)) (now (line .entry))) (withUsed used (lineStep p (now (table .entry)) (now (line .entry))))) .text) (now (out .entry)) ⌝ }
 {
-    let next = next_line(p);
     if p.lines < 4 {
-        return take_setting(next, line, out);
+        return take_setting(p, line, used, out);
     }
     let read = recording::event(line);
-    if out.len() < ROOM {
-        return play_short(next, read);
+    let st = p.state;
+    let refusal = event_answer(st, read, table.len(), out.len());
+    if refusal != 0 {
+        return quiet(p, refusal);
     }
-    play_event(next, read, line, table, out)
+    with_used(play_event(p, read, line, table, out), used)
 }
 
 // One of the ticks that are due.
 fn make_tick(p: Player, table: &mut [u32], out: &mut [u8]) -> Told
     requires { ⌜ 0 < p .ticks ⌝ }
-    ensures { λ r. ⌜ r ≡ toldOf (tickStep (roomy (now (out .entry))) p (now (table .entry))) 0 ⌝ }
-    ensures { λ _. ⌜ now (table .exit) ≡ (tickStep (roomy (now (out .entry))) p (now (table .entry))) .table ⌝ }
-    ensures { λ _. ⌜ now (out .exit) ≡ over ((tickStep (roomy (now (out .entry))) p (now (table .entry))) .text) (now (out .entry)) ⌝ }
+    ensures { λ r. ⌜ r ≡ toldOf (given p (now (table .entry)) (lentChecks (roomy (now (out .entry))) (p .state) (length (now (table .entry)))) (tickStep p (now (table .entry)))) ⌝ }
+    ensures { λ _. ⌜ now (table .exit) ≡ (given p (now (table .entry)) (lentChecks (roomy (now (out .entry))) (p .state) (length (now (table .entry)))) (tickStep p (now (table .entry)))) .table ⌝ }
+    ensures { λ _. ⌜ now (out .exit) ≡ over ((given p (now (table .entry)) (lentChecks (roomy (now (out .entry))) (p .state) (length (now (table .entry)))) (tickStep p (now (table .entry)))) .text) (now (out .entry)) ⌝ }
 {
-    let next = owe_ticks(p, p.address, p.ticks - 1);
-    if out.len() < ROOM {
-        return quiet(next, 3);
-    }
     let st = p.state;
+    let refusal = lent_answer(st, table.len(), out.len());
+    if refusal != 0 {
+        return quiet(p, refusal);
+    }
+    let next = owe_ticks(p, p.address, p.ticks - 1);
     carry(next, calling::tick_neighbour(st, table, out, p.address))
-}
-
-fn with_used(t: Told, used: usize) -> Told
-    ensures { λ r. ⌜ r ≡ usingOf t used ⌝ }
-{
-    let mut next = t;
-    next.used = used;
-    next
 }
 
 // Before the first line.
@@ -329,9 +374,11 @@ pub fn begin() -> Player
     }
 }
 
-// One turn: a tick if any is due, else the line that the piece of the recording ends, if it does.
+// One turn: a tick if any is due, else the line that the piece of the recording ends, if it does. Where the host has
+// not lent what it needs, it is refused, and
+// the host comes back with all as it was.
 pub fn turn(p: Player, line: &mut [u8], table: &mut [u32], input: &[u8], out: &mut [u8]) -> Told
-    ensures { λ r. ⌜ r ≡ toldOf (turnStep (roomy (now (out .entry))) p (now (line .entry)) (now (table .entry)) (now (input .entry))) (usedOf p (now (input .entry))) ⌝ }
+    ensures { λ r. ⌜ r ≡ toldOf (turnStep (roomy (now (out .entry))) p (now (line .entry)) (now (table .entry)) (now (input .entry))) ⌝ }
     ensures { λ _. ⌜ now (line .exit) ≡ heldOf p (now (line .entry)) (now (input .entry)) ⌝ }
     ensures { λ _. ⌜ now (table .exit) ≡ (turnStep (roomy (now (out .entry))) p (now (line .entry)) (now (table .entry)) (now (input .entry))) .table ⌝ }
     ensures { λ _. ⌜ now (out .exit) ≡ over ((turnStep (roomy (now (out .entry))) p (now (line .entry)) (now (table .entry)) (now (input .entry))) .text) (now (out .entry)) ⌝ }
@@ -342,34 +389,38 @@ pub fn turn(p: Player, line: &mut [u8], table: &mut [u32], input: &[u8], out: &m
     if 0 < p.ticks {
         return make_tick(p, table, out);
     }
-    let g = gather::gather(line, p.held, input);
+    if line.len() < 4118 {
+        return quiet(p, 3);
+    }
+    let mut whole = [0u8; 4118];
+    let g = gather::join_piece(&mut whole, line, p.held, input);
     if !g.ended {
+        gather::gather(line, p.held, input);
         return with_used(quiet(hold(p, g.held), 0), g.used);
     }
-    let ended = gather::held_line(line, g.held);
-    with_used(take_line(p, ended, table, out), g.used)
+    take_line(p, gather::held_line(&whole, g.held), g.used, table, out)
 }
 
 // The recording is over: a line that did not end is bad, and so is a missing one of the first four.
 pub fn close(p: Player, out: &mut [u8]) -> Told
-    ensures { λ r. ⌜ ((table : List ℕ) → r ≡ toldOf (closeStep (roomy (now (out .entry))) p table) 0) ⌝ }
+    ensures { λ r. ⌜ ((table : List ℕ) → r ≡ toldOf (closeStep (roomy (now (out .entry))) p table)) ⌝ }
     ensures { λ _. ⌜ ((table : List ℕ) → now (out .exit) ≡ over ((closeStep (roomy (now (out .entry))) p table) .text) (now (out .entry))) ⌝ }
 {
     if p.broken {
         return quiet(p, 0);
     }
     if p.lines < 4 {
-        return give_up(next_line(p), 19, out);
+        return give_up(p, 19, 0, out);
     }
     if 0 < p.held {
-        return skip_line(next_line(p), out);
+        return skip_line(p, out);
     }
     quiet(p, 0)
 }
 
 // After that, the listing.
 pub fn finish(p: Player, table: &[u32], out: &mut [u8]) -> Told
-    ensures { λ r. ⌜ r ≡ toldOf (finishStep (now (out .entry)) p (now (table .entry))) 0 ⌝ }
+    ensures { λ r. ⌜ r ≡ toldOf (finishStep (now (out .entry)) p (now (table .entry))) ⌝ }
     ensures { λ _. ⌜ now (out .exit) ≡ over ((finishStep (now (out .entry)) p (now (table .entry))) .text) (now (out .entry)) ⌝ }
 {
     if p.broken {

@@ -12,14 +12,14 @@ turn-requires : tie.Need-turn-requires
 turn-requires c κs = search needs
 
 sub-next-stage : tie.Need-sub-next-stage
-sub-next-stage c = used-fits _ _ _ _ (c .before .before .before .before .before .before .before .before .turn .ensures .0)
+sub-next-stage c = used-fits _ _ _ _ _ _ (c .before .before .before .before .before .before .before .before .turn .ensures .0)
 
 next-stage-requires : tie.Need-next-stage-requires
 next-stage-requires c κs = search needs
 
 add-t17 : tie.Need-add-t17
 add-t17 c =
-    omega (arith, from-fits _ _ _ _ _ _ _ (c .before .before .before .before .before .before .before .before .before .before .before .turn .ensures .0) (c .before .before .before .before .before .before .before .before .before .before .before .before .before .before .before .rest-of .ensures), c .before .before .before .before .before .before .before .before .before .before .before .before .before .before .before .before .before .before .before .before .before .good .1 .1 .1 .0)
+    omega (arith, from-fits _ _ _ _ _ _ (c .before .before .before .before .before .before .before .before .before .before .before .turn .ensures .0) _ _ _ (c .before .before .before .before .before .before .before .before .before .before .before .before .before .before .before .rest-of .ensures), c .before .before .before .before .before .before .before .before .before .before .before .before .before .before .before .before .before .before .before .before .before .good .1 .1 .1 .0)
 
 same-length : tie.Need-same-length
 same-length c = search needs

@@ -1,8 +1,8 @@
 -- `player::begin_state` meets its contract. Assumes nothing.
 use mathlib.Core.Path.{ap, _∙_}
 use Rattle.player.specs.declared.Player.{Player}
-use Rattle.player.specs.Player.{settled, having, roomy, quietStep, toldOf}
-use Rattle.player.proofs.Laws.{quiet-taken, for-each, broken-taken, fresh-refused, fresh-had}
+use Rattle.player.specs.Player.{nextLine, settled, having, roomy, quietStep, toldOf}
+use Rattle.player.proofs.Laws.{for-each, taken-as, quiet-using, reported-as, reported-quiet, fresh-refused, fresh-had}
 use borrow.Author.Needs.{needs}
 use Rattle.player.proofs.begin_state.Statement.{statement}
 use Rattle.player.proofs.begin_state.Tie as tie
@@ -18,10 +18,12 @@ same-length c = search needs
 
 returns : tie.Need-returns
 returns c =
-    let a = c .before .before .before .before .before .before .before .before .args in
     for-each
     (λ table.
-    broken-taken (a .p) (a .out .now) _ table _ _ _ (fresh-refused (roomy (a .out .now)) (a .p) table (a .settings) _ (c .before .before .before .before .before .before .fresh .ensures) (c .before .before .before .before .if1 .taken)) (c .before .before .give-up .ensures .0 table) (c .before .before .give-up .ensures .1))
+    taken-as (c .before .before .before .before .before .before .before .before .args .out .now) (reported-as (roomy (c .before .before .before .before .before .before .before .before .args .out .now)) (c .before .before .before .before .before .before .before .before .args .p) table (c .before .before .before .before .before .before .before .before .args .used) (fresh-refused (c .before .before .before .before .before .before .before .before .args .p) table (c .before .before .before .before .before .before .before .before .args .settings) _ (c .before .before .before .before .before .before .fresh .ensures) (c .before .before .before .before .if1 .taken))) (c .before .before .give-up .ensures .0 table, c .before .before .give-up .ensures .1 table))
+
+next-line-requires : tie.Need-next-line-requires
+next-line-requires c κs = search needs
 
 settle-requires : tie.Need-settle-requires
 settle-requires c κs = search needs
@@ -32,14 +34,18 @@ have-requires c κs = search needs
 quiet-requires : tie.Need-quiet-requires
 quiet-requires c κs = search needs
 
+with-used-requires : tie.Need-with-used-requires
+with-used-requires c κs = search needs
+
 returns-2 : tie.Need-returns-2
 returns-2 c =
-    let a = c .before .before .before .before .before .before .before .before .args in
-    let e = c .before .have .ensures ∙ ap (λ (q : Player). having q (c .before .before .before .before .before .before .fresh .result .state)) (c .before .before .settle .ensures) in
+    let q = having (settled (nextLine (c .before .before .before .before .before .before .before .before .before .before .args .p)) (c .before .before .before .before .before .before .before .before .before .before .args .settings)) (c .before .before .before .before .before .before .before .before .fresh .result .state) in
+    let e = c .before .before .have .ensures ∙ ap (λ (x : Player). having x (c .before .before .before .before .before .before .before .before .fresh .result .state)) (c .before .before .before .settle .ensures ∙ ap (λ (x : Player). settled x (c .before .before .before .before .before .before .before .before .before .before .args .settings)) (c .before .before .before .before .next-line .ensures)) in
     for-each
     (λ table.
-    quiet-taken _ (having (settled (a .p) (a .settings)) (c .before .before .before .before .before .before .fresh .result .state)) table 0 0 _ (a .out .now)
-    (fresh-had (roomy (a .out .now)) (a .p) table (a .settings) _ (c .before .before .before .before .before .before .fresh .ensures) (c .before .before .before .before .if1 .left)) (c .quiet .ensures table ∙ ap (λ (q : Player). toldOf (quietStep q table 0) 0) e))
+    quiet-using _ q table (c .before .before .before .before .before .before .before .before .before .before .args .used) _ _ (c .before .before .before .before .before .before .before .before .before .before .args .out .now)
+    (reported-as (roomy (c .before .before .before .before .before .before .before .before .before .before .args .out .now)) (c .before .before .before .before .before .before .before .before .before .before .args .p) table (c .before .before .before .before .before .before .before .before .before .before .args .used) (fresh-had (c .before .before .before .before .before .before .before .before .before .before .args .p) table (c .before .before .before .before .before .before .before .before .before .before .args .settings) _ (c .before .before .before .before .before .before .before .before .fresh .ensures) (c .before .before .before .before .before .before .if1 .left)) ∙ reported-quiet (roomy (c .before .before .before .before .before .before .before .before .before .before .args .out .now)) (c .before .before .before .before .before .before .before .before .before .before .args .p) q table (c .before .before .before .before .before .before .before .before .before .before .args .used))
+    (c .before .quiet .ensures table ∙ ap (λ (x : Player). toldOf (quietStep x table 0)) e) (c .with-used .ensures))
 
 pub begin-state-spec : {M : Type 1} → statement M
 begin-state-spec =
@@ -49,7 +55,9 @@ begin-state-spec =
     give-up-requires
     same-length
     returns
+    next-line-requires
     settle-requires
     have-requires
     quiet-requires
+    with-used-requires
     returns-2)

@@ -11,7 +11,7 @@ quiet-requires c κs = search needs
 returns : tie.Need-returns
 returns c =
     let a = c .before .before .before .before .args in
-    quiet-taken _ (a .p) (now (a .table)) 0 0 _ _ (finish-broken (now (a .out)) (a .p) (now (a .table)) (c .before .if1 .taken)) (c .quiet .ensures (now (a .table)))
+    quiet-taken _ (a .p) (now (a .table)) 0 _ _ (finish-broken (now (a .out)) (a .p) (now (a .table)) (c .before .if1 .taken)) (c .quiet .ensures (now (a .table)))
 
 quiet-requires-2 : tie.Need-quiet-requires-2
 quiet-requires-2 c κs = search needs
@@ -19,7 +19,7 @@ quiet-requires-2 c κs = search needs
 returns-2 : tie.Need-returns-2
 returns-2 c =
     let a = c .before .before .before .before .before .before .args in
-    quiet-taken _ (a .p) (now (a .table)) 0 0 _ _ (finish-unbegun (now (a .out)) (a .p) (now (a .table)) (c .before .before .before .if1 .left) (c .before .if2 .taken)) (c .quiet2 .ensures (now (a .table)))
+    quiet-taken _ (a .p) (now (a .table)) 0 _ _ (finish-unbegun (now (a .out)) (a .p) (now (a .table)) (c .before .before .before .if1 .left) (c .before .if2 .taken)) (c .quiet2 .ensures (now (a .table)))
 
 listing-requires : tie.Need-listing-requires
 listing-requires c κs = search needs

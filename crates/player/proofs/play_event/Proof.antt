@@ -1,16 +1,19 @@
 -- `player::play_event` meets its contract. Assumes nothing.
 use native.Mathlib.Omega.{arith}
-use mathlib.Core.Path.{ap, _∙_}
-use mathlib.Core.Bool.{true}
+use mathlib.Core.Path.{sym, ap, _∙_}
+use lib.ListN.{length}
 use Rattle.checks.proofs.Laws.{part-from}
 use Rattle.model.specs.Model as M
 use Rattle.calling.specs.Told.{lent}
 use Rattle.player.specs.declared.Player.{Player}
-use Rattle.player.specs.Player.{due, quietStep, toldOf}
-use Rattle.player.proofs.Laws.{made-as, quiet-made, bad-made, call-made, add-made, remove-made, rx-made, event-bad, event-add, event-remove, event-start, event-stop, event-tick, rx-stands}
+use Rattle.player.specs.Player.{nextLine, due, roomy, quietStep, toldOf}
+use Rattle.player.proofs.Laws.{lent-room, made-as, quiet-made, bad-made, call-made, add-made, remove-made, rx-made, asks-bad, asks-start, asks-stop, asks-rx, event-bad, event-add, event-remove, event-start, event-stop, event-tick, rx-stands}
 use borrow.Author.Needs.{needs}
 use Rattle.player.proofs.play_event.Statement.{statement}
 use Rattle.player.proofs.play_event.Tie as tie
+
+next-line-requires : tie.Need-next-line-requires
+next-line-requires c κs = search needs
 
 enum-told : tie.Need-enum-told
 enum-told c = search needs
@@ -40,7 +43,8 @@ enum-known-read-3 : tie.Need-enum-known-read-3
 enum-known-read-3 c = search needs
 
 start-neighbour-requires : tie.Need-start-neighbour-requires
-start-neighbour-requires c κs = search needs
+start-neighbour-requires c κs =
+    omega (arith, lent-room (c .before .before .before .before .before .before .before .before .before .before .args .out .now) (c .before .before .before .before .before .before .before .before .before .before .args .p .state) (length (c .before .before .before .before .before .before .before .before .before .before .args .table .now)) (sym (asks-start (roomy (c .before .before .before .before .before .before .before .before .before .before .args .out .now)) (c .before .before .before .before .before .before .before .before .before .before .args .p .state) (length (c .before .before .before .before .before .before .before .before .before .before .args .table .now)) (c .before .before .before .before .before .before .before .before .before .before .args .read) (c .before .before .before .before .before .before .before .before .before .before .args .line .now) (c .before .before .before .read3 .given .0 .0) (c .before .before .before .read3 .given .1)) ∙ c .before .before .before .before .before .before .before .before .before .before .pre .1))
 
 carry-requires-3 : tie.Need-carry-requires-3
 carry-requires-3 c κs = search needs
@@ -49,7 +53,8 @@ enum-known-read-4 : tie.Need-enum-known-read-4
 enum-known-read-4 c = search needs
 
 stop-neighbour-requires : tie.Need-stop-neighbour-requires
-stop-neighbour-requires c κs = search needs
+stop-neighbour-requires c κs =
+    omega (arith, lent-room (c .before .before .before .before .before .before .before .before .before .before .args .out .now) (c .before .before .before .before .before .before .before .before .before .before .args .p .state) (length (c .before .before .before .before .before .before .before .before .before .before .args .table .now)) (sym (asks-stop (roomy (c .before .before .before .before .before .before .before .before .before .before .args .out .now)) (c .before .before .before .before .before .before .before .before .before .before .args .p .state) (length (c .before .before .before .before .before .before .before .before .before .before .args .table .now)) (c .before .before .before .before .before .before .before .before .before .before .args .read) (c .before .before .before .before .before .before .before .before .before .before .args .line .now) (c .before .before .before .read4 .given .0 .0) (c .before .before .before .read4 .given .1)) ∙ c .before .before .before .before .before .before .before .before .before .before .pre .1))
 
 carry-requires-4 : tie.Need-carry-requires-4
 carry-requires-4 c κs = search needs
@@ -67,19 +72,20 @@ enum-known-read-6 : tie.Need-enum-known-read-6
 enum-known-read-6 c = search needs
 
 sub-hear-neighbour : tie.Need-sub-hear-neighbour
-sub-hear-neighbour c = rx-stands (c .before .before .before .before .before .before .before .before .before .args .read) (c .before .before .before .before .before .before .before .before .before .args .line .now) _ _ (c .before .before .before .read6 .given .1) (c .before .before .before .before .before .before .before .before .before .pre .0) .0
+sub-hear-neighbour c =
+    rx-stands (c .before .before .before .before .before .before .before .before .before .before .args .read) (c .before .before .before .before .before .before .before .before .before .before .args .line .now) _ _ (c .before .before .before .read6 .given .1) (c .before .before .before .before .before .before .before .before .before .before .pre .0) .0
 
 part-hear-neighbour-start : tie.Need-part-hear-neighbour-start
-part-hear-neighbour-start c = rx-stands (c .before .before .before .before .before .before .before .before .before .args .read) (c .before .before .before .before .before .before .before .before .before .args .line .now) _ _ (c .before .before .before .read6 .given .1) (c .before .before .before .before .before .before .before .before .before .pre .0) .0
+part-hear-neighbour-start c =
+    rx-stands (c .before .before .before .before .before .before .before .before .before .before .args .read) (c .before .before .before .before .before .before .before .before .before .before .args .line .now) _ _ (c .before .before .before .read6 .given .1) (c .before .before .before .before .before .before .before .before .before .before .pre .0) .0
 
 part-hear-neighbour-end : tie.Need-part-hear-neighbour-end
 part-hear-neighbour-end c = search needs
 
 hear-neighbour-requires : tie.Need-hear-neighbour-requires
 hear-neighbour-requires c κs =
-    let a = c .before .before .before .before .before .before .before .before .before .before .args in
-    let s = rx-stands (a .read) (a .line .now) _ _ (c .before .before .before .before .read6 .given .1) (c .before .before .before .before .before .before .before .before .before .before .pre .0) in
-    rw (part-from (c .before .before .before .before .read6 .given .0 .1 .0) (a .line .now)) (s .1 .1, s .1 .0, omega (arith, c .before .before .before .before .before .before .before .before .before .before .pre .1))
+    let s = rx-stands (c .before .before .before .before .before .before .before .before .before .before .before .args .read) (c .before .before .before .before .before .before .before .before .before .before .before .args .line .now) _ _ (c .before .before .before .before .read6 .given .1) (c .before .before .before .before .before .before .before .before .before .before .before .pre .0) in
+    rw (part-from (c .before .before .before .before .read6 .given .0 .1 .0) (c .before .before .before .before .before .before .before .before .before .before .before .args .line .now)) (s .1 .1, s .1 .0, omega (arith, lent-room (c .before .before .before .before .before .before .before .before .before .before .before .args .out .now) (c .before .before .before .before .before .before .before .before .before .before .before .args .p .state) (length (c .before .before .before .before .before .before .before .before .before .before .before .args .table .now)) (sym (asks-rx (roomy (c .before .before .before .before .before .before .before .before .before .before .before .args .out .now)) (c .before .before .before .before .before .before .before .before .before .before .before .args .p .state) (length (c .before .before .before .before .before .before .before .before .before .before .before .args .table .now)) (c .before .before .before .before .before .before .before .before .before .before .before .args .read) (c .before .before .before .before .before .before .before .before .before .before .before .args .line .now) (c .before .before .before .before .read6 .given .0 .0) (c .before .before .before .before .read6 .given .0 .1 .0) (c .before .before .before .before .read6 .given .1)) ∙ c .before .before .before .before .before .before .before .before .before .before .before .pre .1)))
 
 carry-requires-5 : tie.Need-carry-requires-5
 carry-requires-5 c κs = search needs
@@ -89,21 +95,18 @@ same-length c = search needs
 
 returns : tie.Need-returns
 returns c =
-    let a = c .before .before .before .before .before .before .before .before .before .before .args in
-    made-as 0 (a .out .now) (event-bad true (a .p) (a .table .now) (a .read) (a .line .now) (c .before .before .before .before .enum-told .given .1))
-    (bad-made (a .p) (a .table .now) _ (a .out .now) _ (c .before .before .skip-line .ensures .0 (a .table .now)) (c .before .before .skip-line .ensures .1) (c .before .before .before .before .before .before .before .before .before .before .pre .1))
+    made-as (c .before .before .before .before .before .before .before .before .before .before .before .args .out .now) (event-bad (c .before .before .before .before .before .before .before .before .before .before .before .args .p) (c .before .before .before .before .before .before .before .before .before .before .before .args .table .now) (c .before .before .before .before .before .before .before .before .before .before .before .args .read) (c .before .before .before .before .before .before .before .before .before .before .before .args .line .now) (c .before .before .before .before .enum-told .given .1))
+    (bad-made (c .before .before .before .before .before .before .before .before .before .before .before .args .p) (c .before .before .before .before .before .before .before .before .before .before .before .args .table .now) _ (c .before .before .before .before .before .before .before .before .before .before .before .args .out .now) _ (sym (asks-bad (roomy (c .before .before .before .before .before .before .before .before .before .before .before .args .out .now)) (c .before .before .before .before .before .before .before .before .before .before .before .args .p .state) (length (c .before .before .before .before .before .before .before .before .before .before .before .args .table .now)) (c .before .before .before .before .before .before .before .before .before .before .before .args .read) (c .before .before .before .before .before .before .before .before .before .before .before .args .line .now) (c .before .before .before .before .enum-told .given .1)) ∙ c .before .before .before .before .before .before .before .before .before .before .before .pre .1) (c .before .before .skip-line .ensures .0 (c .before .before .before .before .before .before .before .before .before .before .before .args .table .now)) (c .before .before .skip-line .ensures .1 (c .before .before .before .before .before .before .before .before .before .before .before .args .table .now)))
 
 returns-2 : tie.Need-returns-2
 returns-2 c =
-    let a = c .before .before .before .before .before .before .before .before .before .args in
-    made-as 0 (a .out .now) (event-add true (a .p) (a .table .now) (a .read) (a .line .now) (c .before .before .before .read .given .0 .0) (c .before .before .before .read .given .0 .1 .0) (c .before .before .before .read .given .1))
-    (add-made (c .before .before .before .read .given .0 .0) (c .before .before .before .read .given .0 .1 .0) (a .p) (a .table .now) _ _ (a .out .now) (c .before .add-neighbour .ensures (a .table .now)) (c .carry .ensures))
+    made-as (c .before .before .before .before .before .before .before .before .before .before .args .out .now) (event-add (c .before .before .before .before .before .before .before .before .before .before .args .p) (c .before .before .before .before .before .before .before .before .before .before .args .table .now) (c .before .before .before .before .before .before .before .before .before .before .args .read) (c .before .before .before .before .before .before .before .before .before .before .args .line .now) (c .before .before .before .read .given .0 .0) (c .before .before .before .read .given .0 .1 .0) (c .before .before .before .read .given .1))
+    (add-made (c .before .before .before .before .before .before .before .before .before .before .args .p) _ (c .before .before .before .before .before .before .next-line .ensures) (c .before .before .before .before .before .before .before .before .before .before .args .table .now) _ _ (c .before .before .before .before .before .before .before .before .before .before .args .out .now) (c .before .before .before .read .given .0 .0) (c .before .before .before .read .given .0 .1 .0) (c .before .add-neighbour .ensures (c .before .before .before .before .before .before .before .before .before .before .args .table .now)) (c .carry .ensures))
 
 returns-3 : tie.Need-returns-3
 returns-3 c =
-    let a = c .before .before .before .before .before .before .before .before .before .args in
-    made-as 0 (a .out .now) (event-remove true (a .p) (a .table .now) (a .read) (a .line .now) (c .before .before .before .read2 .given .0 .0) (c .before .before .before .read2 .given .1))
-    (remove-made (c .before .before .before .read2 .given .0 .0) (a .p) (a .table .now) _ _ (a .out .now) (c .before .remove-neighbour .ensures (a .table .now)) (c .carry2 .ensures))
+    made-as (c .before .before .before .before .before .before .before .before .before .before .args .out .now) (event-remove (c .before .before .before .before .before .before .before .before .before .before .args .p) (c .before .before .before .before .before .before .before .before .before .before .args .table .now) (c .before .before .before .before .before .before .before .before .before .before .args .read) (c .before .before .before .before .before .before .before .before .before .before .args .line .now) (c .before .before .before .read2 .given .0 .0) (c .before .before .before .read2 .given .1))
+    (remove-made (c .before .before .before .before .before .before .before .before .before .before .args .p) _ (c .before .before .before .before .before .before .next-line .ensures) (c .before .before .before .before .before .before .before .before .before .before .args .table .now) _ _ (c .before .before .before .before .before .before .before .before .before .before .args .out .now) (c .before .before .before .read2 .given .0 .0) (c .before .remove-neighbour .ensures (c .before .before .before .before .before .before .before .before .before .before .args .table .now)) (c .carry2 .ensures))
 
 same-length-2 : tie.Need-same-length-2
 same-length-2 c = search needs
@@ -113,9 +116,8 @@ same-length-3 c = search needs
 
 returns-4 : tie.Need-returns-4
 returns-4 c =
-    let a = c .before .before .before .before .before .before .before .before .before .before .before .before .before .before .before .args in
-    made-as 0 (a .out .now) (event-start true (a .p) (a .table .now) (a .read) (a .line .now) (c .before .before .before .before .before .before .before .before .before .read3 .given .0 .0) (c .before .before .before .before .before .before .before .before .before .read3 .given .1))
-    (call-made (M.start (c .before .before .before .before .before .before .before .before .before .read3 .given .0 .0) lent) (a .p) (a .table .now) _ _ _ (a .out .now) _ (c .before .before .before .before .before .start-neighbour .ensures .0) (c .carry3 .ensures) (c .before .before .before .before .before .start-neighbour .ensures .1 .0) (c .before .before .before .before .before .start-neighbour .ensures .1 .1))
+    made-as (c .before .before .before .before .before .before .before .before .before .before .before .before .before .before .before .before .args .out .now) (event-start (c .before .before .before .before .before .before .before .before .before .before .before .before .before .before .before .before .args .p) (c .before .before .before .before .before .before .before .before .before .before .before .before .before .before .before .before .args .table .now) (c .before .before .before .before .before .before .before .before .before .before .before .before .before .before .before .before .args .read) (c .before .before .before .before .before .before .before .before .before .before .before .before .before .before .before .before .args .line .now) (c .before .before .before .before .before .before .before .before .before .read3 .given .0 .0) (c .before .before .before .before .before .before .before .before .before .read3 .given .1))
+    (call-made (c .before .before .before .before .before .before .before .before .before .before .before .before .before .before .before .before .args .p) _ (c .before .before .before .before .before .before .before .before .before .before .before .before .next-line .ensures) (c .before .before .before .before .before .before .before .before .before .before .before .before .before .before .before .before .args .table .now) _ _ _ (c .before .before .before .before .before .before .before .before .before .before .before .before .before .before .before .before .args .out .now) _ (M.start (c .before .before .before .before .before .before .before .before .before .read3 .given .0 .0) lent) (c .before .before .before .before .before .start-neighbour .ensures .0) (c .carry3 .ensures) (c .before .before .before .before .before .start-neighbour .ensures .1 .0) (c .before .before .before .before .before .start-neighbour .ensures .1 .1))
 
 same-length-4 : tie.Need-same-length-4
 same-length-4 c = search needs
@@ -125,16 +127,14 @@ same-length-5 c = search needs
 
 returns-5 : tie.Need-returns-5
 returns-5 c =
-    let a = c .before .before .before .before .before .before .before .before .before .before .before .before .before .before .before .args in
-    made-as 0 (a .out .now) (event-stop true (a .p) (a .table .now) (a .read) (a .line .now) (c .before .before .before .before .before .before .before .before .before .read4 .given .0 .0) (c .before .before .before .before .before .before .before .before .before .read4 .given .1))
-    (call-made (M.stop (c .before .before .before .before .before .before .before .before .before .read4 .given .0 .0) lent) (a .p) (a .table .now) _ _ _ (a .out .now) _ (c .before .before .before .before .before .stop-neighbour .ensures .0) (c .carry4 .ensures) (c .before .before .before .before .before .stop-neighbour .ensures .1 .0) (c .before .before .before .before .before .stop-neighbour .ensures .1 .1))
+    made-as (c .before .before .before .before .before .before .before .before .before .before .before .before .before .before .before .before .args .out .now) (event-stop (c .before .before .before .before .before .before .before .before .before .before .before .before .before .before .before .before .args .p) (c .before .before .before .before .before .before .before .before .before .before .before .before .before .before .before .before .args .table .now) (c .before .before .before .before .before .before .before .before .before .before .before .before .before .before .before .before .args .read) (c .before .before .before .before .before .before .before .before .before .before .before .before .before .before .before .before .args .line .now) (c .before .before .before .before .before .before .before .before .before .read4 .given .0 .0) (c .before .before .before .before .before .before .before .before .before .read4 .given .1))
+    (call-made (c .before .before .before .before .before .before .before .before .before .before .before .before .before .before .before .before .args .p) _ (c .before .before .before .before .before .before .before .before .before .before .before .before .next-line .ensures) (c .before .before .before .before .before .before .before .before .before .before .before .before .before .before .before .before .args .table .now) _ _ _ (c .before .before .before .before .before .before .before .before .before .before .before .before .before .before .before .before .args .out .now) _ (M.stop (c .before .before .before .before .before .before .before .before .before .read4 .given .0 .0) lent) (c .before .before .before .before .before .stop-neighbour .ensures .0) (c .carry4 .ensures) (c .before .before .before .before .before .stop-neighbour .ensures .1 .0) (c .before .before .before .before .before .stop-neighbour .ensures .1 .1))
 
 returns-6 : tie.Need-returns-6
 returns-6 c =
-    let a = c .before .before .before .before .before .before .before .before .before .args in
-    made-as 0 (a .out .now) (event-tick true (a .p) (a .table .now) (a .read) (a .line .now) (c .before .before .before .read5 .given .0 .0) (c .before .before .before .read5 .given .0 .1 .0) (c .before .before .before .read5 .given .1))
-    (quiet-made (due (a .p) (c .before .before .before .read5 .given .0 .0) (c .before .before .before .read5 .given .0 .1 .0)) (a .table .now) 0 0 _ (a .out .now)
-    (c .quiet .ensures (a .table .now) ∙ ap (λ (q : Player). toldOf (quietStep q (a .table .now) 0) 0) (c .before .owe-ticks .ensures)))
+    made-as (c .before .before .before .before .before .before .before .before .before .before .args .out .now) (event-tick (c .before .before .before .before .before .before .before .before .before .before .args .p) (c .before .before .before .before .before .before .before .before .before .before .args .table .now) (c .before .before .before .before .before .before .before .before .before .before .args .read) (c .before .before .before .before .before .before .before .before .before .before .args .line .now) (c .before .before .before .read5 .given .0 .0) (c .before .before .before .read5 .given .0 .1 .0) (c .before .before .before .read5 .given .1))
+    (quiet-made (due (nextLine (c .before .before .before .before .before .before .before .before .before .before .args .p)) (c .before .before .before .read5 .given .0 .0) (c .before .before .before .read5 .given .0 .1 .0)) (c .before .before .before .before .before .before .before .before .before .before .args .table .now) 0 _ (c .before .before .before .before .before .before .before .before .before .before .args .out .now)
+    (c .quiet .ensures (c .before .before .before .before .before .before .before .before .before .before .args .table .now) ∙ ap (λ (q : Player). toldOf (quietStep q (c .before .before .before .before .before .before .before .before .before .before .args .table .now) 0)) (c .before .owe-ticks .ensures ∙ ap (λ (q : Player). due q (c .before .before .before .read5 .given .0 .0) (c .before .before .before .read5 .given .0 .1 .0)) (c .before .before .before .before .before .before .next-line .ensures))))
 
 same-length-6 : tie.Need-same-length-6
 same-length-6 c = search needs
@@ -144,14 +144,14 @@ same-length-7 c = search needs
 
 returns-7 : tie.Need-returns-7
 returns-7 c =
-    let a = c .before .before .before .before .before .before .before .before .before .before .before .before .before .before .before .before .args in
-    rx-made (a .read) (a .line .now) (c .before .before .before .before .before .before .before .before .before .before .read6 .given .0 .0) (c .before .before .before .before .before .before .before .before .before .before .read6 .given .0 .1 .0) (c .before .before .before .before .before .before .before .before .before .before .read6 .given .1) _ (part-from (c .before .before .before .before .before .before .before .before .before .before .read6 .given .0 .1 .0) (a .line .now))
-    (a .p) (a .table .now) _ _ _ (a .out .now) _ (c .before .before .before .before .before .hear-neighbour .ensures .0) (c .carry5 .ensures) (c .before .before .before .before .before .hear-neighbour .ensures .1 .0) (c .before .before .before .before .before .hear-neighbour .ensures .1 .1)
+    rx-made (c .before .before .before .before .before .before .before .before .before .before .before .before .before .before .before .before .before .args .read) (c .before .before .before .before .before .before .before .before .before .before .before .before .before .before .before .before .before .args .line .now) (c .before .before .before .before .before .before .before .before .before .before .read6 .given .0 .0) (c .before .before .before .before .before .before .before .before .before .before .read6 .given .0 .1 .0) (c .before .before .before .before .before .before .before .before .before .before .read6 .given .1) _ (part-from (c .before .before .before .before .before .before .before .before .before .before .read6 .given .0 .1 .0) (c .before .before .before .before .before .before .before .before .before .before .before .before .before .before .before .before .before .args .line .now))
+    (c .before .before .before .before .before .before .before .before .before .before .before .before .before .before .before .before .before .args .p) _ (c .before .before .before .before .before .before .before .before .before .before .before .before .before .next-line .ensures) (c .before .before .before .before .before .before .before .before .before .before .before .before .before .before .before .before .before .args .table .now) _ _ _ (c .before .before .before .before .before .before .before .before .before .before .before .before .before .before .before .before .before .args .out .now) _ (c .before .before .before .before .before .hear-neighbour .ensures .0) (c .carry5 .ensures) (c .before .before .before .before .before .hear-neighbour .ensures .1 .0) (c .before .before .before .before .before .hear-neighbour .ensures .1 .1)
 
 pub play-event-spec : {M : Type 1} → statement M
 play-event-spec =
     tie.close
     (tie.spec
+    next-line-requires
     enum-told
     skip-line-requires
     enum-known-read

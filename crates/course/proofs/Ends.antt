@@ -13,7 +13,7 @@ use Rattle.checks.proofs.Laws.{and-left, and-right}
 use Rattle.octets.specs.Buffer.{over}
 use Rattle.rows.specs.Storing.{zeros}
 use Rattle.player.specs.declared.Player.{Player}
-use Rattle.player.specs.Player.{beginning, Step, roomy, lentChecks, given, tickStep, freeStep, turnChecked, turnStep, onlyHolds, heldOf, closeStep}
+use Rattle.player.specs.Player.{beginning, Step, roomy, callChecks, given, tickStep, freeStep, turnChecked, turnStep, onlyHolds, heldOf, closeStep}
 use Rattle.played.specs.Theorem.{Deck, Lent, start, stepOn, afterTurn, Driven, drive, isDone, isPlenty, plenty}
 use Rattle.played.proofs.Turns.{used-within}
 use Rattle.played.proofs.Ends.{every-recording-ends}
@@ -46,7 +46,7 @@ tick-due p left e u = go (eqb left 0) e u
 
 -- and then a turn does not look at its input
 module _ (room : Bool) (p : Player) (line table input : List ℕ) (f : p .broken ≡ false) (k : ltb 0 (p .ticks) ≡ true) where
-  tick-turn : turnStep room p line table input ≡ given p table (lentChecks room (p .state) (length table)) (tickStep p table)
+  tick-turn : turnStep room p line table input ≡ given p table (callChecks room (p .state) (length table)) (tickStep p table)
   unfolding turnStep turnChecked freeStep
   tick-turn = rw (f, k)
 

@@ -19,8 +19,9 @@ use Rattle.gather.specs.Gathering.{gathered}
 use Rattle.model.specs.Model as M
 use Rattle.model.specs.Theorem.{outcomeOf}
 use Rattle.calling.specs.Told.{on}
+use Rattle.calls.specs.Calls.{lentChecks}
 use Rattle.player.specs.declared.Player.{Player}
-use Rattle.player.specs.Player.{nextLine, Step, lineFits, lentChecks, reportCheck, given, withUsed, quietStep, badStep, brokenStep, withNet, freshStep, netStep, headStep, callStep, eventStep, eventChecked, lineStep, lineChecked, endedLine, freeStep, turnChecked, turnStep}
+use Rattle.player.specs.Player.{nextLine, Step, lineFits, callChecks, reportCheck, given, withUsed, quietStep, badStep, brokenStep, withNet, freshStep, netStep, headStep, callStep, eventStep, eventChecked, lineStep, lineChecked, endedLine, freeStep, turnChecked, turnStep}
 use Rattle.played.specs.Output.{callsOf}
 use Rattle.played.specs.Answers.{TakesLine, checksRoom, Answers, EveryAnswer}
 
@@ -74,7 +75,7 @@ module _ (p : Player) (line table input : List ℕ) (t : TakesLine p line input)
   bad-19 false = refl
 
   module _ (formed : stateFormed (p .state) ≡ true) (long : length table ≡ 3072) where
-    lent-is : (room : Bool) → lentChecks room (p .state) (length table) ≡ check room 3 0
+    lent-is : (room : Bool) → callChecks room (p .state) (length table) ≡ check room 3 0
     unfolding lentChecks check
     lent-is room = rw (formed, eq-eqb (length table) 3072 long)
 
@@ -118,11 +119,11 @@ module _ (p : Player) (line table input : List ℕ) (t : TakesLine p line input)
   reported-answer true s = refl
   reported-answer false s = cond-elim (λ (x : Step). x .answer ≡ s .answer) (eqb (s .answer) 0) _ _ (λ e. refl) (λ e. refl)
 
-  fresh-answer : (g : Settings) → (freshStep p table g) .answer ≡ (freshOf (g .asn) (g .own) (g .capability) (g .net)) .answer
+  fresh-answer : (g : Settings) → (freshStep p table g) .answer ≡ (freshOf g) .answer
   unfolding freshStep brokenStep quietStep
   fresh-answer g =
-      cond-elim (λ (x : Step). x .answer ≡ (freshOf (g .asn) (g .own) (g .capability) (g .net)) .answer)
-      (eqb ((freshOf (g .asn) (g .own) (g .capability) (g .net)) .answer) 0) _ _ (λ e. sym (eqb-true _ 0 e)) (λ e. refl)
+      cond-elim (λ (x : Step). x .answer ≡ (freshOf g) .answer)
+      (eqb ((freshOf g) .answer) 0) _ _ (λ e. sym (eqb-true _ 0 e)) (λ e. refl)
 
   head-is : (net : ℕ) → p .lines ≡ 3 → netOf whole ≡ Is net → headStep p table whole ≡ freshStep p table (withNet (p .settings) net)
   unfolding headStep netStep whenNumber
@@ -133,8 +134,8 @@ module _ (p : Player) (line table input : List ℕ) (t : TakesLine p line input)
       on-false (eqb (p .lines) 0) _ _ z ∙ on-false (eqb (p .lines) 1) _ _ o ∙ on-false (eqb (p .lines) 2) _ _ t ∙ ap (netStep p table) k
 
   fresh-own : (room : Bool) (net : ℕ) → p .lines ≡ 3 → netOf whole ≡ Is net
-      → (turnStep room p line table input) .answer ≡ (freshOf (p .settings .asn) (p .settings .own) (p .settings .capability) net) .answer
-  unfolding lineChecked lineStep withNet
+      → (turnStep room p line table input) .answer ≡ (freshOf (withNet (p .settings) net)) .answer
+  unfolding lineChecked lineStep
   fresh-own room net three k =
       let b = lt-ltb (p .lines) 4 (omega (arith, three)) in
       ap (λ (s : Step). s .answer)

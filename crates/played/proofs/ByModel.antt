@@ -134,13 +134,13 @@ listing-text b m h =
 -- where they are good: fresh takes them, and so many lines are left
 unfoldable pub Opens : ℕ → Opening → Type 0
 Opens lines (broken number) = number ≡ number
-Opens lines (opened g events) = ((freshOf (g .asn) (g .own) (g .capability) (g .net)) .answer ≡ 0) × (4 + length events ≤ lines)
+Opens lines (opened g events) = ((freshOf g) .answer ≡ 0) × (4 + length events ≤ lines)
 
 taken-opens : (lines : ℕ) (g : Settings) (events : List Line) → 4 + length events ≤ lines → Opens lines (takenBy g events)
 unfolding takenBy Opens
 taken-opens lines g events k =
-    cond-elim (λ (o : Opening). Opens lines o) (eqb ((freshOf (g .asn) (g .own) (g .capability) (g .net)) .answer) 0) (opened g events) (broken 4)
-    (λ e. (eqb-true ((freshOf (g .asn) (g .own) (g .capability) (g .net)) .answer) 0 e, k)) (λ e. refl)
+    cond-elim (λ (o : Opening). Opens lines o) (eqb ((freshOf g) .answer) 0) (opened g events) (broken 4)
+    (λ e. (eqb-true ((freshOf g) .answer) 0 e, k)) (λ e. refl)
 
 -- a value, or the end
 value-opens : (lines number : ℕ) (value : Number) (next : ℕ → Opening) → ((n : ℕ) → Opens lines (next n)) → Opens lines (whenNumber value (broken number) next)
@@ -198,6 +198,6 @@ recording-text recording k =
 
 -- fresh took the settings of a recording that is played
 pub fresh-took : (recording : List ℕ) (g : Settings) (events : List Line) → openingOf (linesOf recording) ≡ opened g events
-    → (freshOf (g .asn) (g .own) (g .capability) (g .net)) .answer ≡ 0
+    → (freshOf g) .answer ≡ 0
 unfolding Opens
 fresh-took recording g events e = (rw e at (opening-opens (linesOf recording))) .0

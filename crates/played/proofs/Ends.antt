@@ -19,8 +19,9 @@ use Rattle.model.specs.Theorem.{Gateway}
 use Rattle.model.proofs.Represent.{table-length}
 use Rattle.model.proofs.Simulation.{represent}
 use Rattle.calling.specs.Told.{on}
+use Rattle.calls.specs.Calls.{lentChecks}
 use Rattle.player.specs.declared.Player.{Player}
-use Rattle.player.specs.Player.{beginning, due, having, holding, Step, roomy, lineFits, lentChecks, formedCheck, reportCheck, given, withUsed, quietStep, callStep, eventChecked, lineChecked, tickStep, endedLine, freeStep, turnChecked, turnStep, heldOf}
+use Rattle.player.specs.Player.{beginning, due, having, holding, Step, roomy, lineFits, callChecks, formedCheck, reportCheck, given, withUsed, quietStep, callStep, eventChecked, lineChecked, tickStep, endedLine, freeStep, turnChecked, turnStep, heldOf}
 use Rattle.played.specs.Theorem as T
 use Rattle.played.specs.Theorem.{Deck, Lent, stepOn, afterTurn, writing, drive, isDone, isPlenty, plenty, EveryRecordingEnds}
 use Rattle.played.proofs.Held.{used-most, used-some}
@@ -30,7 +31,7 @@ use Rattle.played.proofs.Playing.{start-sound}
 
 -- ---- a turn with room is not refused
 
-lent-passes : (st : State) (table : List ℕ) → Stands (on st table) → lentChecks true st (length table) ≡ 0
+lent-passes : (st : State) (table : List ℕ) → Stands (on st table) → callChecks true st (length table) ≡ 0
 unfolding lentChecks check on represent
 lent-passes st table h =
     rw (
@@ -196,7 +197,7 @@ module _ (d : Deck) (held : List ℕ) (ok : Sound d held) (room : Bool) (size : 
       line f false = refl
 
       go : (b : Bool) → p .broken ≡ b → (t : Bool) → ltb 0 (p .ticks) ≡ t
-          → cond b 0 (cond t (lentChecks true (p .state) (length (d .table)))
+          → cond b 0 (cond t (callChecks true (p .state) (length (d .table)))
           (check (lineFits (d .line)) 3 (cond ((gathered 0 (p .held) piece) .ended) (lineChecked true p (d .table) (endedLine p (d .line) piece)) 0))) ≡ 0
       go true f t e = refl
       go false f true e = lent-passes (p .state) (d .table) (ok .kept .stands f (late (ltb-true 0 (p .ticks) e) (ltb (p .lines) 4) refl))

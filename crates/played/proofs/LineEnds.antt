@@ -104,13 +104,13 @@ module _ (p : Player) (l : List Line) (z : p .ticks ≡ 0) where
 
 -- fresh starts the gateway, and the events follow
 opened-due : (g : Settings) (l : List Line)
-    → openingDue (opened g l) ≡ callsDue 4 (on ((freshOf (g .asn) (g .own) (g .capability) (g .net)) .state) emptyTable) [] l
+    → openingDue (opened g l) ≡ callsDue 4 (on ((freshOf g) .state) emptyTable) [] l
 unfolding openingDue openingText finalOf run begun on callsDue callsTold gatewayFrom eventsDue saying join
 opened-due g l = refl
 
 -- what it starts with is that of the empty model
-stands-fresh : (g : Settings) → (freshOf (g .asn) (g .own) (g .capability) (g .net)) .answer ≡ 0
-    → Stands (on ((freshOf (g .asn) (g .own) (g .capability) (g .net)) .state) emptyTable)
+stands-fresh : (g : Settings) → (freshOf g) .answer ≡ 0
+    → Stands (on ((freshOf g) .state) emptyTable)
 unfolding begun on
 stands-fresh g e = record { model = M.empty g; good = empty-good g e; is = begun-is g e }
 
@@ -123,7 +123,7 @@ module _ (p : Player) (l : List Line) (z : p .ticks ≡ 0) (f : p .broken ≡ fa
   fresh-follows g = go (eqb (fresh .answer) 0) refl
     where
       fresh : Outcome
-      fresh = freshOf (g .asn) (g .own) (g .capability) (g .net)
+      fresh = freshOf g
 
       go : (b : Bool) → eqb (fresh .answer) 0 ≡ b
           → Follows (cond b (quietStep (having (settled (nextLine p) g) (fresh .state)) emptyTable 0) (brokenStep p emptyTable (fresh .answer)))

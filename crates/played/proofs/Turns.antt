@@ -17,7 +17,7 @@ use Rattle.calling.specs.Told.{lent, callText, on}
 use Rattle.gather.specs.declared.Gathered.{Gathered}
 use Rattle.gather.specs.Gathering.{gathered, lineAfter, lineHeld}
 use Rattle.player.specs.declared.Player.{Player}
-use Rattle.player.specs.Player.{holding, due, having, Step, lineFits, given, withUsed, quietStep, callStep, lineStep, tickStep, endedLine, freeStep, lentChecks, lineChecked, turnChecked, turnStep, onlyHolds, heldOf}
+use Rattle.player.specs.Player.{holding, due, having, Step, lineFits, given, withUsed, quietStep, callStep, lineStep, tickStep, endedLine, freeStep, callChecks, lineChecked, turnChecked, turnStep, onlyHolds, heldOf}
 use Rattle.played.specs.Output.{Line, ended, linesFrom, ticks}
 use Rattle.played.specs.Theorem.{Deck}
 use Rattle.played.proofs.Held.{used-most, lineIn, linesAfter, lines-after, Holds, holds-none, holds-piece, holds-line, holds-front}
@@ -28,7 +28,7 @@ use Rattle.played.proofs.LineEnds.{Stands, stands-call, Kept, kept-late
 pub refused-holds : (room : Bool) (p : Player) (line table piece : List ℕ) → (turnChecked room p line table piece ≡ 0 → ⊥) → heldOf p line piece ≡ line
 unfolding turnChecked heldOf onlyHolds check
 refused-holds room p line table piece n =
-    go (p .broken) (ltb 0 (p .ticks)) (lineFits line) ((gathered 0 (p .held) piece) .ended) (lentChecks room (p .state) (length table)) (lineChecked room p table (endedLine p line piece)) n
+    go (p .broken) (ltb 0 (p .ticks)) (lineFits line) ((gathered 0 (p .held) piece) .ended) (callChecks room (p .state) (length table)) (lineChecked room p table (endedLine p line piece)) n
   where
     go : (b t f e : Bool) (x y : ℕ) → (cond b 0 (cond t x (cond f (cond e y 0) 3)) ≡ 0 → ⊥)
         → cond (not b && not t && f && not e) (lineAfter (p .held) line piece) line ≡ line

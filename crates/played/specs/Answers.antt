@@ -13,7 +13,7 @@ use Rattle.model.specs.Model as M
 use Rattle.model.specs.Theorem.{outcomeOf}
 use Rattle.calling.specs.Told.{on}
 use Rattle.player.specs.declared.Player.{Player}
-use Rattle.player.specs.Player.{lineFits, endedLine, turnStep}
+use Rattle.player.specs.Player.{withNet, lineFits, endedLine, turnStep}
 use Rattle.played.specs.Output.{callsOf}
 
 -- the piece ends a line, and no tick is due
@@ -43,7 +43,7 @@ pub record Answers (p : Player) (line table input : List ℕ) : Type 0 where
   -- fresh's own number, with room or without
   pub fresh :
       (room : Bool) (net : ℕ) → p .lines ≡ 3 → netOf (endedLine p line input) ≡ Is net
-      → (turnStep room p line table input) .answer ≡ (freshOf (p .settings .asn) (p .settings .own) (p .settings .capability) net) .answer
+      → (turnStep room p line table input) .answer ≡ (freshOf (withNet (p .settings) net)) .answer
   -- a call's own number, once all is lent
   pub own :
       (e : Event) (call : M.Call) → 4 ≤ p .lines → eventOf (endedLine p line input) ≡ e → checksRoom e ≡ true → callsOf e ≡ call ∷ []

@@ -50,7 +50,7 @@ pub data Opening : Type 0 where
 
 -- "or fresh refuses them, the first such line (the fourth for fresh) alone is so reported"
 unfoldable pub takenBy : Settings → List Line → Opening
-takenBy g events = cond (eqb ((freshOf (g .asn) (g .own) (g .capability) (g .net)) .answer) 0) (opened g events) (broken 4)
+takenBy g events = cond (eqb ((freshOf g) .answer) 0) (opened g events) (broken 4)
 
 unfoldable pub fromNet : ℕ → ℕ → ℕ → List Line → Opening
 fromNet asn own capability [] = broken 4

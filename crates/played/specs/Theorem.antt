@@ -53,7 +53,7 @@ pub record OneByOne (g : Settings) (events : List Line) : Type 0 where
   -- hex says octets only, so what the theorem about lists of calls says of listings holds too
   pub octets : every carriesOctets (goodCalls events) ≡ true
   -- the state, the table and every row at the end, told from the settings and the calls alone
-  pub agreement : (freshOf (g .asn) (g .own) (g .capability) (g .net)) .answer ≡ 0 → Agreement g (goodCalls events)
+  pub agreement : (freshOf g) .answer ≡ 0 → Agreement g (goodCalls events)
 
 -- ---- the player's turns
 

@@ -41,9 +41,10 @@ use Rattle.recording.proofs.Read.{the-type}
 use Rattle.recording.specs.Lines.{Event, bad, add, remove, start, stop, tick, rx, behind, ownAsOf, ownOf, capabilityOf, netOf, eventOf}
 use Rattle.recording.specs.Meant.{meant}
 use Rattle.recording.specs.Steps.{standsOn}
+use Rattle.calls.specs.Calls.{lentChecks}
 use Rattle.player.specs.declared.Player.{Player}
 use Rattle.player.specs.declared.Told.{Told}
-use Rattle.player.specs.Player.{Step, nextLine, holding, breaking, due, settled, having, roomy, lineFits, lentChecks, formedCheck, reportCheck, given, reported, withUsed, badStep, brokenStep, quietStep, withAs, withOwn, withCapability, withNet, settingStep, freshStep, netStep, headStep, callStep, eventStep, eventChecked, lineStep, lineChecked, tickStep, endedLine, freeStep, turnChecked, turnStep, onlyHolds, heldOf, toldOf, closeStep, listedIn, finishStep}
+use Rattle.player.specs.Player.{Step, nextLine, holding, breaking, due, settled, having, roomy, lineFits, callChecks, formedCheck, reportCheck, given, reported, withUsed, badStep, brokenStep, quietStep, withAs, withOwn, withCapability, withNet, settingStep, freshStep, netStep, headStep, callStep, eventStep, eventChecked, lineStep, lineChecked, tickStep, endedLine, freeStep, turnChecked, turnStep, onlyHolds, heldOf, toldOf, closeStep, listedIn, finishStep}
 use Rattle.player.specs.declared.Heard.{Heard}
 use Rattle.player.specs.declared.Heard.the-variants as H
 use Rattle.player.specs.Steps.{heardOf, carriedTurn, usingOf}
@@ -76,26 +77,26 @@ for-each h = (λ table. h table .0, λ table. h table .1)
 -- ---- what the host must lend
 
 module _ (room : Bool) (st : State) (numbers : ℕ) where
-  pub lent-1 : stateFormed st ≡ false → 1 ≡ lentChecks room st numbers
+  pub lent-1 : stateFormed st ≡ false → 1 ≡ callChecks room st numbers
   unfolding lentChecks check
   lent-1 e = rw e
 
   module _ (f : stateFormed st ≡ true) where
-    pub lent-2 : (numbers ≡ 3072 → ⊥) → 2 ≡ lentChecks room st numbers
+    pub lent-2 : (numbers ≡ 3072 → ⊥) → 2 ≡ callChecks room st numbers
     unfolding lentChecks check
     lent-2 n = rw (f, ne-eqb numbers 3072 n)
 
     module _ (e : numbers ≡ 3072) where
-      pub lent-3 : room ≡ false → 3 ≡ lentChecks room st numbers
+      pub lent-3 : room ≡ false → 3 ≡ callChecks room st numbers
       unfolding lentChecks check
       lent-3 h = rw (f, eq-eqb numbers 3072 e, h)
 
-      pub lent-0 : room ≡ true → 0 ≡ lentChecks room st numbers
+      pub lent-0 : room ≡ true → 0 ≡ callChecks room st numbers
       unfolding lentChecks check
       lent-0 h = rw (f, eq-eqb numbers 3072 e, h)
 
 -- where all is lent there is room
-pub lent-room : (out : List ℕ) (st : State) (numbers : ℕ) → lentChecks (roomy out) st numbers ≡ 0 → 65536 ≤ length out
+pub lent-room : (out : List ℕ) (st : State) (numbers : ℕ) → callChecks (roomy out) st numbers ≡ 0 → 65536 ≤ length out
 unfolding roomy lentChecks check
 lent-room out st numbers e = go (stateFormed st) (eqb numbers 3072) (leb 65536 (length out)) refl e
   where
@@ -258,7 +259,7 @@ module _ (p : Player) (table : List ℕ) where
     unfolding heardStep
     heard-whole g k = heard-step ∙ ap heardStep k
 
-module _ (p : Player) (table : List ℕ) (g : Settings) (o : Outcome) (e : o ≡ freshOf (g .asn) (g .own) (g .capability) (g .net)) where
+module _ (p : Player) (table : List ℕ) (g : Settings) (o : Outcome) (e : o ≡ freshOf g) where
   pub fresh-refused : (o .answer ≡ 0 → ⊥) → freshStep p table g ≡ brokenStep p table (o .answer)
   unfolding freshStep
   fresh-refused n = rw (sym e, ne-eqb (o .answer) 0 n)
@@ -280,7 +281,7 @@ module _ (p : Player) (table : List ℕ) where
 
   fresh-table : (g : Settings) → (freshStep p table g) .table ≡ table
   unfolding freshStep brokenStep quietStep
-  fresh-table g = cond-elim (λ (s : Step). s .table ≡ table) (eqb ((freshOf (g .asn) (g .own) (g .capability) (g .net)) .answer) 0) _ _ (λ e. refl) (λ e. refl)
+  fresh-table g = cond-elim (λ (s : Step). s .table ≡ table) (eqb ((freshOf g) .answer) 0) _ _ (λ e. refl) (λ e. refl)
 
   net-table : (value : Number) → (netStep p table value) .table ≡ table
   unfolding netStep whenNumber brokenStep
@@ -319,21 +320,21 @@ module _ (room : Bool) (st : State) (numbers : ℕ) (read : Read) (line : List �
   unfolding meant eventChecked
   asks-tick a count e = rw e
 
-  pub asks-start : (a : ℕ) → read ≡ R.Start a → eventChecked room st numbers (meant read line) ≡ lentChecks room st numbers
+  pub asks-start : (a : ℕ) → read ≡ R.Start a → eventChecked room st numbers (meant read line) ≡ callChecks room st numbers
   unfolding meant eventChecked
   asks-start a e = rw e
 
-  pub asks-stop : (a : ℕ) → read ≡ R.Stop a → eventChecked room st numbers (meant read line) ≡ lentChecks room st numbers
+  pub asks-stop : (a : ℕ) → read ≡ R.Stop a → eventChecked room st numbers (meant read line) ≡ callChecks room st numbers
   unfolding meant eventChecked
   asks-stop a e = rw e
 
-  pub asks-rx : (a at : ℕ) → read ≡ R.Receive a at → eventChecked room st numbers (meant read line) ≡ lentChecks room st numbers
+  pub asks-rx : (a at : ℕ) → read ≡ R.Receive a at → eventChecked room st numbers (meant read line) ≡ callChecks room st numbers
   unfolding meant eventChecked
   asks-rx a at e = rw e
 
 -- a call with replies
 pub asks-call : (room : Bool) (st : State) (numbers : ℕ) (read : Read) (line : List ℕ) → OneOf (3 ∷ 4 ∷ 6 ∷ []) (tagOf the-type read)
-    → eventChecked room st numbers (meant read line) ≡ lentChecks room st numbers
+    → eventChecked room st numbers (meant read line) ≡ callChecks room st numbers
 unfolding meant eventChecked
 asks-call room st numbers R.Bad line h = absurd (miss (3 ∷ 4 ∷ 6 ∷ []) 0 tt h)
 asks-call room st numbers (R.Add a asn) line h = absurd (miss (3 ∷ 4 ∷ 6 ∷ []) 1 tt h)
@@ -483,9 +484,9 @@ module _ (p : Player) (table line out : List ℕ) (used : ℕ) (r : Told) where
     pub line-made : asked ≡ 0 → (after new : List ℕ) → Made (withUsed used (eventStep p table (meant read line))) r after out new → Made taken r after out new
     line-made e after new f = made-as out (event-as ∙ given-whole p table asked _ e) f
 
-module _ (p : Player) (table out : List ℕ) (r : Told) (refusal : ℕ) (e : refusal ≡ lentChecks (roomy out) (p .state) (length table)) where
+module _ (p : Player) (table out : List ℕ) (r : Told) (refusal : ℕ) (e : refusal ≡ callChecks (roomy out) (p .state) (length table)) where
   abbrev ticked : Step
-  ticked = given p table (lentChecks (roomy out) (p .state) (length table)) (tickStep p table)
+  ticked = given p table (callChecks (roomy out) (p .state) (length table)) (tickStep p table)
 
   pub tick-refused : (refusal ≡ 0 → ⊥) → r ≡ toldOf (quietStep p table refusal) → Made ticked r table out out
   tick-refused n f =
@@ -555,11 +556,11 @@ module _ (p : Player) (line table input out : List ℕ) (r : Told) where
   module _ (b : p .broken ≡ false) where
     -- one of the ticks that are due; of the piece nothing is used
     pub turn-tick : 0 < p .ticks → (table′ out′ : List ℕ)
-        → Made (given p table (lentChecks (roomy out) (p .state) (length table)) (tickStep p table)) r table′ out out′ → Turned p line table input out r line table′ out′
+        → Made (given p table (callChecks (roomy out) (p .state) (length table)) (tickStep p table)) r table′ out out′ → Turned p line table input out r line table′ out′
     unfolding turnChecked freeStep
     turn-tick t table′ out′ m =
         let k = lt-ltb 0 (p .ticks) t in
-        turned (lentChecks (roomy out) (p .state) (length table)) (tickStep p table) line table′ out′ (on-false (p .broken) _ _ b ∙ on-true (ltb 0 (p .ticks)) _ _ k)
+        turned (callChecks (roomy out) (p .state) (length table)) (tickStep p table) line table′ out′ (on-false (p .broken) _ _ b ∙ on-true (ltb 0 (p .ticks)) _ _ k)
         (on-false (p .broken) _ _ b ∙ on-true (ltb 0 (p .ticks)) _ _ k) (held-tick p line input b k) m
 
     module _ (t : p .ticks ≤ 0) where

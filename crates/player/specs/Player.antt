@@ -10,7 +10,8 @@ use Rattle.checks.specs.Checks.{check, ifOk}
 use Rattle.neighbour.specs.declared.Settings.{Settings}
 use Rattle.state.specs.declared.State.{State}
 use Rattle.state.specs.Formed.{stateFormed}
-use Rattle.slots.specs.Calls.{freshOf, zeroState}
+use Rattle.slots.specs.Calls.{freshOf, noSettings, zeroState}
+use Rattle.calls.specs.Calls.{lentChecks}
 use Rattle.values.specs.declared.Number.{Number}
 use Rattle.values.specs.Numbers.{whenNumber}
 use Rattle.recording.specs.Lines.{Event, bad, add, remove, start, stop, tick, rx, eventOf, ownAsOf, ownOf, capabilityOf, netOf}
@@ -23,9 +24,6 @@ use Rattle.player.specs.declared.Player.{Player}
 use Rattle.player.specs.declared.Told.{Told}
 
 -- ---- the player's record
-
-unfoldable pub noSettings : Settings
-noSettings = record { asn = 0; own = 0; capability = 0; net = 0 }
 
 -- before the first line
 unfoldable pub beginning : Player
@@ -142,8 +140,8 @@ lineFits line = leb 4118 (length line)
 
 -- 01: 1 "state not well formed", 2 "table not 3,072 numbers", 3 "buffer too short", in this order: what a call with
 -- replies asks for
-unfoldable pub lentChecks : Bool → State → ℕ → ℕ
-lentChecks room st numbers = check (stateFormed st) 1 (check (eqb numbers 3072) 2 (check room 3 0))
+abbrev pub callChecks : Bool → State → ℕ → ℕ
+callChecks room st numbers = lentChecks st (eqb numbers 3072) room 0
 
 -- 01: "fresh, add and remove take no table or buffer"
 unfoldable pub formedCheck : State → ℕ
@@ -197,9 +195,9 @@ settingStep p table value set =
 -- fresh, once all four are read; its refusal is reported as the fourth line, and answered with its own number
 unfoldable pub freshStep : Player → List ℕ → Settings → Step
 freshStep p table g =
-    cond (eqb ((freshOf (g .asn) (g .own) (g .capability) (g .net)) .answer) 0)
-    (quietStep (having (settled (nextLine p) g) ((freshOf (g .asn) (g .own) (g .capability) (g .net)) .state)) table 0)
-    (brokenStep p table ((freshOf (g .asn) (g .own) (g .capability) (g .net)) .answer))
+    cond (eqb ((freshOf g) .answer) 0)
+    (quietStep (having (settled (nextLine p) g) ((freshOf g) .state)) table 0)
+    (brokenStep p table ((freshOf g) .answer))
 
 -- the fourth
 unfoldable pub netStep : Player → List ℕ → Number → Step
@@ -242,10 +240,10 @@ unfoldable pub eventChecked : Bool → State → ℕ → Event → ℕ
 eventChecked room st numbers bad = reportCheck room 19
 eventChecked room st numbers (add a asn) = formedCheck st
 eventChecked room st numbers (remove a) = formedCheck st
-eventChecked room st numbers (start a) = lentChecks room st numbers
-eventChecked room st numbers (stop a) = lentChecks room st numbers
+eventChecked room st numbers (start a) = callChecks room st numbers
+eventChecked room st numbers (stop a) = callChecks room st numbers
 eventChecked room st numbers (tick a count) = 0
-eventChecked room st numbers (rx a octets) = lentChecks room st numbers
+eventChecked room st numbers (rx a octets) = callChecks room st numbers
 
 -- an ended line
 unfoldable pub lineStep : Player → List ℕ → List ℕ → Step
@@ -279,7 +277,7 @@ freeStep p line table input =
 unfoldable pub turnChecked : Bool → Player → List ℕ → List ℕ → List ℕ → ℕ
 turnChecked room p line table input =
     cond (p .broken) 0
-    (cond (ltb 0 (p .ticks)) (lentChecks room (p .state) (length table))
+    (cond (ltb 0 (p .ticks)) (callChecks room (p .state) (length table))
     (check (lineFits line) 3
     (cond ((gathered 0 (p .held) input) .ended) (lineChecked room p table (endedLine p line input)) 0)))
 

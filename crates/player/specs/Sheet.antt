@@ -18,7 +18,7 @@ unfoldable pub summary : Step → List ℕ
 summary s = s .answer ∷ s .used ∷ length (s .text) ∷ (s .player) .lines ∷ (s .player) .held ∷ (s .player) .ticks ∷ []
 
 unfoldable pub startState : State
-startState = (freshOf 9 2148073473 1 2148073472) .state
+startState = (freshOf (record { asn = 9; own = 2148073473; capability = 1; net = 2148073472 })) .state
 
 -- ownas=9, own=128.9.0.1, and this capability
 unfoldable pub settingsWith : ℕ → Settings

@@ -14,7 +14,7 @@ ghost use lib.ListN.{length};
 ghost use Rattle.octets.specs.Buffer.{over};
 ghost use Rattle.recording.specs.Meant.{meant};
 ghost use Rattle.recording.specs.Steps.{standsOn};
-ghost use Rattle.player.specs.Player.{beginning, nextLine, holding, breaking, due, settled, having, roomy, lentChecks, formedCheck, reportCheck, reported, given, withUsed, badStep, brokenStep, quietStep, freshStep, headStep, eventStep, eventChecked, lineStep, lineChecked, tickStep, turnStep, heldOf, toldOf, closeStep, finishStep};
+ghost use Rattle.player.specs.Player.{beginning, nextLine, holding, breaking, due, settled, having, roomy, callChecks, formedCheck, reportCheck, reported, given, withUsed, badStep, brokenStep, quietStep, freshStep, headStep, eventStep, eventChecked, lineStep, lineChecked, tickStep, turnStep, heldOf, toldOf, closeStep, finishStep};
 ghost use Rattle.player.specs.Steps.{heardOf, carriedTurn, usingOf};
 
 // The least output buffer, as for a listing.
@@ -124,7 +124,7 @@ fn with_used(t: Told, used: usize) -> Told
 
 // 1, 2 and 3: what a call with replies asks of the host.
 fn lent_answer(st: State, numbers: usize, room: usize) -> u8
-    ensures { λ r. ⌜ r ≡ lentChecks (leb 65536 room) st numbers ⌝ }
+    ensures { λ r. ⌜ r ≡ callChecks (leb 65536 room) st numbers ⌝ }
 {
     if !state::well_formed(st) {
         return 1;
@@ -242,12 +242,7 @@ fn begin_state(p: Player, settings: Settings, used: usize, out: &mut [u8]) -> To
     ensures { λ r. ⌜ ((table : List ℕ) → r ≡ toldOf (reported (roomy (now (out .entry))) p table used (freshStep p table settings))) ⌝ }
     ensures { λ _. ⌜ ((table : List ℕ) → now (out .exit) ≡ over ((reported (roomy (now (out .entry))) p table used (freshStep p table settings)) .text) (now (out .entry))) ⌝ }
 {
-    let o = slots::fresh(
-        settings.asn,
-        settings.own,
-        settings.capability,
-        settings.net,
-    );
+    let o = slots::fresh(settings);
     if o.answer != 0 {
         return give_up(p, o.answer, used, out);
     }
@@ -339,9 +334,9 @@ fn take_line(p: Player, line: &[u8], used: usize, table: &mut [u32], out: &mut [
 // One of the ticks that are due.
 fn make_tick(p: Player, table: &mut [u32], out: &mut [u8]) -> Told
     requires { ⌜ 0 < p .ticks ⌝ }
-    ensures { λ r. ⌜ r ≡ toldOf (given p (now (table .entry)) (lentChecks (roomy (now (out .entry))) (p .state) (length (now (table .entry)))) (tickStep p (now (table .entry)))) ⌝ }
-    ensures { λ _. ⌜ now (table .exit) ≡ (given p (now (table .entry)) (lentChecks (roomy (now (out .entry))) (p .state) (length (now (table .entry)))) (tickStep p (now (table .entry)))) .table ⌝ }
-    ensures { λ _. ⌜ now (out .exit) ≡ over ((given p (now (table .entry)) (lentChecks (roomy (now (out .entry))) (p .state) (length (now (table .entry)))) (tickStep p (now (table .entry)))) .text) (now (out .entry)) ⌝ }
+    ensures { λ r. ⌜ r ≡ toldOf (given p (now (table .entry)) (callChecks (roomy (now (out .entry))) (p .state) (length (now (table .entry)))) (tickStep p (now (table .entry)))) ⌝ }
+    ensures { λ _. ⌜ now (table .exit) ≡ (given p (now (table .entry)) (callChecks (roomy (now (out .entry))) (p .state) (length (now (table .entry)))) (tickStep p (now (table .entry)))) .table ⌝ }
+    ensures { λ _. ⌜ now (out .exit) ≡ over ((given p (now (table .entry)) (callChecks (roomy (now (out .entry))) (p .state) (length (now (table .entry)))) (tickStep p (now (table .entry)))) .text) (now (out .entry)) ⌝ }
 {
     let st = p.state;
     let refusal = lent_answer(st, table.len(), out.len());
@@ -356,7 +351,13 @@ fn make_tick(p: Player, table: &mut [u32], out: &mut [u8]) -> Told
 pub fn begin() -> Player
     ensures { λ r. ⌜ r ≡ beginning ⌝ }
 {
-    let o = slots::fresh(0, 0, 0, 0);
+    let settings = Settings {
+        asn: 0,
+        own: 0,
+        capability: 0,
+        net: 0,
+    };
+    let o = slots::fresh(settings);
     let state = o.state;
     Player {
         lines: 0,
@@ -364,12 +365,7 @@ pub fn begin() -> Player
         broken: false,
         address: 0,
         ticks: 0,
-        settings: Settings {
-            asn: 0,
-            own: 0,
-            capability: 0,
-            net: 0,
-        },
+        settings,
         state,
     }
 }

@@ -5,8 +5,8 @@ use Rattle.checks.specs.Checks.{check, ifOk}
 use Rattle.state.specs.declared.Outcome.{Outcome}
 use Rattle.state.specs.Outcomes.{silentOf}
 use Rattle.state.specs.Formed.{goodSettings}
-use Rattle.slots.specs.Calls.{freshOf, freshAnswer, zeroState}
-use Rattle.player.specs.Player.{beginning, noSettings}
+use Rattle.slots.specs.Calls.{freshOf, freshAnswer, noSettings, zeroState}
+use Rattle.player.specs.Player.{beginning}
 use borrow.Author.Needs.{needs}
 use Rattle.player.proofs.begin.Statement.{statement}
 use Rattle.player.proofs.begin.Tie as tie
@@ -15,7 +15,7 @@ fresh-requires : tie.Need-fresh-requires
 fresh-requires c κs = search needs
 
 returns : tie.Need-returns
-unfolding beginning noSettings zeroState freshOf silentOf freshAnswer check ifOk goodSettings
+unfolding beginning zeroState freshOf silentOf freshAnswer check ifOk goodSettings
 returns c = ap (λ (o : Outcome). record { lines = 0; held = 0; broken = false; address = 0; ticks = 0; settings = noSettings; state = o .state }) (c .before .fresh .ensures)
 
 pub begin-spec : {M : Type 1} → statement M

@@ -10,7 +10,7 @@ use Rattle.octets.specs.Buffer.{over}
 use Rattle.rows.specs.Storing.{zeros}
 use Rattle.values.specs.Hex.{isHex, hexOctets}
 use Rattle.values.proofs.Readings.{hex-half}
-use Rattle.machine.specs.declared.Event.the-variants as E
+use Rattle.machine.specs.Intrinsics as E
 use Rattle.state.specs.declared.State.{State}
 use Rattle.state.specs.declared.Outcome.{Outcome}
 use Rattle.calls.specs.Calls.{eventOutcome, eventTable, eventBuffer, messageOutcome, messageTable, messageBuffer}

@@ -10,7 +10,7 @@ use lib.Dec.{ltb, leb, eqb}
 use lib.ListN.{length, take, drop, length-append}
 use lib.Seq.{take-append-seam, drop-append-seam}
 use borrow.Author.Tests.{lt-ltb, eqb-true, eqb-false}
-use Rattle.checks.specs.Checks.{check}
+use Rattle.checks.specs.Checks.{check, ifOk}
 use Rattle.checks.specs.Lists.{every, join}
 use Rattle.checks.proofs.Laws.{and-left, and-right, and-both, cond-elim}
 use Rattle.octets.specs.Buffer.{over}
@@ -120,7 +120,7 @@ events-text (line ∷ l) lines b m h k =
 
 -- the listing, in a buffer of the least size
 listing-said : (m : M.Model) → (M.step (M.listing (zeros 65536)) m) .said ≡ M.listingSaid m
-unfolding M.step M.listingTurn M.listingAnswer M.whenOk check zeros
+unfolding M.step M.listingTurn M.listingAnswer ifOk check zeros
 listing-said m = refl
 
 listing-text : (b : Gateway) (m : M.Model) → Agrees b m → C.listed b ≡ listingText (M.listed m)

@@ -13,7 +13,7 @@ use Rattle.rows.specs.Storing.{zeros}
 use Rattle.state.specs.declared.State.{State}
 use Rattle.state.specs.Formed.{stateFormed}
 use Rattle.state.specs.Outcomes.{refusedOf}
-use Rattle.calls.specs.Calls.{tableFits}
+use Rattle.calls.specs.Calls.{tableFits, lentChecks}
 use Rattle.lines.specs.Lines.{listingText}
 use Rattle.lines.specs.Listing.{entries, listable, listingChecks, listingOutcome, listingBuffer}
 use Rattle.model.specs.Theorem.{Gateway, outcomeOf, bufferAfter, seenOf}
@@ -35,7 +35,7 @@ unfoldable twoChecks : Gateway → ℕ
 twoChecks b = check (stateFormed (b .state)) 1 (check (tableFits (b .table) && every listable (entries (b .state) (b .table))) 2 0)
 
 with-room : (out : List ℕ) (b : Gateway) → roomy out ≡ true → listingChecks (b .state) (b .table) out ≡ twoChecks b
-unfolding roomy listingChecks twoChecks check
+unfolding roomy listingChecks lentChecks twoChecks check
 with-room out b h = rw h
 
 listing-in : (out : List ℕ) (b : Gateway) → roomy out ≡ true → listedIn out b ≡ ifOk (twoChecks b) (listingText (entries (b .state) (b .table))) []

@@ -9,7 +9,7 @@ use Rattle.message.specs.declared.Message.{Message}
 use Rattle.rows.specs.Storing.{padded}
 use Rattle.codec.specs.declared.Meaning.the-variants.{Good, Refused}
 use Rattle.codec.specs.declared.Reading.{Reading}
-use Rattle.codec.specs.Reading.{mostNumbers, readOf}
+use Rattle.codec.specs.Reading.{mostReadNumbers, readOf}
 use Rattle.writing.specs.Octets.{octetsOf}
 use Rattle.codec.specs.Writing.{writable}
 use Rattle.neighbour.specs.declared.Settings.{Settings}
@@ -44,11 +44,11 @@ pub data Case : Type 0 where
 
 -- what reading alone must give: the meaning and exactly the rows, zeros after them
 unfoldable pub goodReading : Message → List Row → Reading
-goodReading m rows = record { meaning = Good m; count = length rows; rows = padded mostNumbers (flat rows) }
+goodReading m rows = record { meaning = Good m; count = length rows; rows = padded mostReadNumbers (flat rows) }
 
 -- or a refusal, with no row
 unfoldable pub badReading : ℕ → Reading
-badReading number = record { meaning = Refused number; count = 0; rows = padded mostNumbers [] }
+badReading number = record { meaning = Refused number; count = 0; rows = padded mostReadNumbers [] }
 
 -- 01: "The lent table is exactly 3,072 32-bit numbers"; "Reply buffer at least 2,048 octets"; both hold zeros
 unfoldable pub zeroTable : List ℕ

@@ -18,7 +18,7 @@ use Rattle.wire.specs.declared.Decoded.the-variants as D
 use Rattle.walk.specs.Body.{UpdateRead, accepted, brokenAt, tooMany, updateOf}
 use Rattle.writing.specs.Octets.{octetsOf}
 use Rattle.codec.specs.declared.Reading.{Reading}
-use Rattle.codec.specs.Reading.{most, numberOf, refusal, rowless, updateReading, meaningReading, kindReading, readOf}
+use Rattle.codec.specs.Reading.{mostRead, numberOf, refusal, rowless, updateReading, meaningReading, kindReading, readOf}
 use Rattle.codec.specs.Writing.{writeAnswer, writeOctets, writeOf}
 
 -- where the number is not 0 there is nothing but the number
@@ -49,7 +49,7 @@ meaning-empty net o (CeaseAck a q s) = rowless-empty _
 meaning-empty net o (Hello a q s) = rowless-empty _
 meaning-empty net o (IHeardYou a q s) = rowless-empty _
 meaning-empty net o (Poll a q s n) = rowless-empty _
-meaning-empty net o (Update a q s n) = update-empty _ (updateOf most net o)
+meaning-empty net o (Update a q s n) = update-empty _ (updateOf mostRead net o)
 meaning-empty net o (Error a q s reason x y z) = rowless-empty _
 
 kind-empty : (net : ℕ) (o : List ℕ) (d : Decoded) → Empty (kindReading net o d)

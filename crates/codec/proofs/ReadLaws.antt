@@ -23,7 +23,7 @@ use Rattle.walk.specs.declared.Walked.{Walked}
 use Rattle.walk.specs.declared.Walked.the-variants.{Rows, Broken, TooMany}
 use Rattle.walk.proofs.Walked as WalkedType
 use Rattle.rows.specs.Storing.{padded, isWhole, rowsIn, Storable}
-use Rattle.codec.specs.Reading.{most, refusal, rowless, updateReading, meaningReading, kindReading, readOf}
+use Rattle.codec.specs.Reading.{mostRead, refusal, rowless, updateReading, meaningReading, kindReading, readOf}
 use Rattle.codec.specs.declared.Meaning.the-variants.{Good}
 use Rattle.codec.specs.declared.Reading.{Reading}
 use Rattle.codec.proofs.Laws.{OtherKind}
@@ -33,7 +33,7 @@ pub record Accepted (net : ℕ) (o : List ℕ) (count : ℕ) : Type 0 where
   pub sound : isWhole (blocksOf net o) ≡ true
   pub few : count ≤ 128
   pub number : length (rowsIn (blocksOf net o)) ≡ count
-  pub is : updateOf most net o ≡ accepted (rowsIn (blocksOf net o))
+  pub is : updateOf mostRead net o ≡ accepted (rowsIn (blocksOf net o))
 
 judged-rows : (w : Walk) (count : ℕ) → walkedOf (judged 128 w) ≡ Rows count
     → (isWhole w ≡ true) × (count ≤ 128) × (length (rowsIn w) ≡ count) × (judged 128 w ≡ accepted (rowsIn w))
@@ -59,13 +59,13 @@ pub accepted-room : {net : ℕ} {o : List ℕ} {count : ℕ} → Accepted net o 
 accepted-room a part e = record { sound = a .sound; room = omega (arith, a .few, a .number) }
 
 pub update-read : (m : Message) (net : ℕ) (o : List ℕ) (count : ℕ) (part : List ℕ) → Accepted net o count
-    → part ≡ padded 384 (flat (rowsIn (blocksOf net o))) → record { meaning = Good m; count = count; rows = part } ≡ updateReading m (updateOf most net o)
+    → part ≡ padded 384 (flat (rowsIn (blocksOf net o))) → record { meaning = Good m; count = count; rows = part } ≡ updateReading m (updateOf mostRead net o)
 unfolding updateReading
 update-read m net o count part a e = rw (a .is, e, a .number)
 
 -- where the walk found no rows that may be taken
 pub update-refused : (m : Message) (net : ℕ) (o : List ℕ) (w : Walked) → w ≡ walkedOf (updateOf 128 net o) → OneOf (1 ∷ 2 ∷ []) (tagOf WalkedType.the-type w)
-    → refusal (walkedNumber w) ≡ updateReading m (updateOf most net o)
+    → refusal (walkedNumber w) ≡ updateReading m (updateOf mostRead net o)
 unfolding updateReading Body.numberOf
 update-refused m net o w e k = go (updateOf 128 net o) w e k
   where

@@ -18,12 +18,12 @@ use Rattle.codec.specs.declared.Meaning.{Meaning}
 use Rattle.codec.specs.declared.Meaning.the-variants.{Good, Refused}
 use Rattle.codec.specs.declared.Reading.{Reading}
 
--- 01: "128 rows each", three numbers a row
-abbrev pub most : ℕ
-most = 128
+-- the rows that reading alone hands back at most: as many as a slot has, three numbers a row
+abbrev pub mostRead : ℕ
+mostRead = 128
 
-abbrev pub mostNumbers : ℕ
-mostNumbers = 384
+abbrev pub mostReadNumbers : ℕ
+mostReadNumbers = 384
 
 -- 01's number for each case of the reader's answer
 unfoldable pub numberOf : Meaning → ℕ
@@ -32,15 +32,15 @@ numberOf (Refused number) = number
 
 -- a refusal hands back no row
 unfoldable pub refusal : ℕ → Reading
-refusal number = record { meaning = Refused number; count = 0; rows = zeros mostNumbers }
+refusal number = record { meaning = Refused number; count = 0; rows = zeros mostReadNumbers }
 
 -- a message of a kind that has no rows
 unfoldable pub rowless : Message → Reading
-rowless m = record { meaning = Good m; count = 0; rows = zeros mostNumbers }
+rowless m = record { meaning = Good m; count = 0; rows = zeros mostReadNumbers }
 
 -- an Update: exactly its rows, then zeros
 unfoldable pub updateReading : Message → UpdateRead → Reading
-updateReading m (accepted rs) = record { meaning = Good m; count = length rs; rows = padded mostNumbers (flat rs) }
+updateReading m (accepted rs) = record { meaning = Good m; count = length rs; rows = padded mostReadNumbers (flat rs) }
 updateReading m (brokenAt offset) = refusal (Walk.numberOf (brokenAt offset))
 updateReading m tooMany = refusal (Walk.numberOf tooMany)
 
@@ -54,7 +54,7 @@ meaningReading net o (CeaseAck a q s) = rowless (CeaseAck a q s)
 meaningReading net o (Hello a q s) = rowless (Hello a q s)
 meaningReading net o (IHeardYou a q s) = rowless (IHeardYou a q s)
 meaningReading net o (Poll a q s n) = rowless (Poll a q s n)
-meaningReading net o (Update a q s n) = updateReading (Update a q s n) (updateOf most net o)
+meaningReading net o (Update a q s n) = updateReading (Update a q s n) (updateOf mostRead net o)
 meaningReading net o (Error a q s reason x y z) = rowless (Error a q s reason x y z)
 
 -- 10 to 12, then 14 and 15

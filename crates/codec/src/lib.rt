@@ -5,7 +5,7 @@ use wire::Decoded;
 ghost use mathlib.Core.Path.{_≡_};
 ghost use Rattle.octets.specs.Buffer.{over};
 ghost use Rattle.walk.specs.Body.{updateOf};
-ghost use Rattle.codec.specs.Reading.{most, refusal, updateReading, meaningReading, readOf};
+ghost use Rattle.codec.specs.Reading.{mostRead, refusal, updateReading, meaningReading, readOf};
 ghost use Rattle.codec.specs.Writing.{rowsAllowed, writable, writeOf, writeOctets};
 
 // What reading alone finds: the message, or 01's number.
@@ -92,7 +92,7 @@ fn refuse(number: u8) -> Reading
 
 // Reads an Update's rows: the message m is that Update's own meaning.
 fn read_update(net: u32, m: Message, message: &[u8]) -> Reading
-    ensures { λ r. ⌜ r ≡ updateReading m (updateOf most net (now (message .entry))) ⌝ }
+    ensures { λ r. ⌜ r ≡ updateReading m (updateOf mostRead net (now (message .entry))) ⌝ }
 {
     let walked = walk::walk(net, message, 128);
     let Walked::Rows(count) = walked else {

@@ -47,7 +47,7 @@ use Rattle.trip.specs.Trip.{octetsOnly, Read}
 use Rattle.trip.proofs.Readings.{every-all, all-every, all-map}
 use Rattle.trip.proofs.Trip as Trip
 use Rattle.codec.specs.Writing.{rowsAllowed, writable, writeAnswer, writeOctets, writeOf}
-use Rattle.codec.specs.Reading.{mostNumbers, refusal, rowless, updateReading, meaningReading, kindReading, readOf}
+use Rattle.codec.specs.Reading.{mostReadNumbers, refusal, rowless, updateReading, meaningReading, kindReading, readOf}
 use Rattle.codec.specs.declared.Meaning.the-variants.{Good}
 use Rattle.codec.specs.declared.Reading.{Reading}
 use Rattle.codec.proofs.Laws.{octets-short}
@@ -306,7 +306,7 @@ module _ (net : ℕ) (o : List ℕ) (m : Message) (rs : List Row) (oct : Octets 
 accepted-rows : (m : Message) (u : UpdateRead) (rs : List Row) → updateReading m u ≡ handedBack m (length rs) (flat rs) → u ≡ accepted rs
 unfolding updateReading handedBack
 accepted-rows m (accepted xs) rs e =
-    ap accepted (padded-same mostNumbers xs rs (ap (λ (r : Reading). r .count) e) (ap (λ (r : Reading). r .rows) e))
+    ap accepted (padded-same mostReadNumbers xs rs (ap (λ (r : Reading). r .count) e) (ap (λ (r : Reading). r .rows) e))
 accepted-rows m (brokenAt offset) rs e = refused-good _ m (ap (λ (r : Reading). r .meaning) e)
 accepted-rows m tooMany rs e = refused-good _ m (ap (λ (r : Reading). r .meaning) e)
 

@@ -17,14 +17,14 @@ use Rattle.blocks.specs.Blocks.{sideRows, gatewayRuns, distanceRuns, internalBl
 use Rattle.trip.specs.Canonical.{canonical}
 use Rattle.writing.specs.Octets.{octetsOf}
 use Rattle.codec.specs.Writing.{writable, writeOf, writeOctets}
-use Rattle.codec.specs.Reading.{readOf, mostNumbers}
+use Rattle.codec.specs.Reading.{readOf, mostReadNumbers}
 use Rattle.codec.specs.declared.Meaning.the-variants.{Good}
 use Rattle.codec.specs.declared.Reading.{Reading}
 use Rattle.roundtrip.specs.Widths.{Fits}
 
 -- a good reading: this message, the number of its rows, and the rows' numbers with zeros after them
 unfoldable pub handedBack : Message → ℕ → List ℕ → Reading
-handedBack m count numbers = record { meaning = Good m; count = count; rows = padded mostNumbers numbers }
+handedBack m count numbers = record { meaning = Good m; count = count; rows = padded mostReadNumbers numbers }
 
 -- 01: reading alone is "given the common net": an Update's own; beside any other kind it does not matter
 abbrev pub Common : ℕ → Message → Type 0

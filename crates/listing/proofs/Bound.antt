@@ -32,8 +32,8 @@ use Rattle.state.specs.declared.Outcome.{Outcome}
 use Rattle.calls.proofs.Checks.{lent-passed}
 use Rattle.lines.specs.Lines.{stateWord, modeWord, distanceIn, sideWord, headLines, rowLines, rowText, entryText, listingText}
 use Rattle.lines.specs.Listing.{entryOf, entriesFrom, entries, listingChecks, listingOutcome, listingBuffer}
+use Rattle.lines.proofs.Laws.{count-at}
 use Rattle.listing.specs.Claims.{Typed, Short}
-use Rattle.listing.proofs.Laws.{count-at}
 
 line-length : (name value : List ℕ) → length (line name value) ≡ length name + length value + 1
 unfolding line

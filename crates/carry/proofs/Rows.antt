@@ -32,9 +32,10 @@ module _ (count : ℕ) where
 
   taken-count : (walk : Walk) → takes (Replace count) walk ≡ true → (count ≡ length (rowsIn walk)) × (length (rowsIn walk) ≤ 128)
   unfolding takes rowsIn
-  taken-count (whole rows) e =
-      (eqb-true count (length rows) (and-left (eqb count (length rows)) (leb (length rows) 128) e),
-      leb-true (length rows) 128 (and-right (eqb count (length rows)) (leb (length rows) 128) e))
+  taken-count (whole rows) e = (
+    eqb-true count (length rows) (and-left (eqb count (length rows)) (leb (length rows) 128) e),
+    leb-true (length rows) 128 (and-right (eqb count (length rows)) (leb (length rows) 128) e),
+  )
   taken-count (broken offset) e = absurd (false≢true e)
 
 -- ---- the table

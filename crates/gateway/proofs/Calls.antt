@@ -70,10 +70,13 @@ module _ (event : Event) (st : State) (table buffer : List ℕ) (a k : ℕ) (c :
       unfolding verdictOf
       event-asked o =
           let g = st .settings in
-          let sends = stepped-sends g (slot .asn) (slot .neighbour) event (record { first = 0; second = 0; third = 0 }) in
-          ((rw p (found .found), found .long, found .room),
-          (rw (w, m) (ready g [] ((formed-settings st (found .formed)) .net) (none-writable (g .net)) _ sends),
-          rw w (backed-takes (g .net) o _ (stepped-backed 128 (g .net) o (slot .neighbour) after))))
+          let sends = stepped-sends g (slot .asn) (slot .neighbour) event (record { first = 0; second = 0; third = 0 }) in (
+            (rw p (found .found), found .long, found .room),
+            (
+              rw (w, m) (ready g [] ((formed-settings st (found .formed)) .net) (none-writable (g .net)) _ sends),
+              rw w (backed-takes (g .net) o _ (stepped-backed 128 (g .net) o (slot .neighbour) after)),
+            ),
+          )
 
       ruled : (e : Intrinsic) → event ≡ asEvent e → stepped (slot .neighbour) after ≡ eventRuling e st a
       unfolding eventRuling noHead
@@ -138,15 +141,17 @@ module _ (st : State) (table buffer home : List ℕ) (a : ℕ) (o : List ℕ) (k
         number-done out b f g =
             let done : messageChecks st table buffer home a ≡ 0 = sym e ∙ z in (
               f
-              ∙ (λ j. record {
-                answer = number;
-                first = length (firstOctets named (rowsOf home));
-                second = length (secondOctets named (rowsOf home));
-                state = sym (same-slot st (slotOf st a)) j;
-              })
-              ∙ ap (λ (y : Ruling). outcomeAfter st (slotOf st a) y (rowsOf home)) (sym refusal) ∙ sym (ifOk-new _ _ _ done),
-              (ap (λ (y : Ruling). tableAfter table (rowCounts st) (slotOf st a) (y .change)) (sym refusal) ∙ sym (ifOk-new _ _ _ done),
-              g ∙ ap (λ (y : Ruling). bufferAfter buffer (y .reply) (rowsOf home)) (sym refusal) ∙ sym (ifOk-new _ _ _ done)),
+                  ∙ (λ j. record {
+                    answer = number;
+                    first = length (firstOctets named (rowsOf home));
+                    second = length (secondOctets named (rowsOf home));
+                    state = sym (same-slot st (slotOf st a)) j;
+                  })
+                  ∙ ap (λ (y : Ruling). outcomeAfter st (slotOf st a) y (rowsOf home)) (sym refusal) ∙ sym (ifOk-new _ _ _ done),
+              (
+                ap (λ (y : Ruling). tableAfter table (rowCounts st) (slotOf st a) (y .change)) (sym refusal) ∙ sym (ifOk-new _ _ _ done),
+                g ∙ ap (λ (y : Ruling). bufferAfter buffer (y .reply) (rowsOf home)) (sym refusal) ∙ sym (ifOk-new _ _ _ done),
+              ),
             )
 
       pub head-is : (head : ℕ) → head ≡ headNumber (slot .asn) o → (head ≡ 0 → ⊥) → messageNumber 128 (st .settings) (slot .asn) (slot .neighbour) o ≡ head
@@ -161,10 +166,13 @@ module _ (st : State) (table buffer home : List ℕ) (a : ℕ) (o : List ℕ) (k
         pub message-asked : ((i < 8) × (length table ≡ 3072) × (2048 ≤ length buffer))
             × ((sendable (v .reply) home ≡ true) × (takes (v .effect) (blocksOf (st .settings .net) o) ≡ true))
         unfolding verdictOf
-        message-asked =
-            ((rw p (met .found), met .long, met .room),
-            (rw w (sent _ (receive-sends (st .settings) 128 (slot .asn) (slot .neighbour) o)),
-            rw w (backed-takes (st .settings .net) o _ (receive-backed 128 (st .settings) (slot .asn) (slot .neighbour) o))))
+        message-asked = (
+          (rw p (met .found), met .long, met .room),
+          (
+            rw w (sent _ (receive-sends (st .settings) 128 (slot .asn) (slot .neighbour) o)),
+            rw w (backed-takes (st .settings .net) o _ (receive-backed 128 (st .settings) (slot .asn) (slot .neighbour) o)),
+          ),
+        )
 
         rule-is : rulingOf v (rowsIn (blocksOf (st .settings .net) o)) ≡ messageRuling st a o
         unfolding messageRuling updateRoom
@@ -179,6 +187,8 @@ module _ (st : State) (table buffer home : List ℕ) (a : ℕ) (o : List ℕ) (k
         message-done out t b f g h =
             let done : messageChecks st table buffer home a ≡ 0 = sym e ∙ z in (
               f ∙ rw p (ap (λ (x : Ruling). outcomeAfter st (slotOf st a) x (rowsOf home)) rule-is) ∙ sym (ifOk-new _ _ _ done),
-              (g ∙ rw p (ap (λ (x : Ruling). tableAfter table (rowCounts st) (slotOf st a) (x .change)) rule-is) ∙ sym (ifOk-new _ _ _ done),
-              h ∙ ap (λ (x : Ruling). bufferAfter buffer (x .reply) (rowsOf home)) rule-is ∙ sym (ifOk-new _ _ _ done)),
+              (
+                g ∙ rw p (ap (λ (x : Ruling). tableAfter table (rowCounts st) (slotOf st a) (x .change)) rule-is) ∙ sym (ifOk-new _ _ _ done),
+                h ∙ ap (λ (x : Ruling). bufferAfter buffer (x .reply) (rowsOf home)) rule-is ∙ sym (ifOk-new _ _ _ done),
+              ),
             )

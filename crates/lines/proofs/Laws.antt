@@ -1,13 +1,16 @@
--- Laws of lines written one after the other. Assumes nothing.
+-- Laws of lines written one after the other, and of the row counts that say which rows are listed. Assumes nothing.
 use Prim.Native.Nat.{ℕ, _+_, _≤_, _<_}
 use mathlib.Core.Path.{_≡_, refl}
 use mathlib.Core.List.{List, [], _∷_, _++_}
-use lib.ListN.{length, drop, getD}
+use lib.ListN.{length, drop, getD, List·getD-map}
 use Rattle.checks.specs.Lists.{join}
 use Rattle.storing.specs.Written.{Written}
 use Rattle.storing.proofs.Storing.{Writing, start, room, turn, done}
 use Rattle.nets.specs.Rows.{Row, rowsOf}
 use Rattle.blocks.proofs.Lists.{rows-turn, rows-short}
+use Rattle.state.specs.declared.State.{State}
+use Rattle.state.specs.Slots.{freeSlot, slotAt}
+use Rattle.state.specs.Places.{rowCount, rowCounts}
 use Rattle.lines.specs.Lines.{rowText}
 use Rattle.lines.specs.Steps.{rowsText}
 
@@ -52,3 +55,9 @@ module _ {total : List ℕ} {at : ℕ} {old : List ℕ} {o : ℕ} {out : List �
   pub rows-done : length u ≤ 2 → Written total at old out o
   unfolding rowsText join
   rows-done h = done w (rw (rows-short u h))
+
+-- ---- row counts
+
+pub count-at : (st : State) (i : ℕ) → getD (rowCounts st) i 0 ≡ (slotAt st i) .rows
+unfolding rowCounts slotAt freeSlot
+count-at st i = List·getD-map rowCount (st .slots) i freeSlot

@@ -32,8 +32,8 @@ use Rattle.state.specs.declared.Outcome.{Outcome}
 use Rattle.calls.proofs.Checks.{lent-passed}
 use Rattle.lines.specs.Lines.{stateWord, modeWord, distanceIn, sideWord, headLines, rowLines, rowText, entryText, listingText}
 use Rattle.lines.specs.Listing.{entryOf, entriesFrom, entries, listingChecks, listingOutcome, listingBuffer}
+use Rattle.lines.proofs.Laws.{count-at}
 use Rattle.listing.specs.Claims.{Typed, Short}
-use Rattle.listing.proofs.Laws.{count-at}
 
 line-length : (name value : List ℕ) → length (line name value) ≡ length name + length value + 1
 unfolding line
@@ -114,9 +114,10 @@ module _ (table counts : List ℕ) where
           → (length (cond b (entriesFrom (suc i) rest table counts) (entryOf i slot table counts ∷ entriesFrom (suc i) rest table counts)) ≤ suc (length rest))
           × (length (join (map entryText (cond b (entriesFrom (suc i) rest table counts) (entryOf i slot table counts ∷ entriesFrom (suc i) rest table counts)))) ≤ 7364 * suc (length rest))
       go true r = (omega arith, omega arith)
-      go false r =
-          (omega arith,
-          simp length-append (omega (arith, entry-length i slot table counts (ap (λ (k : ℕ). getD counts k 0) (sym (add-zero i)) ∙ fine 0 .0) (omega arith) (fine 0 .1) (fine 0 .2))))
+      go false r = (
+        omega arith,
+        simp length-append (omega (arith, entry-length i slot table counts (ap (λ (k : ℕ). getD counts k 0) (sym (add-zero i)) ∙ fine 0 .0) (omega arith) (fine 0 .1) (fine 0 .2))),
+      )
 
 -- ---- the whole
 
@@ -124,7 +125,7 @@ text-length : (st : State) (table : List ℕ) → Typed st → stateFormed st �
 unfolding listingText entries text slotAt
 text-length st table t f =
     let e = entries-length table (rowCounts st) 0 (st .slots) (omega (arith, t .eight))
-            (λ j. (ap (λ (k : ℕ). getD (rowCounts st) k 0) (zero-add j) ∙ count-at st j, t .words j, formed-slot st j f .1)) in
+    (λ j. (ap (λ (k : ℕ). getD (rowCounts st) k 0) (zero-add j) ∙ count-at st j, t .words j, formed-slot st j f .1)) in
     let c = decimal-most 0 (length (entriesFrom 0 (st .slots) table (rowCounts st))) (omega (arith, t .eight)) in
     simp (length-append, line-length) (omega (arith, t .eight))
 

@@ -3,7 +3,7 @@ use Prim.Native.Nat.{ℕ, _≤_, _<_}
 use native.Mathlib.Omega.{arith}
 use borrow.Author.Tests.{eq-eqb, ne-eqb, eqb-true, le-leb, lt-leb, leb-true}
 use mathlib.Core.Bool.{Bool, true, false, _&&_}
-use mathlib.Core.Path.{_≡_, refl, sym, ap, _∙_}
+use mathlib.Core.Path.{_≡_, sym, ap, _∙_}
 use mathlib.Core.List.{List}
 use lib.Dec.{leb}
 use lib.ListN.{length}
@@ -75,10 +75,11 @@ module _ (st : State) (table buffer : List ℕ) (k : ℕ) (e : k ≡ listingChec
     passed : (stateFormed st ≡ true) × (length table ≡ 3072) × (65536 ≤ length buffer)
     unfolding listingChecks
     passed =
-        let p = lent-passed st (tableFits table && every listable (entries st table)) (leb 65536 (length buffer)) 0 (sym e ∙ z) in
-        (p .formed,
-        eqb-true (length table) 3072 (and-left (tableFits table) (every listable (entries st table)) (p .numbers)),
-        leb-true 65536 (length buffer) (p .octets))
+        let p = lent-passed st (tableFits table && every listable (entries st table)) (leb 65536 (length buffer)) 0 (sym e ∙ z) in (
+          p .formed,
+          eqb-true (length table) 3072 (and-left (tableFits table) (every listable (entries st table)) (p .numbers)),
+          leb-true 65536 (length buffer) (p .octets),
+        )
 
     module _ (t : Typed st) where
       pub text-room : ((stateFormed st ≡ true) × (length table ≡ 3072)) × (length (listingText (entries st table)) ≤ length buffer)

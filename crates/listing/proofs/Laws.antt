@@ -8,7 +8,7 @@ use mathlib.Core.Bool.{Bool, true, false, cond, _&&_}
 use mathlib.Core.Path.{_≡_, refl, sym, ap, _∙_}
 use mathlib.Core.List.{List, [], _∷_, _++_, map}
 use lib.Dec.{eqb}
-use lib.ListN.{length, take, drop, getD, length-take, drop-of-length-le, List·getD-map}
+use lib.ListN.{length, take, drop, getD, length-take, drop-of-length-le}
 use lib.Seq.{drop-cons, take-take, sets-eq}
 use Rattle.checks.specs.Lists.{every, join}
 use Rattle.nets.specs.Rows.{rowsOf}
@@ -20,10 +20,11 @@ use Rattle.storing.proofs.Storing.{Writing, start, room, turn, last}
 use Rattle.state.specs.declared.Slot.{Slot}
 use Rattle.state.specs.declared.State.{State}
 use Rattle.state.specs.Slots.{freeSlot, slotAt}
-use Rattle.state.specs.Places.{rowCount, rowCounts, place, partAt, readRows}
+use Rattle.state.specs.Places.{rowCounts, place, partAt, readRows}
 use Rattle.lines.specs.Lines.{Entry, headLines, entryText, listingText}
 use Rattle.lines.specs.Listing.{entryOf, entriesFrom, markedRow, listable}
 use Rattle.lines.specs.Steps.{slotEntry, rowsText}
+use Rattle.lines.proofs.Laws.{count-at}
 use Rattle.listing.specs.Steps.{slotText, slotListable}
 
 -- ---- third numbers, row by row
@@ -42,10 +43,6 @@ module _ (u : List ℕ) where
   marked-end h = rw (rows-short u h)
 
 -- ---- the used rows of a slot are a part of the table
-
-pub count-at : (st : State) (i : ℕ) → getD (rowCounts st) i 0 ≡ (slotAt st i) .rows
-unfolding rowCounts slotAt freeSlot
-count-at st i = List·getD-map rowCount (st .slots) i freeSlot
 
 -- the part that the code takes, from index p on
 abbrev pub part : ℕ → Slot → List ℕ → List ℕ

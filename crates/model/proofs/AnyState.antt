@@ -5,7 +5,7 @@ use mathlib.Core.Path.{_≡_, refl, sym, _∙_, ap, subst}
 use mathlib.Core.Bool.{Bool, true, false, not}
 use mathlib.Core.List.{List, [], _∷_, _++_, map}
 use lib.Dec.{eqb}
-use lib.ListN.{length, take, drop, getD, length-drop, length-map, take-append-drop, List·getD-map}
+use lib.ListN.{length, take, drop, getD, length-drop, length-map, take-append-drop}
 use lib.Seq.{length-take-le, drop-drop}
 use borrow.Author.Tests.{eqb-true}
 use Rattle.checks.specs.Lists.{every, join}
@@ -13,9 +13,10 @@ use Rattle.nets.specs.Rows.{Row, rowsOf, flat}
 use Rattle.rows.specs.Storing.{zeros, padded}
 use Rattle.state.specs.declared.Slot as Stored
 use Rattle.state.specs.Slots.{freeSlot, slotAt}
-use Rattle.state.specs.Places.{rowCount, rowCounts, partAt, readRows}
+use Rattle.state.specs.Places.{rowCounts, partAt, readRows}
 use Rattle.state.specs.Formed.{stateFormed}
 use Rattle.state.proofs.Theorems.{formed-slot, free-is-zero}
+use Rattle.lines.proofs.Laws.{count-at}
 use Rattle.model.specs.Model.{Call, Slot, free, used, slotIn, modelFrom, saidFrom}
 use Rattle.model.specs.Theorem.{Gateway, gatewayFrom, seenFrom, cell, stateOf, rowsHeld, part, tableOf, shown, rowsAt, carriesOctets, listsNothing, unused, Sensible, Listable, peerFrom, slotFrom, slotsFrom, modelOf, FromAnyState}
 use Rattle.model.proofs.Represent.{sound, Good}
@@ -154,10 +155,6 @@ module _ (table counts : List ℕ) where
       rw (sound-back slot (partAt table k) (readRows table counts k) (known-head k slot rest h)) (sounds-back (suc k) rest (known-tail k slot rest h))
 
 module _ (b : Gateway) (s : Sensible b) where
-  count-is : (i : ℕ) → getD (rowCounts (b .state)) i 0 ≡ (getD (b .state .slots) i freeSlot) .rows
-  unfolding rowCounts freeSlot
-  count-is i = List·getD-map rowCount (b .state .slots) i freeSlot
-
   known-at : (i : ℕ) → i < length (b .state .slots) → Known (getD (b .state .slots) i freeSlot) (partAt (b .table) i) (readRows (b .table) (rowCounts (b .state)) i)
   unfolding unused slotAt partAt readRows
   known-at i h =
@@ -167,7 +164,7 @@ module _ (b : Gateway) (s : Sensible b) where
         few = formed-slot (b .state) i (s .formed) .1 .few;
         whole = length-take-le 384 (drop (i * 384) (b .table)) (rw (length-drop (i * 384) (b .table)) (omega (arith, i8, s .long)));
         zeroed = s .zero-unused i i8;
-        read = rw (count-is i);
+        read = rw (count-at (b .state) i);
       }
 
   known : AllKnown (b .table) (rowCounts (b .state)) 0 (b .state .slots)

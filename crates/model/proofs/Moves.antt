@@ -12,8 +12,7 @@ use Rattle.checks.specs.Checks.{check, ifOk}
 use Rattle.nets.specs.Rows.{Row, flat}
 use Rattle.message.specs.Kinds.{kindOf}
 use Rattle.message.specs.declared.Kind.the-variants as K
-use Rattle.message.specs.declared.Message.{Message}
-use Rattle.wire.specs.Reading.{headerAnswer, asnAt, kindIn, decodeOf}
+use Rattle.wire.specs.Reading.{headerAnswer, asnAt, decodeOf}
 use Rattle.wire.specs.declared.Decoded.{Decoded}
 use Rattle.wire.specs.declared.Decoded.the-variants as D
 use Rattle.walk.specs.Body.{UpdateRead, accepted, brokenAt, tooMany, updateOf, rowsRead}
@@ -22,14 +21,13 @@ use Rattle.rows.specs.Storing.{padded}
 use Rattle.neighbour.specs.declared.Phase.{Phase}
 use Rattle.neighbour.specs.declared.Settings.{Settings}
 use Rattle.neighbour.specs.declared.Neighbour.{Neighbour}
-use Rattle.neighbour.specs.Rules.{same, inSequence}
+use Rattle.neighbour.specs.Rules.{same}
 use Rattle.machine.specs.declared.Event.the-variants.{Received}
 use Rattle.machine.specs.Intrinsics.{Intrinsic, asEvent}
-use Rattle.machine.specs.declared.Reply.{Reply}
 use Rattle.machine.specs.declared.After.{After}
 use Rattle.machine.specs.Step.{stepOf}
 use Rattle.state.specs.Claims.{SlotGood}
-use Rattle.calls.specs.Number.{bringsRows, bodyNumber, messageNumber, headAt, errorTo, refuseTo, namedReply}
+use Rattle.calls.specs.Number.{bodyNumber, messageNumber, headAt, errorTo, refuseTo, namedReply}
 use Rattle.calls.specs.Ruling.{Change, keep, clear, replace, Ruling, leaving, stepped, refuses, changeBy, carriedOut, receiveRuling}
 use Rattle.calls.specs.Ruling as Ruled
 use Rattle.calls.specs.Carried.{countAfter, slotAfter}

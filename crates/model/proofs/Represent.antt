@@ -21,6 +21,7 @@ use Rattle.state.proofs.ListLaws.{every-getD, map-set}
 use Rattle.state.proofs.SlotLaws.{clash-is, clash-not, clash-zero}
 use Rattle.state.proofs.Theorems.{formed-slot}
 use Rattle.claims.specs.Claims.{FormedState}
+use Rattle.lines.proofs.Laws.{count-at}
 use Rattle.model.specs.Model.{Slot, free, used, Model, slotIn, put, isFree, hasAddress, placeOf, vacancy, Peer}
 use Rattle.model.specs.Theorem.{cell, stateOf, rowsHeld, part, tableOf}
 use Rattle.model.proofs.Lists.{first-map, map-map, isPart, join-length, join-put, join-part}
@@ -99,8 +100,7 @@ module _ (m : Model) (ok : Good m) where
   at-of i = List·getD-map cell (m .slots) i free
 
   pub count-of : (i : ℕ) → getD (rowCounts (stateOf m)) i 0 ≡ (cell (slotIn m i)) .rows
-  unfolding rowCounts slotAt freeSlot
-  count-of i = List·getD-map rowCount ((stateOf m) .slots) i freeSlot ∙ ap rowCount (at-of i)
+  count-of i = count-at (stateOf m) i ∙ ap rowCount (at-of i)
 
   pub eight-of : length ((stateOf m) .slots) ≡ 8
   unfolding stateOf

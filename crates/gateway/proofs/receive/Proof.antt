@@ -49,7 +49,7 @@ reply-to-requires c κs = search needs
 
 -- src/lib.rt:142:9
 refuse-requires : tie.Need-refuse-requires
-refuse-requires c κs = number-asked _ (c .before .before .before .before .before .before .before .before .before .before .before .before .before .before .args .table .now) (c .before .before .before .before .before .before .before .before .before .before .before .before .before .before .args .reply .now) (c .before .before .before .before .before .before .before .before .before .before .before .before .before .before .args .home .now) _ (c .before .before .before .before .before .before .before .before .before .before .before .before .before .before .args .message .now) _ (c .before .before .before .before .before .before .before .before .before .message-answer .ensures _ _ refl refl) (c .before .before .before .before .before .before .before .before .if1 .left) _ _ (c .before .before .before .before .before .before .before .slot-of .ensures) (c .before .before .before .before .before .before .slot-at .ensures) _ (c .before .before .if2 .taken) (head-is _ (c .before .before .before .before .before .before .before .before .before .before .before .before .before .before .args .table .now) (c .before .before .before .before .before .before .before .before .before .before .before .before .before .before .args .reply .now) (c .before .before .before .before .before .before .before .before .before .before .before .before .before .before .args .home .now) _ (c .before .before .before .before .before .before .before .before .before .before .before .before .before .before .args .message .now) _ (c .before .before .before .before .before .before .before .before .before .message-answer .ensures _ _ refl refl) (c .before .before .before .before .before .before .before .before .if1 .left) _ _ (c .before .before .before .before .before .before .before .slot-of .ensures) (c .before .before .before .before .before .before .slot-at .ensures) _ (c .before .before .before .head-number .ensures) (c .before .before .if2 .taken)) _ (c .before .reply-to .ensures) 
+refuse-requires c κs = number-asked _ (c .before .before .before .before .before .before .before .before .before .before .before .before .before .before .args .table .now) (c .before .before .before .before .before .before .before .before .before .before .before .before .before .before .args .reply .now) (c .before .before .before .before .before .before .before .before .before .before .before .before .before .before .args .home .now) _ (c .before .before .before .before .before .before .before .before .before .before .before .before .before .before .args .message .now) _ (c .before .before .before .before .before .before .before .before .before .message-answer .ensures _ _ refl refl) (c .before .before .before .before .before .before .before .before .if1 .left) _ _ (c .before .before .before .before .before .before .before .slot-of .ensures) (c .before .before .before .before .before .before .slot-at .ensures) _ (c .before .before .if2 .taken) (head-is _ (c .before .before .before .before .before .before .before .before .before .before .before .before .before .before .args .table .now) (c .before .before .before .before .before .before .before .before .before .before .before .before .before .before .args .reply .now) (c .before .before .before .before .before .before .before .before .before .before .before .before .before .before .args .home .now) _ (c .before .before .before .before .before .before .before .before .before .before .before .before .before .before .args .message .now) _ (c .before .before .before .before .before .before .before .before .before .message-answer .ensures _ _ refl refl) (c .before .before .before .before .before .before .before .before .if1 .left) _ _ (c .before .before .before .before .before .before .before .slot-of .ensures) (c .before .before .before .before .before .before .slot-at .ensures) _ (c .before .before .before .head-number .ensures) (c .before .before .if2 .taken)) _ (c .before .reply-to .ensures)
 
 -- src/lib.rt:142:9
 same-length : tie.Need-same-length

@@ -38,5 +38,5 @@ use Rattle.bench.specs.Cases as Cases
 use Rattle.bench.specs.Sheet as Sheet
 
 unfoldable pub opened : ℕ
-unfolding Checks.check Checks.ifOk Lists.first Lists.every Lists.distinct Lists.join Buffer.over Checksum.onesAdd Checksum.onesSum Checksum.checksumOf Checksum.sealed Classes.netWidth Classes.hostSpan Classes.goodNet Classes.onNet Rows.flat Rows.rowsOf Kinds.kindAt Kinds.plainStatus Kinds.refusalStatus Kinds.markedStatus WireReading.headerAnswer WireReading.isKnown WireReading.statusFits WireReading.lengthFits WireReading.meaningOf WireReading.decodeAs WireReading.decodeOf WireReading.numberOf FixedWriting.headOf Body.digits Body.many Body.leftJustified Body.rowOfWidth Body.netRow Body.groupAt Body.hostWidth Body.gatewayOf Body.blockAt Body.sidesAt Body.groupsHold Body.blocksHold Body.sidesHold Body.readAs Body.bothSides Body.nothingLeft Body.bodyOf Body.further Body.netAt Body.blocksOf Body.judged Body.updateOf Body.numberOf Body.rowsRead Storing.zeros Storing.padded Blocks.sideRows Blocks.joined Blocks.runs Blocks.each Blocks.addressOctets Blocks.netOctets Blocks.hostOctets Blocks.netsOctets Blocks.groupOctets Blocks.groupsOctets Blocks.blockOctets Blocks.sideOctets Blocks.blocksOf Blocks.internalBlocks Blocks.externalBlocks Writable.writableRow Writable.ordered Writable.writableRows Writable.writableNumbers Octets.plainOctets Octets.octetsOf Room.rowsFit CodecWriting.rowsAllowed CodecWriting.writable CodecReading.refusal CodecReading.rowless CodecReading.updateReading CodecReading.meaningReading CodecReading.kindReading CodecReading.readOf Record.under Record.withNumbers Record.withTimers Record.withReach Record.idle Record.leftIdle Record.waiting Record.initialised Record.heardFrom Record.shifted Record.enterUp Record.leaveUp Record.polled Rules.inSequence Rules.commanded Rules.indicates Rules.noted Rules.helloInterval Rules.pollInterval Rules.unacceptable Rules.modeOf Rules.offerOf Rules.onesOf Rules.goesUp Rules.goesDown Rules.judged WellformedFormed.allZero WellformedFormed.idleFormed WellformedFormed.timersBelow WellformedFormed.timersRun WellformedFormed.t2Formed WellformedFormed.registerFormed WellformedFormed.agreed WellformedFormed.intervalsFormed WellformedFormed.causeFormed WellformedFormed.wellFormed Table.followed Table.quiet Table.answers Table.says Table.helloIf Table.doesA Table.doesB Table.ceases Table.repeatsCease Table.acquires Table.stray Table.onRequest Table.settles Table.onConfirm Table.onRefuse Table.onCease Table.onCeaseAck Table.onHello Table.onIHeardYou Table.answersPoll Table.onPoll Table.onUpdate Table.onStart Table.onStop Tick.expired Tick.repeats Tick.listens Tick.polls Tick.pollsOnEntry Tick.takesT2 Tick.pollsInUp Tick.runs Tick.onTick Step.onMessage Step.stepOf Slots.freeSlot Slots.slotAt Slots.withSlot Slots.addresses Slots.clash Slots.slotOf Places.rowCounts Places.withPart Places.writeRows StateFormed.goodSettings StateFormed.goodPeer StateFormed.rowsFormed StateFormed.freeFormed StateFormed.usedFormed StateFormed.slotFormed StateFormed.stateFormed Outcomes.refusedOf Home.homeRow Home.ownFirst Home.goodHome Number.sequenceFits Number.bringsRows Number.bodyNumber Number.messageNumber Number.headAt Number.errorTo Number.refuseTo Number.namedReply Ruling.leaving Ruling.stepped Ruling.refuses Ruling.afterMessage Ruling.changeBy Ruling.carriedOut Ruling.receiveRuling Ruling.effectOf Ruling.verdictOf Carried.firstOctets Carried.secondOctets Carried.replyOctets Carried.tableAfter Carried.countAfter Carried.slotAfter Carried.outcomeAfter Carried.bufferAfter Calls.lentChecks Calls.messageChecks Calls.noHead Calls.updateRoom Calls.messageRuling Calls.messageOutcome Calls.messageTable Calls.messageBuffer Same.sameNumbers Same.messageNumbers Same.sameMessage Same.sameMeaning Same.sameReading Same.phaseNumber Same.modeNumber Same.neighbourNumbers Same.sameNeighbour Same.sameReply Same.sameEffect Same.sameVerdict Same.sameSlot Same.sameSlots Same.sameSettings Same.sameState Same.sameOutcome Cases.goodReading Cases.badReading Cases.zeroTable Cases.zeroBuffer Cases.leaves Cases.passes Sheet.nine Sheet.seven Sheet.known Sheet.resting Sheet.asked Sheet.agreed Sheet.agreeing Sheet.reached Sheet.polling Sheet.vacant Sheet.holding Sheet.sheet
+unfolding Checks.check Checks.ifOk Lists.first Lists.every Lists.distinct Lists.join Buffer.over Checksum.onesAdd Checksum.onesSum Checksum.checksumOf Checksum.sealed Classes.netWidth Classes.hostSpan Classes.goodNet Classes.onNet Rows.flat Rows.rowsOf Kinds.kindAt Kinds.plainStatus Kinds.refusalStatus Kinds.markedStatus WireReading.headerAnswer WireReading.isKnown WireReading.statusFits WireReading.lengthFits WireReading.meaningOf WireReading.decodeAs WireReading.decodeOf WireReading.numberOf FixedWriting.headOf Body.digits Body.many Body.leftJustified Body.rowOfWidth Body.netRow Body.groupAt Body.hostWidth Body.gatewayOf Body.blockAt Body.sidesAt Body.groupsHold Body.blocksHold Body.sidesHold Body.readAs Body.bothSides Body.nothingLeft Body.bodyOf Body.further Body.netAt Body.blocksOf Body.judged Body.updateOf Body.numberOf Body.rowsRead Storing.zeros Storing.padded Blocks.sideRows Blocks.joined Blocks.runs Blocks.each Blocks.addressOctets Blocks.netOctets Blocks.hostOctets Blocks.netsOctets Blocks.groupOctets Blocks.groupsOctets Blocks.blockOctets Blocks.sideOctets Blocks.blocksOf Blocks.internalBlocks Blocks.externalBlocks Writable.writableRow Writable.ordered Writable.writableRows Writable.writableNumbers Octets.plainOctets Octets.octetsOf Room.rowsFit CodecWriting.rowsAllowed CodecWriting.writable CodecReading.refusal CodecReading.rowless CodecReading.updateReading CodecReading.meaningReading CodecReading.kindReading CodecReading.readOf Record.under Record.withNumbers Record.withTimers Record.withReach Record.idle Record.leftIdle Record.waiting Record.initialised Record.heardFrom Record.shifted Record.enterUp Record.leaveUp Record.polled Rules.inSequence Rules.commanded Rules.indicates Rules.noted Rules.helloInterval Rules.pollInterval Rules.unacceptable Rules.modeOf Rules.offerOf Rules.onesOf Rules.goesUp Rules.goesDown Rules.judged WellformedFormed.allZero WellformedFormed.idleFormed WellformedFormed.timersBelow WellformedFormed.timersRun WellformedFormed.t2Formed WellformedFormed.registerFormed WellformedFormed.agreed WellformedFormed.intervalsFormed WellformedFormed.causeFormed WellformedFormed.wellFormed Table.followed Table.quiet Table.answers Table.says Table.helloIf Table.doesA Table.doesB Table.ceases Table.repeatsCease Table.acquires Table.stray Table.onRequest Table.settles Table.onConfirm Table.onRefuse Table.onCease Table.onCeaseAck Table.onHello Table.onIHeardYou Table.answersPoll Table.onPoll Table.onUpdate Table.onStart Table.onStop Tick.expired Tick.repeats Tick.listens Tick.polls Tick.pollsOnEntry Tick.takesT2 Tick.pollsInUp Tick.runs Tick.onTick Step.onMessage Step.stepOf Slots.freeSlot Slots.slotAt Slots.withSlot Slots.addresses Slots.clash Slots.slotOf Places.rowCounts Places.withPart Places.writeRows StateFormed.goodSettings StateFormed.goodPeer StateFormed.rowsFormed StateFormed.freeFormed StateFormed.usedFormed StateFormed.slotFormed StateFormed.stateFormed Outcomes.refusedOf Home.homeRow Home.ownFirst Home.goodHome Number.sequenceFits Number.bringsRows Number.bodyNumber Number.messageNumber Number.headAt Number.errorTo Number.refuseTo Number.namedReply Ruling.leaving Ruling.stepped Ruling.refuses Ruling.takenStep Ruling.changeBy Ruling.carriedOut Ruling.receiveRuling Ruling.effectOf Ruling.verdictOf Carried.firstOctets Carried.secondOctets Carried.replyOctets Carried.tableAfter Carried.countAfter Carried.slotAfter Carried.outcomeAfter Carried.bufferAfter Calls.lentChecks Calls.messageChecks Calls.noHead Calls.updateRoom Calls.messageRuling Calls.messageOutcome Calls.messageTable Calls.messageBuffer Same.sameNumbers Same.messageNumbers Same.sameMessage Same.sameMeaning Same.sameReading Same.phaseNumber Same.modeNumber Same.neighbourNumbers Same.sameNeighbour Same.sameReply Same.sameEffect Same.sameVerdict Same.sameSlot Same.sameSlots Same.sameSettings Same.sameState Same.sameOutcome Cases.goodReading Cases.badReading Cases.zeroTable Cases.zeroBuffer Cases.leaves Cases.passes Sheet.nine Sheet.seven Sheet.neighbourAs Sheet.resting Sheet.asked Sheet.agreedOn Sheet.agreeing Sheet.reached Sheet.polling Sheet.vacant Sheet.holding Sheet.sheet
 opened = 0

@@ -44,32 +44,32 @@ unfoldable pub seven : Settings
 seven = record { asn = 7; own = theirs; capability = 0; net = common }
 
 -- a neighbour's record without a cause: state, M, S, R, T1, T2, t1, t2, t3, register, heard
-unfoldable pub known : Phase → Mode → ℕ → ℕ → ℕ → ℕ → ℕ → ℕ → ℕ → ℕ → ℕ → Neighbour
-known phase mode s r hello poll t1 t2 t3 register heard = withState (withNumbers idle s r) phase mode hello poll t1 t2 t3 register heard 0
+unfoldable pub neighbourAs : Phase → Mode → ℕ → ℕ → ℕ → ℕ → ℕ → ℕ → ℕ → ℕ → ℕ → Neighbour
+neighbourAs phase mode s r hello poll t1 t2 t3 register heard = withState (withNumbers idle s r) phase mode hello poll t1 t2 t3 register heard 0
 
 -- a neighbour in Idle: all zero
 unfoldable pub resting : Neighbour
-resting = known Idle Unset 0 0 0 0 0 0 0 0 0
+resting = neighbourAs Idle Unset 0 0 0 0 0 0 0 0 0
 
 -- a neighbour that was sent a Request 1 second ago
 unfoldable pub asked : Neighbour
-asked = known Acquisition Unset 0 0 0 0 29 0 119 0 0
+asked = neighbourAs Acquisition Unset 0 0 0 0 29 0 119 0 0
 
 -- a neighbour that has just agreed on T1 and on a Poll interval of 120 seconds, and on who is active
-unfoldable pub agreed : ℕ → Mode → Neighbour
-agreed hello mode = known Down mode 0 0 hello 122 hello 0 120 0 0
+unfoldable pub agreedOn : ℕ → Mode → Neighbour
+agreedOn hello mode = neighbourAs Down mode 0 0 hello 122 hello 0 120 0 0
 
 -- on 30 and 120 seconds
 unfoldable pub agreeing : Mode → Neighbour
-agreeing mode = agreed 32 mode
+agreeing mode = agreedOn 32 mode
 
 -- a neighbour in Down
 unfoldable pub reached : Neighbour
-reached = known Down Active 2 4 32 122 20 0 50 1 0
+reached = neighbourAs Down Active 2 4 32 122 20 0 50 1 0
 
 -- 01's U: "state=up", "mode=active", and S is 1, which U carries
 unfoldable pub polling : Neighbour
-polling = known Up Active 1 4 32 122 20 100 50 7 0
+polling = neighbourAs Up Active 1 4 32 122 20 100 50 7 0
 
 -- 01: "free slots are all zero"
 unfoldable pub vacant : Slot
@@ -103,7 +103,7 @@ sheet =
     (record {
       answer = 0;
       reply = One (Confirm 9 0 0 30 120);
-      neighbour = agreed 32 Passive;
+      neighbour = agreedOn 32 Passive;
       effect = Keep;
     }) ∷
     -- U: 02 01 00 01 B3 D7 00 07 00 01 01 00 80 09 00 00 00 05 01 00 02 0A C0 05 06: two rows
@@ -121,7 +121,7 @@ sheet =
     (record {
       answer = 0;
       reply = One (Confirm 9 0 0 30 120);
-      neighbour = agreed 122 Passive;
+      neighbour = agreedOn 122 Passive;
       effect = Keep;
     }) ∷
     -- W: 121, 02 03 00 00 FD 04 00 07 00 00 00 79 00 78, is unacceptable: in Idle Refuse 6
@@ -129,32 +129,32 @@ sheet =
     (record { answer = 0; reply = One (Refuse 9 0 6); neighbour = resting; effect = Keep }) ∷
     -- X: active, register 0011 then heard: Up, with Hello and Poll
     happens nine 7
-    (known Down Active 0 4 32 122 1 0 50 3 1)
+    (neighbourAs Down Active 0 4 32 122 1 0 50 3 1)
     Tick
     (record {
       answer = 0;
       reply = Two (Hello 9 0 1) (Poll 9 1 1 common);
-      neighbour = known Up Active 1 4 32 122 32 122 49 7 0;
+      neighbour = neighbourAs Up Active 1 4 32 122 32 122 49 7 0;
       effect = Keep;
     }) ∷
     -- Y: passive, register 1000 then silence: Down, and the rows go
     happens nine 7
-    (known Up Passive 3 4 32 122 1 60 50 8 0)
+    (neighbourAs Up Passive 3 4 32 122 1 60 50 8 0)
     Tick
     (record {
       answer = 0;
       reply = Nothing;
-      neighbour = known Down Passive 3 4 32 122 32 0 49 0 0;
+      neighbour = neighbourAs Down Passive 3 4 32 122 32 0 49 0 0;
       effect = Clear;
     }) ∷
     -- K: S 65,535, Poll carries 0
     happens nine 7
-    (known Up Active 65535 4 32 122 20 1 50 15 0)
+    (neighbourAs Up Active 65535 4 32 122 20 1 50 15 0)
     Tick
     (record {
       answer = 0;
       reply = One (Poll 9 0 1 common);
-      neighbour = known Up Active 0 4 32 122 19 122 49 15 0;
+      neighbour = neighbourAs Up Active 0 4 32 122 19 122 49 15 0;
       effect = Keep;
     }) ∷
     -- M: 7 is active, by 9's Request and by 9's Confirm
@@ -178,7 +178,7 @@ sheet =
             second = 0;
             state =
                 holding
-                (known Up Active 1 4 32 122 20 100 3600 7 1)
+                (neighbourAs Up Active 1 4 32 122 20 100 3600 7 1)
                 2;
           };
       reply = [];

@@ -16,14 +16,14 @@ use Rattle.neighbour.specs.declared.Neighbour.{Neighbour}
 use Rattle.neighbour.specs.Record.{isUp}
 use Rattle.machine.specs.declared.After.{After}
 use Rattle.calls.specs.Number.{bringsRows, messageNumber, namedReply}
-use Rattle.calls.specs.Ruling.{Change, keep, clear, replace, Ruling, leaving, refuses, stepped, afterMessage, changeBy, carriedOut, receiveRuling}
+use Rattle.calls.specs.Ruling.{Change, keep, clear, replace, Ruling, leaving, refuses, stepped, takenStep, changeBy, carriedOut, receiveRuling}
 use Rattle.calls.proofs.Number.{NumberPassed, number-passed}
 
 module _ (room : ℕ) (g : Settings) (asn : ℕ) (n : Neighbour) (o : List ℕ) where
   -- a fact that holds of each refusal and of what is carried out
   pub receive-holds : (P : Ruling → Type 0)
       → ((k : ℕ) → (k ≡ 0 → ⊥) → messageNumber room g asn n o ≡ k → P (refuses n k (namedReply g n o k)))
-      → (messageNumber room g asn n o ≡ 0 → P (carriedOut room g n o (afterMessage g asn n o (decodeOf o))))
+      → (messageNumber room g asn n o ≡ 0 → P (carriedOut room g n o (takenStep g asn n o (decodeOf o))))
       → P (receiveRuling room g asn n o)
   unfolding receiveRuling ifOk
   receive-holds P refused carried =
@@ -57,4 +57,4 @@ module _ (room : ℕ) (g : Settings) (asn : ℕ) (n : Neighbour) (o : List ℕ) 
   unfolding refuses carriedOut Backed
   receive-backed =
       receive-holds room g asn n o (λ (x : Ruling). Backed room (g .net) o (x .change))
-      (λ k z e. tt) (λ e. change-backed (number-passed room g asn n o e) (afterMessage g asn n o (decodeOf o)))
+      (λ k z e. tt) (λ e. change-backed (number-passed room g asn n o e) (takenStep g asn n o (decodeOf o)))

@@ -22,7 +22,7 @@ use Rattle.machine.specs.Step.{stepOf}
 use Rattle.machine.specs.Laws.{maySend}
 use Rattle.machine.proofs.Sends.{step-sends}
 use Rattle.calls.specs.Number.{headAt, errorTo, refuseTo, namedReply}
-use Rattle.calls.specs.Ruling.{Ruling, refuses, stepped, afterMessage, carriedOut, receiveRuling}
+use Rattle.calls.specs.Ruling.{Ruling, refuses, stepped, takenStep, carriedOut, receiveRuling}
 use Rattle.calls.proofs.Rulings.{receive-holds}
 
 module _ (g : Settings) where
@@ -51,8 +51,8 @@ module _ (g : Settings) where
   unfolding stepped
   stepped-sends asn n event head = step-sends g asn n event head
 
-  after-sends : (asn : ℕ) (n : Neighbour) (o : List ℕ) (d : Decoded) → maySend g ((afterMessage g asn n o d) .reply) ≡ true
-  unfolding afterMessage quiet
+  after-sends : (asn : ℕ) (n : Neighbour) (o : List ℕ) (d : Decoded) → maySend g ((takenStep g asn n o d) .reply) ≡ true
+  unfolding takenStep quiet
   after-sends asn n o (D.Good m) = step-sends g asn n (Received m) (headAt o)
   after-sends asn n o D.UnknownKind = refl
   after-sends asn n o D.BadStatus = refl

@@ -50,11 +50,11 @@ unfoldable pub refuses : Neighbour → ℕ → Reply → Ruling
 refuses n answer reply = record { answer = answer; reply = reply; neighbour = n; change = keep }
 
 -- the machine's step for a message that was read; 10 to 12 have refused the others
-unfoldable pub afterMessage : Settings → ℕ → Neighbour → List ℕ → Decoded → After
-afterMessage g asn n o (D.Good m) = stepOf g asn n (Received m) (headAt o)
-afterMessage g asn n o D.UnknownKind = quiet n
-afterMessage g asn n o D.BadStatus = quiet n
-afterMessage g asn n o D.BadLength = quiet n
+unfoldable pub takenStep : Settings → ℕ → Neighbour → List ℕ → Decoded → After
+takenStep g asn n o (D.Good m) = stepOf g asn n (Received m) (headAt o)
+takenStep g asn n o D.UnknownKind = quiet n
+takenStep g asn n o D.BadStatus = quiet n
+takenStep g asn n o D.BadLength = quiet n
 
 -- 01: "An Update that finds its slot Up and fails no check is accepted: its rows replace the slot's."
 unfoldable pub changeBy : ℕ → Settings → Neighbour → List ℕ → After → Change
@@ -70,7 +70,7 @@ carriedOut room g n o after =
 unfoldable pub receiveRuling : ℕ → Settings → ℕ → Neighbour → List ℕ → Ruling
 receiveRuling room g asn n o =
     ifOk (messageNumber room g asn n o)
-    (carriedOut room g n o (afterMessage g asn n o (decodeOf o)))
+    (carriedOut room g n o (takenStep g asn n o (decodeOf o)))
     (refuses n (messageNumber room g asn n o) (namedReply g n o (messageNumber room g asn n o)))
 
 -- ---- as the code says it: of rows only how many

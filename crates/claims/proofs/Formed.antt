@@ -39,7 +39,7 @@ use Rattle.state.proofs.SlotLaws.{slots-length}
 use Rattle.state.proofs.Theorems.{formed-slot, step-formed}
 use Rattle.slots.proofs.Theorems.{fresh-claim, add-claim, remove-claim}
 use Rattle.calls.specs.Number.{bringsRows, headAt, namedReply}
-use Rattle.calls.specs.Ruling.{Change, Ruling, leaving, stepped, refuses, afterMessage, changeBy, carriedOut, receiveRuling}
+use Rattle.calls.specs.Ruling.{Change, Ruling, leaving, stepped, refuses, takenStep, changeBy, carriedOut, receiveRuling}
 use Rattle.calls.specs.Carried.{countAfter, slotAfter, outcomeAfter}
 use Rattle.calls.specs.Calls.{eventChecks, messageChecks, noHead, updateRoom, eventRuling, messageRuling, eventOutcome, messageOutcome}
 use Rattle.calls.proofs.Number.{NumberPassed, number-passed}
@@ -99,18 +99,18 @@ module _ (slot : Slot) (good : SlotGood slot) where
   step-sound g asn event head = stepped-sound _ (step-lawful g asn (slot .neighbour) event head (good .neighbour) .formed)
 
   -- the step for a message that was read, or none
-  after-formed : (g : Settings) (asn : ℕ) (o : List ℕ) (d : Decoded) → wellFormed ((afterMessage g asn (slot .neighbour) o d) .neighbour) ≡ true
-  unfolding afterMessage quiet
+  after-formed : (g : Settings) (asn : ℕ) (o : List ℕ) (d : Decoded) → wellFormed ((takenStep g asn (slot .neighbour) o d) .neighbour) ≡ true
+  unfolding takenStep quiet
   after-formed g asn o (D.Good m) = step-lawful g asn (slot .neighbour) (Received m) (headAt o) (good .neighbour) .formed
   after-formed g asn o D.UnknownKind = good .neighbour
   after-formed g asn o D.BadStatus = good .neighbour
   after-formed g asn o D.BadLength = good .neighbour
 
   change-count : (g : Settings) (asn : ℕ) (o : List ℕ) (p : NumberPassed 128 g asn (slot .neighbour) o)
-      → rowsFormed ((afterMessage g asn (slot .neighbour) o (decodeOf o)) .neighbour .phase) (countAfter (slot .rows) (changeBy 128 g (slot .neighbour) o (afterMessage g asn (slot .neighbour) o (decodeOf o)))) ≡ true
-  unfolding changeBy countAfter afterMessage
+      → rowsFormed ((takenStep g asn (slot .neighbour) o (decodeOf o)) .neighbour .phase) (countAfter (slot .rows) (changeBy 128 g (slot .neighbour) o (takenStep g asn (slot .neighbour) o (decodeOf o)))) ≡ true
+  unfolding changeBy countAfter takenStep
   change-count g asn o p =
-      cond-elim (λ (c : Change). rowsFormed ((afterMessage g asn (slot .neighbour) o (decodeOf o)) .neighbour .phase) (countAfter (slot .rows) c) ≡ true)
+      cond-elim (λ (c : Change). rowsFormed ((takenStep g asn (slot .neighbour) o (decodeOf o)) .neighbour .phase) (countAfter (slot .rows) c) ≡ true)
       (bringsRows (slot .neighbour .phase) (kindIn o)) _ _
       (λ b. let up = sym (p .brings) ∙ b in
       rows-up _ _ (rw (p .read) (after-up g asn (slot .neighbour) o (p .message) up)) (accepted-is 128 (g .net) o _ (p .body up) .fits))

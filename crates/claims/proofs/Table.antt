@@ -28,7 +28,7 @@ use Rattle.state.specs.Places.{rowCounts}
 use Rattle.state.specs.Outcomes.{refusedOf}
 use Rattle.state.proofs.Theorems.{written-slot}
 use Rattle.calls.specs.Number.{bringsRows, namedReply}
-use Rattle.calls.specs.Ruling.{Change, keep, clear, replace, Ruling, leaving, stepped, refuses, afterMessage, changeBy, carriedOut, receiveRuling}
+use Rattle.calls.specs.Ruling.{Change, keep, clear, replace, Ruling, leaving, stepped, refuses, takenStep, changeBy, carriedOut, receiveRuling}
 use Rattle.calls.specs.Carried.{tableAfter, slotAfter, outcomeAfter}
 use Rattle.calls.specs.Calls.{eventChecks, messageChecks, updateRoom, eventRuling, messageRuling, eventOutcome, eventTable, messageOutcome, messageTable}
 use Rattle.calls.proofs.Number.{NumberPassed, number-passed}
@@ -93,8 +93,8 @@ update-is d m e = rw e
 
 module _ (g : Settings) (asn : ℕ) (n : Neighbour) (o : List ℕ) where
   carried-changes : (p : NumberPassed 128 g asn n o)
-      → Writes (n .phase) (isUpdate (decodeOf o)) (rowsRead (updateOf 128 (g .net) o)) (carriedOut 128 g n o (afterMessage g asn n o (decodeOf o)))
-  unfolding carriedOut changeBy afterMessage
+      → Writes (n .phase) (isUpdate (decodeOf o)) (rowsRead (updateOf 128 (g .net) o)) (carriedOut 128 g n o (takenStep g asn n o (decodeOf o)))
+  unfolding carriedOut changeBy takenStep
   carried-changes p =
       let u = update-is (decodeOf o) (p .message) (p .read) in
       change-writes n 0 _ _ _ _ (bringsRows (n .phase) (kindIn o)) (rw u (p .brings)) (λ b. rw (p .read) (after-up g asn n o (p .message) (sym (p .brings) ∙ b)))

@@ -122,8 +122,8 @@ reply-same : (g : Settings) (n : Neighbour) (o : List ℕ) (k : ℕ) → namedRe
 unfolding namedReply refusalReply refuseTo refuseReply errorTo errorReply headAt firstTwelve
 reply-same g n o k = refl
 
-after-same : (g : Settings) (asn : ℕ) (n : Neighbour) (o : List ℕ) (d : Decoded) → Ruled.afterMessage g asn n o d ≡ afterMessage g asn n o d
-unfolding Ruled.afterMessage afterMessage headAt firstTwelve
+after-same : (g : Settings) (asn : ℕ) (n : Neighbour) (o : List ℕ) (d : Decoded) → Ruled.takenStep g asn n o d ≡ afterMessage g asn n o d
+unfolding Ruled.takenStep afterMessage headAt firstTwelve
 after-same g asn n o (D.Good m) = refl
 after-same g asn n o D.UnknownKind = refl
 after-same g asn n o D.BadStatus = refl
@@ -175,7 +175,7 @@ module _ (peer : Peer) (good : SlotGood (cell (used peer))) where
         go false e = rows-step (peer .neighbour .phase) ((stepOf g (peer .asn) (peer .neighbour) (Received (p .message)) (headAt o)) .neighbour .phase) (peer .rows) none-unless-up
 
     carried-right : messageNumber 128 g (peer .asn) (peer .neighbour) o ≡ 0
-        → Right (carriedOut 128 g (peer .neighbour) o (Ruled.afterMessage g (peer .asn) (peer .neighbour) o (decodeOf o)))
+        → Right (carriedOut 128 g (peer .neighbour) o (Ruled.takenStep g (peer .asn) (peer .neighbour) o (decodeOf o)))
     unfolding messageMove ifOk moved carriedOut
     carried-right e =
         rw (← (number-same g (peer .asn) (peer .neighbour) o), e, after-same g (peer .asn) (peer .neighbour) o (decodeOf o))

@@ -41,9 +41,9 @@ use Rattle.machine.specs.Step.{stepOf}
 use Rattle.calls.specs.Number.{bodyNumber, messageNumber, headAt, errorTo, refuseTo, namedReply}
 use Rattle.calls.specs.declared.Effect.the-variants.{Replace}
 use Rattle.calls.specs.declared.Verdict.{Verdict}
-use Rattle.calls.specs.Ruling.{stepped, refuses, replace, afterMessage, changeBy, carriedOut, receiveRuling, effectOf, verdictOf}
+use Rattle.calls.specs.Ruling.{stepped, refuses, replace, takenStep, changeBy, carriedOut, receiveRuling, effectOf, verdictOf}
 use Rattle.calls.proofs.Number.{meaningNumber, kindNumber, brings-as, number-header, number-asn, number-kind}
-use Rattle.verdict.specs.Stages.{headNumber, Read, takenUpdate}
+use Rattle.verdict.specs.Stages.{headNumber, ReadAs, takenUpdate}
 
 -- ---- the stages
 
@@ -159,7 +159,7 @@ module _ (g : Settings) (n : Neighbour) (o : List ℕ) (k : ℕ) where
 
 -- ---- a message that was read
 
-module _ (room : ℕ) (g : Settings) (asn : ℕ) (n : Neighbour) (o : List ℕ) (m : Message) (r : Read asn o m) where
+module _ (room : ℕ) (g : Settings) (asn : ℕ) (n : Neighbour) (o : List ℕ) (m : Message) (r : ReadAs asn o m) where
   number-is : messageNumber room g asn n o ≡ meaningNumber room g n o m
   unfolding kindNumber
   number-is =
@@ -176,7 +176,7 @@ module _ (room : ℕ) (g : Settings) (asn : ℕ) (n : Neighbour) (o : List ℕ) 
 
   module _ (s : inSequence n m ≡ true) where
     carried-as : meaningNumber room g n o m ≡ 0 → carriedOut room g n o (stepOf g asn n (Received m) (headAt o)) ≡ receiveRuling room g asn n o
-    unfolding receiveRuling afterMessage ifOk
+    unfolding receiveRuling takenStep ifOk
     carried-as e = let f = number-is ∙ e in rw f (rw (r .meaning) refl)
 
     pub taken-step : (same (kindOf m) K.Update && isUp (n .phase)) ≡ false → stepped n (stepOf g asn n (Received m) (headAt o)) ≡ receiveRuling room g asn n o

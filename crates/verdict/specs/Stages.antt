@@ -20,7 +20,7 @@ unfoldable pub headNumber : ℕ → List ℕ → ℕ
 headNumber asn o = ifOk (headerAnswer o) (check (eqb (asnAt o) asn) 9 0) (headerAnswer o)
 
 -- a message that passed 6 to 12, and what it says
-pub record Read (asn : ℕ) (o : List ℕ) (m : Message) : Type 0 where
+pub record ReadAs (asn : ℕ) (o : List ℕ) (m : Message) : Type 0 where
   pub head : headNumber asn o ≡ 0
   pub meaning : decodeOf o ≡ Good m
 

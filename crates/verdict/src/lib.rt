@@ -21,7 +21,7 @@ ghost use Rattle.machine.specs.Step.{stepOf};
 ghost use Rattle.walk.specs.Body.{updateOf};
 ghost use Rattle.calls.specs.Number.{headAt, errorTo, refuseTo, namedReply};
 ghost use Rattle.calls.specs.Ruling.{leaving, effectOf, stepped, refuses, receiveRuling, verdictOf};
-ghost use Rattle.verdict.specs.Stages.{headNumber, Read, takenUpdate};
+ghost use Rattle.verdict.specs.Stages.{headNumber, ReadAs, takenUpdate};
 
 // Leaving Up clears the rows.
 fn effect_of(before: Phase, now: Phase) -> Effect
@@ -205,7 +205,7 @@ pub fn take(
     m: Message,
     room: u16,
 ) -> Verdict
-    requires { ⌜ Read asn (now message) m ⌝ }
+    requires { ⌜ ReadAs asn (now message) m ⌝ }
     ensures { λ r. ⌜ r ≡ verdictOf (receiveRuling room settings asn n (now (message .entry))) ⌝ }
 {
     if !neighbour::in_sequence(n, m) {

@@ -10,7 +10,7 @@ use Rattle.octets.specs.Buffer.{over}
 use Rattle.rows.specs.Storing.{zeros}
 use Rattle.values.specs.Hex.{isHex, hexOctets}
 use Rattle.values.proofs.Readings.{hex-half}
-use Rattle.machine.specs.declared.Event.the-variants as E
+use Rattle.machine.specs.Intrinsics.{Intrinsic}
 use Rattle.state.specs.declared.State.{State}
 use Rattle.state.specs.declared.Outcome.{Outcome}
 use Rattle.calls.specs.Calls.{eventOutcome, eventTable, eventBuffer, messageOutcome, messageTable, messageBuffer}
@@ -64,22 +64,14 @@ fitting : {call : Call} {b : Gateway} {o : Outcome} {table reply : List ℕ} →
 fitting p q r f =
     record { outcome = p; rows = q; buffer = r; few = rw p (omega (arith, f .few)); long = ap length r ∙ f .same ∙ lent-length }
 
+-- Start, Stop or tick
+pub event-made : (event : Intrinsic) (st : State) (table : List ℕ) (a : ℕ) {buffer : List ℕ} → lent ≡ buffer → {o : Outcome} {after reply : List ℕ}
+    → o ≡ eventOutcome event st table buffer a → after ≡ eventTable event st table buffer a → reply ≡ eventBuffer event st table buffer a
+    → Made (Model.happen event a lent) (on st table) o after reply
+unfolding outcomeOf tableAfter bufferAfter on
+event-made event st table a z p q r = fitting (rw z p) (rw z q) (rw z r) (replies-fit .events event st table lent a)
+
 module _ (st : State) (table : List ℕ) (a : ℕ) {buffer : List ℕ} (z : lent ≡ buffer) {o : Outcome} {after reply : List ℕ} where
-  pub start-made : o ≡ eventOutcome E.Start st table buffer a → after ≡ eventTable E.Start st table buffer a → reply ≡ eventBuffer E.Start st table buffer a
-      → Made (Model.start a lent) (on st table) o after reply
-  unfolding outcomeOf tableAfter bufferAfter on
-  start-made p q r = fitting (rw z p) (rw z q) (rw z r) (replies-fit .events E.Start st table lent a)
-
-  pub stop-made : o ≡ eventOutcome E.Stop st table buffer a → after ≡ eventTable E.Stop st table buffer a → reply ≡ eventBuffer E.Stop st table buffer a
-      → Made (Model.stop a lent) (on st table) o after reply
-  unfolding outcomeOf tableAfter bufferAfter on
-  stop-made p q r = fitting (rw z p) (rw z q) (rw z r) (replies-fit .events E.Stop st table lent a)
-
-  pub tick-made : o ≡ eventOutcome E.Tick st table buffer a → after ≡ eventTable E.Tick st table buffer a → reply ≡ eventBuffer E.Tick st table buffer a
-      → Made (Model.tick a lent) (on st table) o after reply
-  unfolding outcomeOf tableAfter bufferAfter on
-  tick-made p q r = fitting (rw z p) (rw z q) (rw z r) (replies-fit .events E.Tick st table lent a)
-
   -- a message, which the code has as a part of its own octets
   pub receive-made : {message octets : List ℕ} → message ≡ octets → o ≡ messageOutcome st table buffer [] a message
       → after ≡ messageTable st table buffer [] a message → reply ≡ messageBuffer st table buffer [] a message

@@ -1,7 +1,8 @@
-pub mod Verdicts
+pub mod Calls
+pub mod Listings
+pub mod Alone
 pub mod Refused
 pub mod Parts
-pub mod Passed
 pub mod Others
 pub mod Within
 pub mod Table

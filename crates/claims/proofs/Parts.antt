@@ -1,15 +1,18 @@
--- The parts of the table. Assumes nothing.
+-- The parts of the table, and rows read and written through their place. Assumes nothing.
 use Prim.Native.Nat.{ℕ, _+_, _*_, _-_, _≤_, _<_}
 use native.Mathlib.Omega.{arith}
 use mathlib.Core.Path.{_≡_, refl, sym, _∙_, ap}
 use mathlib.Core.Bool.{Bool, true, false}
-use mathlib.Core.List.{List, _++_, append-assoc}
+use mathlib.Core.List.{List, [], _∷_, _++_, append-assoc}
 use lib.Dec.{ltb}
-use lib.ListN.{length, take, drop, length-append, length-drop, take-append-drop}
-use lib.Seq.{length-take-le, take-at, drop-at, take-append-le, drop-append-le, drop-append-add, drop-drop}
+use lib.ListN.{length, take, drop, getD, set, length-append, length-drop, take-append-drop}
+use lib.Seq.{getD-set-same, getD-set-other, length-take-le, take-at, drop-at, take-append-le, drop-append-le, drop-append-add, drop-drop}
 use borrow.Author.Tests.{ltb-true, ltb-false}
-use Rattle.calls.specs.Carried.{partAt, withPart}
-use Rattle.claims.specs.Claims.{PartLaws}
+use Rattle.nets.specs.Rows.{Row, flat, rowsOf}
+use Rattle.rows.specs.Storing.{padded}
+use Rattle.rows.proofs.Laws.{flat-length, padded-length}
+use Rattle.state.specs.Places.{partAt, withPart, readRows, writeRows}
+use Rattle.claims.specs.Claims.{PartLaws, PlaceLaws}
 
 -- a part that stands whole in the first of two lists
 front-part : (p q : List ℕ) (j : ℕ) → j * 384 + 384 ≤ length p → take 384 (drop (j * 384) (p ++ q)) ≡ take 384 (drop (j * 384) p)
@@ -71,3 +74,26 @@ module _ (table part : List ℕ) (i : ℕ) (long : length table ≡ 3072) (whole
 
   pub part-laws : PartLaws table part i
   part-laws = record { same = own; others = other; long = size }
+
+-- ---- rows
+
+rows-flat : (rows : List Row) → rowsOf (flat rows) ≡ rows
+unfolding rowsOf flat
+rows-flat [] = refl
+rows-flat (row ∷ rest) = ap (λ (l : List Row). row ∷ l) (rows-flat rest)
+
+padded-rows : (rows : List Row) → rowsOf (take (3 * length rows) (padded 384 (flat rows))) ≡ rows
+unfolding padded
+padded-rows rows = rw (take-at (flat rows) _ (3 * length rows) (flat-length rows)) (rows-flat rows)
+
+module _ (table counts : List ℕ) (i : ℕ) (rows : List Row) (long : length table ≡ 3072) (eight : length counts ≡ 8) (few : length rows ≤ 128) (below : i < 8) where
+  parts : PartLaws table (padded 384 (flat rows)) i
+  parts = part-laws table (padded 384 (flat rows)) i long (padded-length 384 (flat rows) (omega (arith, flat-length rows, few))) below
+
+  pub place-laws : PlaceLaws table counts i rows
+  unfolding readRows writeRows
+  place-laws =
+      record {
+        same = rw (getD-set-same counts i (length rows) 0 (omega (arith, eight, below)), parts .same) (padded-rows rows);
+        others = λ j n. rw (getD-set-other counts i j (length rows) 0 n, parts .others j n);
+      }

@@ -4,7 +4,6 @@ use mathlib.Core.Path.{_≡_, refl, sym, subst}
 use mathlib.Core.Bool.{Bool, true, false, _||_}
 use mathlib.Core.List.{List}
 use lib.Dec.{leb, eqb}
-use lib.Seq.{set-getD}
 use native.Mathlib.Omega.{arith}
 use borrow.Author.Tests.{leb-true, lt-leb, eqb-true, ne-eqb}
 use Rattle.checks.specs.Checks.{check}
@@ -12,58 +11,44 @@ use Rattle.octets.specs.Buffer.{over}
 use Rattle.nets.specs.Rows.{Row, rowsOf}
 use Rattle.neighbour.specs.declared.Settings.{Settings}
 use Rattle.neighbour.specs.declared.Neighbour.{Neighbour}
-use Rattle.machine.specs.declared.Event.{Event}
+use Rattle.machine.specs.Intrinsics.{Intrinsic}
 use Rattle.machine.specs.declared.Reply.{Reply}
 use Rattle.machine.specs.declared.Reply.the-variants.{Nothing}
 use Rattle.state.specs.declared.State.{State}
 use Rattle.state.specs.declared.Outcome.{Outcome}
-use Rattle.state.specs.Slots.{freeSlot, slotAt, withSlot, slotOf, present}
+use Rattle.state.specs.Slots.{slotAt, slotOf, present}
+use Rattle.state.specs.Places.{rowCounts}
+use Rattle.state.proofs.SlotLaws.{same-slot}
 use Rattle.state.specs.Formed.{stateFormed}
 use Rattle.state.specs.Outcomes.{refusedOf}
 use Rattle.slots.proofs.Theorems.{add-claim, remove-claim}
-use Rattle.calls.specs.declared.Verdict.{Verdict}
-use Rattle.calls.specs.Verdict.{stepped, refuses, carriedOut, receiveVerdict}
+use Rattle.calls.specs.Number.{namedReply}
+use Rattle.calls.specs.Ruling.{Ruling, stepped, refuses, carriedOut, receiveRuling}
+use Rattle.calls.proofs.Rulings.{receive-holds}
 use Rattle.calls.specs.Home.{goodHome}
 use Rattle.calls.specs.Carried.{firstOctets, secondOctets, replyOctets, tableAfter, countAfter, slotAfter, outcomeAfter, bufferAfter}
-use Rattle.calls.specs.Calls.{tableFits, bufferFits, eventChecks, messageChecks, eventVerdict, messageVerdict, eventOutcome, eventTable, eventBuffer, messageOutcome, messageTable, messageBuffer}
-use Rattle.claims.specs.Claims.{neighbourOf, namedReply, isSilent, Refused, Silent, RefusedChangesNothing}
-use Rattle.claims.proofs.Verdicts.{replaced, receive-cases, call-holds}
+use Rattle.calls.specs.Calls.{tableFits, bufferFits, lentChecks, eventChecks, messageChecks, eventRuling, messageRuling, eventOutcome, eventTable, eventBuffer, messageOutcome, messageTable, messageBuffer}
+use Rattle.claims.specs.Claims.{neighbourOf, isSilent, Refused, Silent, RefusedChangesNothing}
+use Rattle.claims.proofs.Calls.{call-holds}
+use Rattle.claims.proofs.Listings.{listing-refused}
+use Rattle.claims.proofs.Alone.{reading-refused, writing-refused}
 
--- ---- the verdict
+-- ---- the ruling
 
--- a verdict that refuses keeps the record, and its reply is the named one
-pub Refusing : Settings → Neighbour → List ℕ → Verdict → Type 0
-Refusing g n o v = (v .answer ≡ 0 → ⊥) → v ≡ refuses n (v .answer) (namedReply g n o (v .answer))
+-- a ruling that refuses keeps the record, and its reply is the named one
+pub Refusing : Settings → Neighbour → List ℕ → Ruling → Type 0
+Refusing g n o x = (x .answer ≡ 0 → ⊥) → x ≡ refuses n (x .answer) (namedReply g n o (x .answer))
 
-pub receive-refusing : (g : Settings) (asn : ℕ) (n : Neighbour) (o : List ℕ) → Refusing g n o (receiveVerdict g asn n o)
-unfolding Refusing refuses namedReply carriedOut stepped replaced
-receive-refusing g asn n o =
-    receive-cases g asn n o (Refusing g n o)
-    (record {
-      six = λ _. refl;
-      seven = λ _. refl;
-      eight = λ _. refl;
-      nine = λ _. refl;
-      ten = λ _. refl;
-      eleven = λ _. refl;
-      twelve = λ _. refl;
-      thirteen = λ _. refl;
-      fourteen = λ _. refl;
-      fifteen = λ _. refl;
-      carried = λ m d k z. absurd (z refl);
-      update = λ a q s net rows d up u z. absurd (z refl);
-    })
+pub receive-refusing : (room : ℕ) (g : Settings) (asn : ℕ) (n : Neighbour) (o : List ℕ) → Refusing g n o (receiveRuling room g asn n o)
+unfolding Refusing refuses carriedOut
+receive-refusing room g asn n o = receive-holds room g asn n o (Refusing g n o) (λ k z e y. refl) (λ e y. absurd (y refl))
 
 -- ---- what it leaves
 
-same-slot : (st : State) (i : ℕ) → withSlot st i (slotAt st i) ≡ st
-unfolding withSlot slotAt
-same-slot st i = λ k. record { settings = st .settings; slots = set-getD (st .slots) i freeSlot k }
-
-module _ (st : State) (table buffer : List ℕ) (i answer : ℕ) (reply : Reply) (home rows : List Row) where
+module _ (st : State) (table buffer : List ℕ) (i answer : ℕ) (reply : Reply) (home : List Row) where
   pub refuses-leaves :
       Refused st table buffer reply home (outcomeAfter st i (refuses ((slotAt st i) .neighbour) answer reply) home)
-      (tableAfter table i ((refuses ((slotAt st i) .neighbour) answer reply) .effect) rows) (bufferAfter buffer ((refuses ((slotAt st i) .neighbour) answer reply) .reply) home)
+      (tableAfter table (rowCounts st) i ((refuses ((slotAt st i) .neighbour) answer reply) .change)) (bufferAfter buffer ((refuses ((slotAt st i) .neighbour) answer reply) .reply) home)
   unfolding outcomeAfter slotAfter countAfter tableAfter bufferAfter refuses
   refuses-leaves = record { state = same-slot st i; table = refl; buffer = refl; first = refl; second = refl }
 
@@ -80,7 +65,7 @@ five-checks Q q0 q1 q2 q3 q4 q5 true true true true true = q0
 
 module _ (g : Settings) (n : Neighbour) (o : List ℕ) where
   early-silent : (st : State) (table buffer home : List ℕ) (a : ℕ) → namedReply g n o (messageChecks st table buffer home a) ≡ Nothing
-  unfolding messageChecks namedReply
+  unfolding messageChecks lentChecks namedReply
   early-silent st table buffer home a =
       five-checks (λ k. namedReply g n o k ≡ Nothing) refl refl refl refl refl refl
       (stateFormed st) (tableFits table) (bufferFits buffer) (goodHome (st .settings) home) (present st a)
@@ -114,26 +99,26 @@ refused-early : (st : State) (table buffer : List ℕ) (reply : Reply) (home : L
 unfolding refusedOf replyOctets firstOctets secondOctets over
 refused-early st table buffer reply home k e = rw e (record { state = refl; table = refl; buffer = refl; first = refl; second = refl })
 
-event-refused : (event : Event) (st : State) (table buffer : List ℕ) (a : ℕ) → ((eventOutcome event st table buffer a) .answer ≡ 0 → ⊥)
+event-refused : (event : Intrinsic) (st : State) (table buffer : List ℕ) (a : ℕ) → ((eventOutcome event st table buffer a) .answer ≡ 0 → ⊥)
     → Silent st table buffer (eventOutcome event st table buffer a) (eventTable event st table buffer a) (eventBuffer event st table buffer a)
-unfolding eventOutcome eventTable eventBuffer eventVerdict stepped outcomeAfter refusedOf
+unfolding eventOutcome eventTable eventBuffer eventRuling stepped outcomeAfter refusedOf
 event-refused event st table buffer a =
-    call-holds (λ r t b. (r .answer ≡ 0 → ⊥) → Silent st table buffer r t b) (eventChecks st table buffer a) _ _ _ _ _ _
+    call-holds (λ r t b. (r .answer ≡ 0 → ⊥) → Silent st table buffer r t b) (eventChecks event st table buffer a) _ _ _ _ _ _
     (λ _ z. absurd (z refl)) (λ _ _. record { outcome = refl; table = refl; buffer = refl })
 
-message-verdict-refusing : (st : State) (a : ℕ) (o : List ℕ) → Refusing (st .settings) (neighbourOf st a) o (messageVerdict st a o)
-unfolding messageVerdict
-message-verdict-refusing st a o = receive-refusing (st .settings) ((slotAt st (slotOf st a)) .asn) (neighbourOf st a) o
+message-ruling-refusing : (st : State) (a : ℕ) (o : List ℕ) → Refusing (st .settings) (neighbourOf st a) o (messageRuling st a o)
+unfolding messageRuling
+message-ruling-refusing st a o = receive-refusing _ (st .settings) ((slotAt st (slotOf st a)) .asn) (neighbourOf st a) o
 
-module _ (st : State) (table buffer : List ℕ) (home rows : List Row) (o : List ℕ) (i : ℕ) (v : Verdict) where
-  verdict-refused : Refusing (st .settings) ((slotAt st i) .neighbour) o v → ((outcomeAfter st i v home) .answer ≡ 0 → ⊥)
+module _ (st : State) (table buffer : List ℕ) (home : List Row) (o : List ℕ) (i : ℕ) (v : Ruling) where
+  ruling-refused : Refusing (st .settings) ((slotAt st i) .neighbour) o v → ((outcomeAfter st i v home) .answer ≡ 0 → ⊥)
       → Refused st table buffer (namedReply (st .settings) ((slotAt st i) .neighbour) o ((outcomeAfter st i v home) .answer)) home
-      (outcomeAfter st i v home) (tableAfter table i (v .effect) rows) (bufferAfter buffer (v .reply) home)
+      (outcomeAfter st i v home) (tableAfter table (rowCounts st) i (v .change)) (bufferAfter buffer (v .reply) home)
   unfolding Refusing outcomeAfter
-  verdict-refused e z =
+  ruling-refused e z =
       let reply = namedReply (st .settings) ((slotAt st i) .neighbour) o (v .answer) in
-      subst (λ (w : Verdict). Refused st table buffer reply home (outcomeAfter st i w home) (tableAfter table i (w .effect) rows) (bufferAfter buffer (w .reply) home))
-      (sym (e z)) (refuses-leaves st table buffer i (v .answer) reply home rows)
+      subst (λ (w : Ruling). Refused st table buffer reply home (outcomeAfter st i w home) (tableAfter table (rowCounts st) i (w .change)) (bufferAfter buffer (w .reply) home))
+      (sym (e z)) (refuses-leaves st table buffer i (v .answer) reply home)
 
 message-refused : (st : State) (table buffer home : List ℕ) (a : ℕ) (o : List ℕ) → ((messageOutcome st table buffer home a o) .answer ≡ 0 → ⊥)
     → Refused st table buffer (namedReply (st .settings) (neighbourOf st a) o ((messageOutcome st table buffer home a o) .answer)) (rowsOf home)
@@ -142,7 +127,7 @@ unfolding messageOutcome messageTable messageBuffer refusedOf
 message-refused st table buffer home a o =
     let named = namedReply (st .settings) (neighbourOf st a) o in
     call-holds (λ r t b. (r .answer ≡ 0 → ⊥) → Refused st table buffer (named (r .answer)) (rowsOf home) r t b) (messageChecks st table buffer home a) _ _ _ _ _ _
-    (λ _. verdict-refused st table buffer (rowsOf home) _ o (slotOf st a) (messageVerdict st a o) (message-verdict-refusing st a o))
+    (λ _. ruling-refused st table buffer (rowsOf home) o (slotOf st a) (messageRuling st a o) (message-ruling-refusing st a o))
     (λ _ _. refused-early st table buffer _ (rowsOf home) _ (early-silent (st .settings) (neighbourOf st a) o st table buffer home a))
 
 pub refused-changes-nothing : RefusedChangesNothing
@@ -154,4 +139,7 @@ refused-changes-nothing =
           nothing-silent st table buffer _ (rowsOf home) _ _ _ (silent-named (st .settings) (neighbourOf st a) o _ s) (message-refused st table buffer home a o z);
       add = λ st address asn e z. add-claim st address asn e .0 .refused z;
       remove = λ st address e z. remove-claim st address e .0 .refused z;
+      listings = listing-refused;
+      readings = reading-refused;
+      writings = writing-refused;
     }

@@ -4,48 +4,42 @@ use mathlib.Core.Path.{_≡_}
 use mathlib.Core.Bool.{Bool, true, false, cond, _&&_, _||_}
 use mathlib.Core.List.{List, []}
 use lib.Dec.{leb, eqb}
-use lib.ListN.{length, drop}
+use lib.ListN.{length, drop, set}
 use Rattle.neighbour.specs.Record.{isUp}
 use Rattle.octets.specs.Buffer.{over}
-use Rattle.nets.specs.Rows.{Row, rowsOf, flat}
+use Rattle.nets.specs.Rows.{Row, rowsOf}
 use Rattle.message.specs.Kinds.{kindOf}
 use Rattle.message.specs.declared.Kind.the-variants as K
+use Rattle.message.specs.declared.Message.{Message}
 use Rattle.wire.specs.Reading.{decodeOf}
 use Rattle.wire.specs.declared.Decoded.{Decoded}
 use Rattle.wire.specs.declared.Decoded.the-variants as D
 use Rattle.walk.specs.Body.{updateOf, rowsRead}
-use Rattle.rows.specs.Storing.{zeros, padded}
-use Rattle.codec.specs.Reading.{most, mostNumbers}
+use Rattle.codec.specs.Reading.{numberOf, refusal, readOf}
+use Rattle.codec.specs.Writing.{writeOctets, writeOf}
 use Rattle.neighbour.specs.declared.Settings.{Settings}
 use Rattle.neighbour.specs.declared.Neighbour.{Neighbour}
 use Rattle.neighbour.specs.Rules.{same}
-use Rattle.machine.specs.declared.Event.{Event}
+use Rattle.machine.specs.Intrinsics.{Intrinsic}
 use Rattle.machine.specs.declared.Reply.{Reply}
 use Rattle.machine.specs.declared.Reply.the-variants.{Nothing}
 use Rattle.state.specs.declared.State.{State}
 use Rattle.state.specs.declared.Outcome.{Outcome}
 use Rattle.state.specs.Slots.{slotAt, slotOf, lowestFree}
+use Rattle.state.specs.Places.{slotRows, slotNumbers, rowCounts, partAt, withPart, readRows, writeRows}
 use Rattle.state.specs.Formed.{stateFormed}
 use Rattle.state.specs.Outcomes.{refusedOf}
 use Rattle.slots.specs.Calls.{freshOf, addOf, removeOf}
-use Rattle.calls.specs.Verdict.{errorTo, refuseTo}
-use Rattle.calls.specs.Carried.{firstOctets, secondOctets, replyOctets, partAt, withPart}
-use Rattle.calls.specs.Calls.{eventOutcome, eventTable, eventBuffer, messageOutcome, messageTable, messageBuffer}
+use Rattle.calls.specs.Number.{namedReply}
+use Rattle.calls.specs.Carried.{firstOctets, secondOctets, replyOctets}
+use Rattle.lines.specs.Listing.{listingOutcome, listingBuffer}
+use Rattle.calls.specs.Calls.{eventOutcome, eventTable, eventBuffer, updateRoom, messageOutcome, messageTable, messageBuffer}
 
 -- the record of the neighbour that has this address
 abbrev pub neighbourOf : State → ℕ → Neighbour
 neighbourOf st a = (slotAt st (slotOf st a)) .neighbour
 
 -- ---- refused calls change nothing
-
--- 01's column "Reply": to 9 a Refuse, to 10, 11 and 12 Error 1, to 14 Error 2, to 15 Error 0, else none
-unfoldable pub namedReply : Settings → Neighbour → List ℕ → ℕ → Reply
-namedReply g n o answer =
-    cond (eqb answer 9) (refuseTo g n o)
-    (cond (leb 10 answer && leb answer 12) (errorTo g n o 1)
-    (cond (eqb answer 14) (errorTo g n o 2)
-    (cond (eqb answer 15) (errorTo g n o 0)
-    Nothing)))
 
 -- 01: the answers 1 to 8 and 13 have no reply
 abbrev pub isSilent : ℕ → Bool
@@ -69,7 +63,7 @@ pub record Silent (st : State) (table₀ buffer₀ : List ℕ) (result : Outcome
 pub record RefusedChangesNothing : Type 0 where
   -- Start, Stop and tick name no reply
   pub events :
-      (event : Event) (st : State) (table buffer : List ℕ) (a : ℕ) → ((eventOutcome event st table buffer a) .answer ≡ 0 → ⊥)
+      (event : Intrinsic) (st : State) (table buffer : List ℕ) (a : ℕ) → ((eventOutcome event st table buffer a) .answer ≡ 0 → ⊥)
       → Silent st table buffer (eventOutcome event st table buffer a) (eventTable event st table buffer a) (eventBuffer event st table buffer a)
   pub messages :
       (st : State) (table buffer home : List ℕ) (a : ℕ) (o : List ℕ) → ((messageOutcome st table buffer home a o) .answer ≡ 0 → ⊥)
@@ -86,6 +80,14 @@ pub record RefusedChangesNothing : Type 0 where
   pub remove :
       (st : State) (address : ℕ) → length (st .slots) ≡ 8 → ((removeOf st address) .answer ≡ 0 → ⊥)
       → removeOf st address ≡ refusedOf st ((removeOf st address) .answer)
+  pub listings :
+      (st : State) (table buffer : List ℕ) → ((listingOutcome st table buffer) .answer ≡ 0 → ⊥)
+      → Silent st table buffer (listingOutcome st table buffer) table (listingBuffer st table buffer)
+  -- reading alone and writing take no state and no table: a refusal hands back no row, or writes no octet
+  pub readings : (net : ℕ) (o : List ℕ) → (numberOf ((readOf net o) .meaning) ≡ 0 → ⊥) → readOf net o ≡ refusal (numberOf ((readOf net o) .meaning))
+  pub writings :
+      (m : Message) (numbers buffer : List ℕ) → ((writeOf m numbers buffer) .answer ≡ 0 → ⊥)
+      → ((writeOf m numbers buffer) .length ≡ 0) × (over (writeOctets m numbers buffer) buffer ≡ buffer)
 
 -- ---- a call about one neighbour leaves the others
 
@@ -95,9 +97,15 @@ pub record PartLaws (table part : List ℕ) (i : ℕ) : Type 0 where
   pub others : (j : ℕ) → (j ≡ i → ⊥) → partAt (withPart table i part) j ≡ partAt table j
   pub long : length (withPart table i part) ≡ length table
 
--- every slot but i and its numbers; and in every slot the settings, address and AS, and where each address is found
+-- rows that are written to slot i are read back, and every other slot's rows are as they were; the counts go with them
+pub record PlaceLaws (table counts : List ℕ) (i : ℕ) (rows : List Row) : Type 0 where
+  pub same : readRows (writeRows table counts i rows) (set counts i (length rows)) i ≡ rows
+  pub others : (j : ℕ) → (j ≡ i → ⊥) → readRows (writeRows table counts i rows) (set counts i (length rows)) j ≡ readRows table counts j
+
+-- every slot but i, its rows and its numbers; and in every slot the settings, address and AS, and where each address is found
 pub record Untouched (st : State) (table₀ : List ℕ) (i : ℕ) (result : State) (table₁ : List ℕ) : Type 0 where
   pub slots : (j : ℕ) → (j ≡ i → ⊥) → slotAt result j ≡ slotAt st j
+  pub rows : (j : ℕ) → (j ≡ i → ⊥) → readRows table₁ (rowCounts result) j ≡ readRows table₀ (rowCounts st) j
   pub parts : (j : ℕ) → (j ≡ i → ⊥) → partAt table₁ j ≡ partAt table₀ j
   pub settings : result .settings ≡ st .settings
   pub addresses : (j : ℕ) → (slotAt result j) .address ≡ (slotAt st j) .address
@@ -107,9 +115,12 @@ pub record Untouched (st : State) (table₀ : List ℕ) (i : ℕ) (result : Stat
 
 -- 01: "Facts shared by slots or net classes are proved once, over the slot"; the table may hold any numbers
 pub record OthersUntouched : Type 0 where
-  pub law : (table part : List ℕ) (i : ℕ) → length table ≡ 3072 → length part ≡ 384 → i < 8 → PartLaws table part i
+  pub law : (table part : List ℕ) (i : ℕ) → length table ≡ 3072 → length part ≡ slotNumbers → i < 8 → PartLaws table part i
+  pub places :
+      (table counts : List ℕ) (i : ℕ) (rows : List Row) → length table ≡ 3072 → length counts ≡ 8 → length rows ≤ slotRows → i < 8
+      → PlaceLaws table counts i rows
   pub events :
-      (event : Event) (st : State) (table buffer : List ℕ) (a : ℕ)
+      (event : Intrinsic) (st : State) (table buffer : List ℕ) (a : ℕ)
       → Untouched st table (slotOf st a) ((eventOutcome event st table buffer a) .state) (eventTable event st table buffer a)
   pub messages :
       (st : State) (table buffer home : List ℕ) (a : ℕ) (o : List ℕ)
@@ -130,11 +141,15 @@ pub record Within (result : Outcome) (buffer₀ buffer₁ : List ℕ) : Type 0 w
 -- 01: "none writes past the lengths it reports, table apart"
 pub record WritesWithinLengths : Type 0 where
   pub events :
-      (event : Event) (st : State) (table buffer : List ℕ) (a : ℕ)
+      (event : Intrinsic) (st : State) (table buffer : List ℕ) (a : ℕ)
       → Within (eventOutcome event st table buffer a) buffer (eventBuffer event st table buffer a)
   pub messages :
       (st : State) (table buffer home : List ℕ) (a : ℕ) (o : List ℕ)
       → Within (messageOutcome st table buffer home a o) buffer (messageBuffer st table buffer home a o)
+  pub listings : (st : State) (table buffer : List ℕ) → Within (listingOutcome st table buffer) buffer (listingBuffer st table buffer)
+  pub writings :
+      (m : Message) (numbers buffer : List ℕ)
+      → drop ((writeOf m numbers buffer) .length) (over (writeOctets m numbers buffer) buffer) ≡ drop ((writeOf m numbers buffer) .length) buffer
 
 -- 01: "Reply buffer at least 2,048 octets": every reply fits, the longest being an Update of 128 rows, and the buffer keeps its length
 pub record Fits (result : Outcome) (buffer₀ buffer₁ : List ℕ) : Type 0 where
@@ -144,7 +159,7 @@ pub record Fits (result : Outcome) (buffer₀ buffer₁ : List ℕ) : Type 0 whe
 -- 01: "A reply is at most two messages"
 pub record RepliesFit : Type 0 where
   pub events :
-      (event : Event) (st : State) (table buffer : List ℕ) (a : ℕ)
+      (event : Intrinsic) (st : State) (table buffer : List ℕ) (a : ℕ)
       → Fits (eventOutcome event st table buffer a) buffer (eventBuffer event st table buffer a)
   pub messages :
       (st : State) (table buffer home : List ℕ) (a : ℕ) (o : List ℕ)
@@ -168,17 +183,17 @@ isUpdate D.BadLength = false
 pub record TableWrites (st : State) (table₀ : List ℕ) (i : ℕ) (update : Bool) (rows : List Row) (result : Outcome) (table₁ : List ℕ) : Type 0 where
   pub kept : isUpIn st i ≡ false → table₁ ≡ table₀
   pub stayed : isUpIn (result .state) i ≡ true → update ≡ false → table₁ ≡ table₀
-  pub cleared : result .answer ≡ 0 → isUpIn st i ≡ true → isUpIn (result .state) i ≡ false → table₁ ≡ withPart table₀ i (zeros mostNumbers)
-  pub replaced : result .answer ≡ 0 → isUpIn st i ≡ true → update ≡ true → table₁ ≡ withPart table₀ i (padded mostNumbers (flat rows))
+  pub cleared : result .answer ≡ 0 → isUpIn st i ≡ true → isUpIn (result .state) i ≡ false → table₁ ≡ writeRows table₀ (rowCounts st) i []
+  pub replaced : result .answer ≡ 0 → isUpIn st i ≡ true → update ≡ true → table₁ ≡ writeRows table₀ (rowCounts st) i rows
 
 -- 01: "A slot not Up has no rows"; an accepted Update's rows "replace the slot's"
 pub record TableKept : Type 0 where
   pub events :
-      (event : Event) (st : State) (table buffer : List ℕ) (a : ℕ) → length (st .slots) ≡ 8
+      (event : Intrinsic) (st : State) (table buffer : List ℕ) (a : ℕ) → length (st .slots) ≡ 8
       → TableWrites st table (slotOf st a) false [] (eventOutcome event st table buffer a) (eventTable event st table buffer a)
   pub messages :
       (st : State) (table buffer home : List ℕ) (a : ℕ) (o : List ℕ) → length (st .slots) ≡ 8
-      → TableWrites st table (slotOf st a) (isUpdate (decodeOf o)) (rowsRead (updateOf most (st .settings .net) o))
+      → TableWrites st table (slotOf st a) (isUpdate (decodeOf o)) (rowsRead (updateOf (updateRoom (rowCounts st) (slotOf st a)) (st .settings .net) o))
       (messageOutcome st table buffer home a o) (messageTable st table buffer home a o)
 
 -- ---- every call keeps a state well formed
@@ -190,11 +205,14 @@ pub record FormedState (st : State) : Type 0 where
 
 -- 01: "Every call keeps a state well formed."
 pub record WellFormedKept : Type 0 where
-  pub events : (event : Event) (st : State) (table buffer : List ℕ) (a : ℕ) → FormedState st → FormedState ((eventOutcome event st table buffer a) .state)
+  pub events : (event : Intrinsic) (st : State) (table buffer : List ℕ) (a : ℕ) → FormedState st → FormedState ((eventOutcome event st table buffer a) .state)
   -- any octets at all
   pub messages :
       (st : State) (table buffer home : List ℕ) (a : ℕ) (o : List ℕ) → FormedState st → FormedState ((messageOutcome st table buffer home a o) .state)
   pub add : (st : State) (address asn : ℕ) → FormedState st → FormedState ((addOf st address asn) .state)
   pub remove : (st : State) (address : ℕ) → FormedState st → FormedState ((removeOf st address) .state)
+  -- a listing changes nothing at all; reading alone and writing are given no state
+  pub listings : (st : State) (table buffer : List ℕ) → FormedState st → FormedState ((listingOutcome st table buffer) .state)
+  pub listed : (st : State) (table buffer : List ℕ) → (listingOutcome st table buffer) .state ≡ st
   -- 01: where fresh refuses, it "returns the all-zero state, which is not well formed"
   pub fresh : (g : Settings) → (freshOf g) .answer ≡ 0 → FormedState ((freshOf g) .state)

@@ -1,14 +1,15 @@
 -- The longest listing. Assumes nothing.
 use Prim.Native.Nat.{ℕ, suc, _+_, _*_, _%_, _≤_, _<_}
+use native.Mathlib.Nat.{add-zero, zero-add}
 use native.Mathlib.Omega.{arith}
 use mathlib.Core.Bool.{Bool, true, false, cond}
-use mathlib.Core.Path.{_≡_, refl}
+use mathlib.Core.Path.{_≡_, refl, sym, _∙_, ap}
 use mathlib.Core.List.{List, [], _∷_, map}
 use lib.Dec.{leb, eqb}
 use lib.ListN.{length, getD, length-append, length-take}
 use borrow.Author.Tests.{leb-true}
 use Rattle.checks.specs.Lists.{join}
-use Rattle.checks.proofs.Laws.{check-passed, ifOk-holds}
+use Rattle.checks.proofs.Laws.{ifOk-holds}
 use Rattle.octets.proofs.Laws.{over-length}
 use Rattle.neighbour.specs.Record.{isUp}
 use Rattle.nets.specs.Rows.{Row}
@@ -22,15 +23,17 @@ use Rattle.neighbour.specs.declared.Mode.the-variants.{Unset, Active, Passive}
 use Rattle.state.specs.declared.Slot.{Slot}
 use Rattle.state.specs.declared.State.{State}
 use Rattle.state.specs.Slots.{freeSlot, slotAt}
+use Rattle.state.specs.Places.{partAt, rowCounts, readRows}
 use Rattle.state.specs.Formed.{stateFormed}
 use Rattle.state.specs.Claims.{SlotGood}
 use Rattle.state.specs.Outcomes.{refusedOf}
 use Rattle.state.proofs.Theorems.{formed-slot}
 use Rattle.state.specs.declared.Outcome.{Outcome}
-use Rattle.calls.specs.Carried.{partAt}
+use Rattle.calls.proofs.Checks.{lent-passed}
 use Rattle.lines.specs.Lines.{stateWord, modeWord, distanceIn, sideWord, headLines, rowLines, rowText, entryText, listingText}
-use Rattle.lines.specs.Listing.{usedRows, entryOf, entriesFrom, entries, listingChecks, listingOutcome, listingBuffer}
+use Rattle.lines.specs.Listing.{entryOf, entriesFrom, entries, listingChecks, listingOutcome, listingBuffer}
 use Rattle.listing.specs.Claims.{Typed, Short}
+use Rattle.listing.proofs.Laws.{count-at}
 
 line-length : (name value : List ℕ) → length (line name value) ≡ length name + length value + 1
 unfolding line
@@ -60,9 +63,10 @@ unfolding join
 rows-length [] = omega arith
 rows-length (row ∷ rows) = simp length-append (omega (arith, row-length row, rows-length rows))
 
-used-few : (slot : Slot) (numbers : List ℕ) → length (usedRows slot numbers) ≤ slot .rows
-unfolding usedRows
-used-few slot numbers = rw (rows-take (slot .rows) numbers) (simp length-take (omega arith))
+-- no more rows are read than are counted
+read-few : (table counts : List ℕ) (i : ℕ) → length (readRows table counts i) ≤ getD counts i 0
+unfolding readRows
+read-few table counts i = rw (rows-take (getD counts i 0) (partAt table i)) (simp length-take (omega arith))
 
 -- ---- slots
 
@@ -81,39 +85,48 @@ state-length Down rows h n = omega (arith, n refl)
 state-length Up rows h n = omega arith
 state-length Cease rows h n = omega (arith, n refl)
 
-entry-length : (i : ℕ) (slot : Slot) (table : List ℕ) → i < 8 → slot .asn < 65536 → SlotGood slot → length (entryText (entryOf i slot table)) ≤ 7364
+entry-length : (i : ℕ) (slot : Slot) (table counts : List ℕ) → getD counts i 0 ≡ slot .rows → i < 8 → slot .asn < 65536 → SlotGood slot
+    → length (entryText (entryOf i slot table counts)) ≤ 7364
 unfolding entryText entryOf headLines join text
-entry-length i slot table h a g =
-    let u = used-few slot (partAt table i) in
-    let r = rows-length (usedRows slot (partAt table i)) in
+entry-length i slot table counts k h a g =
+    let u = read-few table counts i in
+    let r = rows-length (readRows table counts i) in
     let s = state-length (slot .neighbour .phase) (slot .rows) (g .few) (g .none) in
     let m = mode-length (slot .neighbour .mode) in
     let p = decimal-most 0 i (omega arith) in
     let q = dotted-length (slot .address) in
     let t = word-length (slot .asn) a in
-    let few : length (usedRows slot (partAt table i)) < 256 = omega (arith, g .few) in
-    let v = octet-length (length (usedRows slot (partAt table i))) few in
+    let few : length (readRows table counts i) < 256 = omega (arith, g .few, k) in
+    let v = octet-length (length (readRows table counts i)) few in
     simp (length-append, line-length) (omega arith)
 
-entries-length : (i : ℕ) (slots : List Slot) (table : List ℕ) → i + length slots ≤ 8 → ((j : ℕ) → ((getD slots j freeSlot) .asn < 65536) × SlotGood (getD slots j freeSlot))
-    → (length (entriesFrom i slots table) ≤ length slots) × (length (join (map entryText (entriesFrom i slots table))) ≤ 7364 * length slots)
-unfolding entriesFrom join
-entries-length i [] table h fine = (omega arith, omega arith)
-entries-length i (slot ∷ rest) table h fine = go (eqb (slot .address) 0) (entries-length (suc i) rest table (omega arith) (λ j. fine (suc j)))
-  where
-    go : (b : Bool) → (length (entriesFrom (suc i) rest table) ≤ length rest) × (length (join (map entryText (entriesFrom (suc i) rest table))) ≤ 7364 * length rest)
-        → (length (cond b (entriesFrom (suc i) rest table) (entryOf i slot table ∷ entriesFrom (suc i) rest table)) ≤ suc (length rest))
-        × (length (join (map entryText (cond b (entriesFrom (suc i) rest table) (entryOf i slot table ∷ entriesFrom (suc i) rest table)))) ≤ 7364 * suc (length rest))
-    go true r = (omega arith, omega arith)
-    go false r = (omega arith, simp length-append (omega (arith, entry-length i slot table (omega arith) (fine 0 .0) (fine 0 .1))))
+-- slots from index i on, whose counts these are
+module _ (table counts : List ℕ) where
+  entries-length : (i : ℕ) (slots : List Slot) → i + length slots ≤ 8
+      → ((j : ℕ) → (getD counts (i + j) 0 ≡ (getD slots j freeSlot) .rows) × ((getD slots j freeSlot) .asn < 65536) × SlotGood (getD slots j freeSlot))
+      → (length (entriesFrom i slots table counts) ≤ length slots) × (length (join (map entryText (entriesFrom i slots table counts))) ≤ 7364 * length slots)
+  unfolding entriesFrom join
+  entries-length i [] h fine = (omega arith, omega arith)
+  entries-length i (slot ∷ rest) h fine = go (eqb (slot .address) 0) (entries-length (suc i) rest (omega arith) (λ j. (ap (λ (k : ℕ). getD counts k 0) (omega arith) ∙ fine (suc j) .0, fine (suc j) .1, fine (suc j) .2)))
+    where
+      go : (b : Bool)
+          → (length (entriesFrom (suc i) rest table counts) ≤ length rest) × (length (join (map entryText (entriesFrom (suc i) rest table counts))) ≤ 7364 * length rest)
+          → (length (cond b (entriesFrom (suc i) rest table counts) (entryOf i slot table counts ∷ entriesFrom (suc i) rest table counts)) ≤ suc (length rest))
+          × (length (join (map entryText (cond b (entriesFrom (suc i) rest table counts) (entryOf i slot table counts ∷ entriesFrom (suc i) rest table counts)))) ≤ 7364 * suc (length rest))
+      go true r = (omega arith, omega arith)
+      go false r = (
+        omega arith,
+        simp length-append (omega (arith, entry-length i slot table counts (ap (λ (k : ℕ). getD counts k 0) (sym (add-zero i)) ∙ fine 0 .0) (omega arith) (fine 0 .1) (fine 0 .2))),
+      )
 
 -- ---- the whole
 
 text-length : (st : State) (table : List ℕ) → Typed st → stateFormed st ≡ true → length (listingText (entries st table)) ≤ 58925
 unfolding listingText entries text slotAt
 text-length st table t f =
-    let e = entries-length 0 (st .slots) table (omega (arith, t .eight)) (λ j. (t .words j, formed-slot st j f .1)) in
-    let c = decimal-most 0 (length (entriesFrom 0 (st .slots) table)) (omega (arith, t .eight)) in
+    let e = entries-length table (rowCounts st) 0 (st .slots) (omega (arith, t .eight))
+    (λ j. (ap (λ (k : ℕ). getD (rowCounts st) k 0) (zero-add j) ∙ count-at st j, t .words j, formed-slot st j f .1)) in
+    let c = decimal-most 0 (length (entriesFrom 0 (st .slots) table (rowCounts st))) (omega (arith, t .eight)) in
     simp (length-append, line-length) (omega (arith, t .eight))
 
 room-kept : (st : State) (table buffer : List ℕ) → Typed st → length (listingBuffer st table buffer) ≡ length buffer
@@ -121,9 +134,8 @@ unfolding listingBuffer listingChecks
 room-kept st table buffer t =
     ifOk-holds (listingChecks st table buffer) _ buffer (λ (b : List ℕ). length b ≡ length buffer)
     (λ e.
-    let behind = check-passed (stateFormed st) 1 _ refl e in
-    let room = leb-true 65536 (length buffer) (check-passed _ 3 0 refl (check-passed _ 2 _ refl (behind .1) .1) .0) in
-    over-length (listingText (entries st table)) buffer (omega (arith, text-length st table t (behind .0), room)))
+    let p = lent-passed st _ (leb 65536 (length buffer)) 0 e in
+    over-length (listingText (entries st table)) buffer (omega (arith, text-length st table t (p .formed), leb-true 65536 (length buffer) (p .octets))))
     refl
 
 pub short : Short
@@ -131,6 +143,6 @@ unfolding listingOutcome listingChecks refusedOf
 short =
     record {
       text = text-length;
-      reported = λ st table buffer t. ifOk-holds (listingChecks st table buffer) _ _ (λ (o : Outcome). o .first ≤ 58925) (λ e. text-length st table t (check-passed _ 1 _ refl e .0)) (omega arith);
+      reported = λ st table buffer t. ifOk-holds (listingChecks st table buffer) _ _ (λ (o : Outcome). o .first ≤ 58925) (λ e. text-length st table t (lent-passed st _ _ 0 e .formed)) (omega arith);
       same = room-kept;
     }

@@ -7,7 +7,7 @@ use mathlib.Core.Path.{_≡_, refl, sym, ap, _∙_}
 use mathlib.Core.List.{List}
 use lib.Dec.{leb}
 use lib.ListN.{length}
-use Rattle.checks.proofs.Laws.{and-left, check-passed, check-holds, check-fails, ifOk-new, ifOk-old}
+use Rattle.checks.proofs.Laws.{and-left, check-holds, check-fails, ifOk-new, ifOk-old}
 use Rattle.checks.specs.Checks.{check}
 use Rattle.checks.specs.Lists.{every}
 use Rattle.octets.specs.Buffer.{over}
@@ -15,7 +15,8 @@ use Rattle.state.specs.declared.State.{State}
 use Rattle.state.specs.declared.Outcome.{Outcome}
 use Rattle.state.specs.Formed.{stateFormed}
 use Rattle.state.specs.Outcomes.{refusedOf}
-use Rattle.calls.specs.Calls.{tableFits}
+use Rattle.calls.specs.Calls.{tableFits, lentChecks}
+use Rattle.calls.proofs.Checks.{lent-passed}
 use Rattle.lines.specs.Lines.{listingText}
 use Rattle.lines.specs.Listing.{entries, listable, listingChecks, listingOutcome, listingBuffer}
 use Rattle.listing.specs.Claims.{Typed}
@@ -28,7 +29,7 @@ module _ (st : State) (table : List ℕ) (octets : ℕ) where
   Answer k = (buffer : List ℕ) → length buffer ≡ octets → k ≡ listingChecks st table buffer
 
   pub unformed : stateFormed st ≡ false → Answer 1
-  unfolding listingChecks
+  unfolding listingChecks lentChecks
   unformed f buffer q = sym (check-fails (stateFormed st) 1 _ f)
 
   module _ (f : stateFormed st ≡ true) where
@@ -39,12 +40,12 @@ module _ (st : State) (table : List ℕ) (octets : ℕ) where
     failed ok rest e = check-holds (stateFormed st) 1 _ f ∙ check-fails ok 2 rest e
 
     pub unfit : (length table ≡ 3072 → ⊥) → Answer 2
-    unfolding listingChecks
+    unfolding listingChecks lentChecks
     unfit n buffer q = sym (failed (tableFits table && every listable (entries st table)) _ (rw (ne-eqb (length table) 3072 n)))
 
     module _ (t : length table ≡ 3072) where
       pub unmarked : every listable (entries st table) ≡ false → Answer 2
-      unfolding listingChecks
+      unfolding listingChecks lentChecks
       unmarked m buffer q = sym (failed (tableFits table && every listable (entries st table)) _ (rw (eq-eqb (length table) 3072 t) m))
 
       module _ (m : every listable (entries st table) ≡ true) where
@@ -52,12 +53,12 @@ module _ (st : State) (table : List ℕ) (octets : ℕ) where
         good = rw (eq-eqb (length table) 3072 t) m
 
         pub short-buffer : octets < 65536 → Answer 3
-        unfolding listingChecks
+        unfolding listingChecks lentChecks
         short-buffer b buffer q =
             sym (held (tableFits table && every listable (entries st table)) _ good ∙ check-fails (leb 65536 (length buffer)) 3 0 (lt-leb 65536 (length buffer) (rw q b)))
 
         pub all-passed : 65536 ≤ octets → Answer 0
-        unfolding listingChecks
+        unfolding listingChecks lentChecks
         all-passed b buffer q =
             sym (held (tableFits table && every listable (entries st table)) _ good ∙ check-holds (leb 65536 (length buffer)) 3 0 (le-leb 65536 (length buffer) (rw q b)))
 
@@ -74,10 +75,11 @@ module _ (st : State) (table buffer : List ℕ) (k : ℕ) (e : k ≡ listingChec
     passed : (stateFormed st ≡ true) × (length table ≡ 3072) × (65536 ≤ length buffer)
     unfolding listingChecks
     passed =
-        let one = check-passed _ 1 _ refl (sym e ∙ z) in
-        let two = check-passed _ 2 _ refl (one .1) in
-        let three = check-passed _ 3 _ refl (two .1) in
-        (one .0, eqb-true (length table) 3072 (and-left (tableFits table) (every listable (entries st table)) (two .0)), leb-true 65536 (length buffer) (three .0))
+        let p = lent-passed st (tableFits table && every listable (entries st table)) (leb 65536 (length buffer)) 0 (sym e ∙ z) in (
+          p .formed,
+          eqb-true (length table) 3072 (and-left (tableFits table) (every listable (entries st table)) (p .numbers)),
+          leb-true 65536 (length buffer) (p .octets),
+        )
 
     module _ (t : Typed st) where
       pub text-room : ((stateFormed st ≡ true) × (length table ≡ 3072)) × (length (listingText (entries st table)) ≤ length buffer)

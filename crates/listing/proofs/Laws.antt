@@ -8,7 +8,7 @@ use mathlib.Core.Bool.{Bool, true, false, cond, _&&_}
 use mathlib.Core.Path.{_≡_, refl, sym, ap, _∙_}
 use mathlib.Core.List.{List, [], _∷_, _++_, map}
 use lib.Dec.{eqb}
-use lib.ListN.{length, take, drop, getD, length-take, drop-of-length-le}
+use lib.ListN.{length, take, drop, getD, length-take, drop-of-length-le, List·getD-map}
 use lib.Seq.{drop-cons, take-take, sets-eq}
 use Rattle.checks.specs.Lists.{every, join}
 use Rattle.nets.specs.Rows.{rowsOf}
@@ -18,10 +18,11 @@ use Rattle.text.specs.Text.{text, decimal, line}
 use Rattle.storing.specs.Written.{Written}
 use Rattle.storing.proofs.Storing.{Writing, start, room, turn, last}
 use Rattle.state.specs.declared.Slot.{Slot}
-use Rattle.state.specs.Slots.{freeSlot}
-use Rattle.calls.specs.Carried.{partAt}
+use Rattle.state.specs.declared.State.{State}
+use Rattle.state.specs.Slots.{freeSlot, slotAt}
+use Rattle.state.specs.Places.{rowCount, rowCounts, place, partAt, readRows}
 use Rattle.lines.specs.Lines.{Entry, headLines, entryText, listingText}
-use Rattle.lines.specs.Listing.{usedRows, entryOf, entriesFrom, markedRow, listable}
+use Rattle.lines.specs.Listing.{entryOf, entriesFrom, markedRow, listable}
 use Rattle.lines.specs.Steps.{slotEntry, rowsText}
 use Rattle.listing.specs.Steps.{slotText, slotListable}
 
@@ -42,56 +43,62 @@ module _ (u : List ℕ) where
 
 -- ---- the used rows of a slot are a part of the table
 
--- the part that the code takes
+pub count-at : (st : State) (i : ℕ) → getD (rowCounts st) i 0 ≡ (slotAt st i) .rows
+unfolding rowCounts slotAt freeSlot
+count-at st i = List·getD-map rowCount (st .slots) i freeSlot
+
+-- the part that the code takes, from index p on
 abbrev pub part : ℕ → Slot → List ℕ → List ℕ
-part i slot table = take (i * 384 + 3 * slot .rows - i * 384) (drop (i * 384) table)
+part p slot table = take (p + 3 * slot .rows - p) (drop p table)
 
-module _ (i : ℕ) (slot : Slot) (table : List ℕ) (few : slot .rows ≤ 128) where
-  used-part : rowsOf (part i slot table) ≡ (entryOf i slot table) .rows
-  unfolding entryOf usedRows partAt
-  used-part = rw (add-sub-cancel-left (i * 384) (3 * slot .rows), take-take (3 * slot .rows) 384 (drop (i * 384) table) (omega arith))
+module _ (st : State) (i : ℕ) (table : List ℕ) (few : (slotAt st i) .rows ≤ 128) (p : ℕ) (e : p ≡ place (rowCounts st) i) where
+  used-part : rowsOf (part p (slotAt st i) table) ≡ readRows table (rowCounts st) i
+  unfolding readRows partAt place
+  used-part =
+      rw (count-at st i, e, add-sub-cancel-left (i * 384) (3 * (slotAt st i) .rows), take-take (3 * (slotAt st i) .rows) 384 (drop (i * 384) table) (omega arith))
 
-  listed-is : slotEntry i slot (rowsOf (part i slot table)) ≡ entryOf i slot table
+  listed-is : slotEntry i (slotAt st i) (rowsOf (part p (slotAt st i) table)) ≡ entryOf i (slotAt st i) table (rowCounts st)
   unfolding entryOf
-  listed-is = ap (slotEntry i slot) used-part
+  listed-is = ap (slotEntry i (slotAt st i)) used-part
 
-  pub part-long : length (part i slot table) ≤ 384
+  pub part-long : length (part p (slotAt st i) table) ≤ 384
   part-long = simp length-take (omega arith)
 
-  module _ (n : slot .address ≡ 0 → ⊥) where
-    pub used-listable : every markedRow (rowsOf (part i slot table)) ≡ slotListable i slot table
-    unfolding slotListable listable
-    used-listable = rw (ne-eqb (slot .address) 0 n) (ap (every markedRow) used-part)
+  module _ (n : (slotAt st i) .address ≡ 0 → ⊥) where
+    pub used-listable : every markedRow (rowsOf (part p (slotAt st i) table)) ≡ slotListable st i table
+    unfolding slotListable listable entryOf
+    used-listable = rw (ne-eqb ((slotAt st i) .address) 0 n) (ap (every markedRow) used-part)
 
-    used-text : slotText i slot table ≡ join (headLines (slotEntry i slot (rowsOf (part i slot table)))) ++ rowsText (rowsOf (part i slot table))
-    unfolding slotText entryText rowsText
-    used-text = rw (ne-eqb (slot .address) 0 n, listed-is, used-part)
+    used-text : slotText st i table
+        ≡ join (headLines (slotEntry i (slotAt st i) (rowsOf (part p (slotAt st i) table)))) ++ rowsText (rowsOf (part p (slotAt st i) table))
+    unfolding slotText entryText rowsText entryOf
+    used-text = rw (ne-eqb ((slotAt st i) .address) 0 n, used-part)
 
-    module _ (at : ℕ) (old : List ℕ) (h : at + length (slotText i slot table) ≤ length old) where
-      pub head-room : at + length (join (headLines (slotEntry i slot (rowsOf (part i slot table))))) ≤ length old
+    module _ (at : ℕ) (old : List ℕ) (h : at + length (slotText st i table) ≤ length old) where
+      pub head-room : at + length (join (headLines (slotEntry i (slotAt st i) (rowsOf (part p (slotAt st i) table))))) ≤ length old
       head-room =
-          room (start (slotText i slot table) at old h)
-          (join (headLines (slotEntry i slot (rowsOf (part i slot table))))) (rowsText (rowsOf (part i slot table))) used-text
+          room (start (slotText st i table) at old h)
+          (join (headLines (slotEntry i (slotAt st i) (rowsOf (part p (slotAt st i) table))))) (rowsText (rowsOf (part p (slotAt st i) table))) used-text
 
-      module _ {mid : List ℕ} {o : ℕ} (p : Written (join (headLines (slotEntry i slot (rowsOf (part i slot table))))) at old mid o) where
-        from-rows : Writing (slotText i slot table) at old (rowsText (rowsOf (part i slot table))) o mid
+      module _ {mid : List ℕ} {o : ℕ} (w : Written (join (headLines (slotEntry i (slotAt st i) (rowsOf (part p (slotAt st i) table))))) at old mid o) where
+        from-rows : Writing (slotText st i table) at old (rowsText (rowsOf (part p (slotAt st i) table))) o mid
         from-rows =
-            turn (start (slotText i slot table) at old h)
-            (join (headLines (slotEntry i slot (rowsOf (part i slot table))))) (rowsText (rowsOf (part i slot table))) used-text p
+            turn (start (slotText st i table) at old h)
+            (join (headLines (slotEntry i (slotAt st i) (rowsOf (part p (slotAt st i) table))))) (rowsText (rowsOf (part p (slotAt st i) table))) used-text w
 
-        pub rows-room : o + length (rowsText (rowsOf (part i slot table))) ≤ length mid
+        pub rows-room : o + length (rowsText (rowsOf (part p (slotAt st i) table))) ≤ length mid
         rows-room = from-rows .fits
 
-        pub slot-done : {new : List ℕ} {end : ℕ} → Written (rowsText (rowsOf (part i slot table))) o mid new end → Written (slotText i slot table) at old new end
+        pub slot-done : {new : List ℕ} {end : ℕ} → Written (rowsText (rowsOf (part p (slotAt st i) table))) o mid new end → Written (slotText st i table) at old new end
         slot-done q = last from-rows q
 
-pub free-listable : (i : ℕ) (slot : Slot) (table : List ℕ) → slot .address ≡ 0 → slotListable i slot table ≡ true
+pub free-listable : (st : State) (i : ℕ) (table : List ℕ) → (slotAt st i) .address ≡ 0 → slotListable st i table ≡ true
 unfolding slotListable
-free-listable i slot table e = rw (eq-eqb (slot .address) 0 e)
+free-listable st i table e = rw (eq-eqb ((slotAt st i) .address) 0 e)
 
-pub free-written : (i : ℕ) (slot : Slot) (table : List ℕ) (at : ℕ) (out : List ℕ) → slot .address ≡ 0 → Written (slotText i slot table) at out out at
+pub free-written : (st : State) (i : ℕ) (table : List ℕ) (at : ℕ) (out : List ℕ) → (slotAt st i) .address ≡ 0 → Written (slotText st i table) at out out at
 unfolding slotText
-free-written i slot table at out e = rw (eq-eqb (slot .address) 0 e) (record { list = refl; after = sym (add-zero at) })
+free-written st i table at out e = rw (eq-eqb ((slotAt st i) .address) 0 e) (record { list = refl; after = sym (add-zero at) })
 
 -- ---- slot by slot
 
@@ -106,56 +113,56 @@ listable-next true e es = refl
 listable-next false e es = refl
 
 -- the used slots from index i on
-unfoldable pub left : List Slot → List ℕ → ℕ → List Entry
-left slots table i = entriesFrom i (drop i slots) table
+unfoldable pub left : State → List ℕ → ℕ → List Entry
+left st table i = entriesFrom i (drop i (st .slots)) table (rowCounts st)
 
-unfoldable pub textLeft : List Slot → List ℕ → ℕ → List ℕ
-textLeft slots table i = join (map entryText (left slots table i))
+unfoldable pub textLeft : State → List ℕ → ℕ → List ℕ
+textLeft st table i = join (map entryText (left st table i))
 
-module _ (slots : List Slot) (table : List ℕ) (i : ℕ) where
-  module _ (h : i < length slots) where
-    left-turn : left slots table i ≡ cond (eqb ((getD slots i freeSlot) .address) 0) (left slots table (i + 1)) (entryOf i (getD slots i freeSlot) table ∷ left slots table (i + 1))
-    unfolding left entriesFrom
-    left-turn = rw (add-one, drop-cons slots i freeSlot h)
+module _ (st : State) (table : List ℕ) (i : ℕ) where
+  module _ (h : i < length (st .slots)) where
+    left-turn : left st table i ≡ cond (eqb ((slotAt st i) .address) 0) (left st table (i + 1)) (entryOf i (slotAt st i) table (rowCounts st) ∷ left st table (i + 1))
+    unfolding left entriesFrom slotAt
+    left-turn = rw (add-one, drop-cons (st .slots) i freeSlot h)
 
-    pub text-turn : textLeft slots table i ≡ slotText i (getD slots i freeSlot) table ++ textLeft slots table (i + 1)
+    pub text-turn : textLeft st table i ≡ slotText st i table ++ textLeft st table (i + 1)
     unfolding textLeft slotText
     text-turn =
         ap (λ (es : List Entry). join (map entryText es)) left-turn
-        ∙ text-next (eqb ((getD slots i freeSlot) .address) 0) (entryOf i (getD slots i freeSlot) table) (left slots table (i + 1))
+        ∙ text-next (eqb ((slotAt st i) .address) 0) (entryOf i (slotAt st i) table (rowCounts st)) (left st table (i + 1))
 
-    listable-turn : every listable (left slots table i) ≡ (slotListable i (getD slots i freeSlot) table && every listable (left slots table (i + 1)))
+    listable-turn : every listable (left st table i) ≡ (slotListable st i table && every listable (left st table (i + 1)))
     unfolding slotListable
     listable-turn =
         ap (every listable) left-turn
-        ∙ listable-next (eqb ((getD slots i freeSlot) .address) 0) (entryOf i (getD slots i freeSlot) table) (left slots table (i + 1))
+        ∙ listable-next (eqb ((slotAt st i) .address) 0) (entryOf i (slotAt st i) table (rowCounts st)) (left st table (i + 1))
 
-    pub listable-not : slotListable i (getD slots i freeSlot) table ≡ false → every listable (left slots table i) ≡ false
+    pub listable-not : slotListable st i table ≡ false → every listable (left st table i) ≡ false
     listable-not e = listable-turn ∙ rw e
 
-    pub listable-more : slotListable i (getD slots i freeSlot) table ≡ true → every listable (left slots table i) ≡ every listable (left slots table (i + 1))
+    pub listable-more : slotListable st i table ≡ true → every listable (left st table i) ≡ every listable (left st table (i + 1))
     listable-more e = listable-turn ∙ rw e
 
-    pub count-free : (getD slots i freeSlot) .address ≡ 0 → length (left slots table i) ≡ length (left slots table (i + 1))
-    count-free e = rw (left-turn, eq-eqb ((getD slots i freeSlot) .address) 0 e)
+    pub count-free : (slotAt st i) .address ≡ 0 → length (left st table i) ≡ length (left st table (i + 1))
+    count-free e = rw (left-turn, eq-eqb ((slotAt st i) .address) 0 e)
 
-    pub count-used : ((getD slots i freeSlot) .address ≡ 0 → ⊥) → length (left slots table i) ≡ suc (length (left slots table (i + 1)))
-    count-used n = rw (left-turn, ne-eqb ((getD slots i freeSlot) .address) 0 n)
+    pub count-used : ((slotAt st i) .address ≡ 0 → ⊥) → length (left st table i) ≡ suc (length (left st table (i + 1)))
+    count-used n = rw (left-turn, ne-eqb ((slotAt st i) .address) 0 n)
 
-  module _ (h : length slots ≤ i) where
-    left-end : left slots table i ≡ []
+  module _ (h : length (st .slots) ≤ i) where
+    left-end : left st table i ≡ []
     unfolding left entriesFrom
-    left-end = rw (drop-of-length-le slots h)
+    left-end = rw (drop-of-length-le (st .slots) h)
 
-    pub text-end : textLeft slots table i ≡ []
+    pub text-end : textLeft st table i ≡ []
     unfolding textLeft join
     text-end = rw left-end
 
-    pub listable-end : every listable (left slots table i) ≡ true
+    pub listable-end : every listable (left st table i) ≡ true
     unfolding every
     listable-end = rw left-end
 
-    pub count-end : length (left slots table i) ≡ 0
+    pub count-end : length (left st table i) ≡ 0
     count-end = ap length left-end
 
 -- ---- the whole text

@@ -2,4 +2,3 @@ pub mod Laws
 pub mod Words
 pub mod Bound
 pub mod Calls
-pub mod Keeps

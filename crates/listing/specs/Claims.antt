@@ -1,4 +1,4 @@
--- What holds of every listing. The proofs are in proofs/Bound.antt and proofs/Keeps.antt.
+-- What holds of every listing. The proofs are in proofs/Bound.antt.
 use Prim.Native.Nat.{ℕ, _<_, _≤_}
 use mathlib.Core.Bool.{true}
 use mathlib.Core.Path.{_≡_}
@@ -7,7 +7,6 @@ use lib.ListN.{length}
 use Rattle.state.specs.declared.State.{State}
 use Rattle.state.specs.Slots.{slotAt}
 use Rattle.state.specs.Formed.{stateFormed}
-use Rattle.claims.specs.Claims.{Silent, Within, FormedState}
 use Rattle.lines.specs.Lines.{listingText}
 use Rattle.lines.specs.Listing.{entries, listingOutcome, listingBuffer}
 
@@ -22,16 +21,3 @@ pub record Short : Type 0 where
   pub text : (st : State) (table : List ℕ) → Typed st → stateFormed st ≡ true → length (listingText (entries st table)) ≤ 58925
   pub reported : (st : State) (table buffer : List ℕ) → Typed st → (listingOutcome st table buffer) .first ≤ 58925
   pub same : (st : State) (table buffer : List ℕ) → Typed st → length (listingBuffer st table buffer) ≡ length buffer
-
--- From any state and table, whatever they hold. The table is lent to be read alone, and is the same after it.
-pub record ListingKeeps : Type 0 where
-  -- 01: "Every refusal returns the state as given, keeps the table and all octets .., and reports lengths 0 and 0"
-  pub refused :
-      (st : State) (table buffer : List ℕ) → ((listingOutcome st table buffer) .answer ≡ 0 → ⊥)
-      → Silent st table buffer (listingOutcome st table buffer) table (listingBuffer st table buffer)
-  -- 01: "none writes past the lengths it reports"
-  pub within : (st : State) (table buffer : List ℕ) → Within (listingOutcome st table buffer) buffer (listingBuffer st table buffer)
-  -- 01: "refused calls and listings change nothing"
-  pub state : (st : State) (table buffer : List ℕ) → (listingOutcome st table buffer) .state ≡ st
-  -- 01: "Every call keeps a state well formed."
-  pub formed : (st : State) (table buffer : List ℕ) → FormedState st → FormedState ((listingOutcome st table buffer) .state)

@@ -4,18 +4,19 @@ use mathlib.Core.Bool.{Bool, true, cond}
 use mathlib.Core.List.{List, [], map}
 use lib.Dec.{eqb}
 use Rattle.checks.specs.Lists.{join}
-use Rattle.state.specs.declared.Slot.{Slot}
 use Rattle.state.specs.declared.State.{State}
+use Rattle.state.specs.Slots.{slotAt}
+use Rattle.state.specs.Places.{rowCounts}
 use Rattle.lines.specs.Lines.{entryText}
 use Rattle.lines.specs.Listing.{entryOf, entries, listable}
 
 -- slot i's part of the text: none of a free slot's
-unfoldable pub slotText : ℕ → Slot → List ℕ → List ℕ
-slotText i slot table = cond (eqb (slot .address) 0) [] (entryText (entryOf i slot table))
+unfoldable pub slotText : State → ℕ → List ℕ → List ℕ
+slotText st i table = cond (eqb ((slotAt st i) .address) 0) [] (entryText (entryOf i (slotAt st i) table (rowCounts st)))
 
 -- whether slot i can be listed: a free one always
-unfoldable pub slotListable : ℕ → Slot → List ℕ → Bool
-slotListable i slot table = cond (eqb (slot .address) 0) true (listable (entryOf i slot table))
+unfoldable pub slotListable : State → ℕ → List ℕ → Bool
+slotListable st i table = cond (eqb ((slotAt st i) .address) 0) true (listable (entryOf i (slotAt st i) table (rowCounts st)))
 
 -- all used slots
 unfoldable pub slotsText : State → List ℕ → List ℕ

@@ -1,6 +1,5 @@
 // The call that lists the table as text.
 use state::Outcome;
-use state::Slot;
 use state::State;
 ghost use mathlib.Core.Path.{_≡_};
 ghost use mathlib.Core.Bool.{true};
@@ -31,14 +30,15 @@ fn are_rows_marked(rows: &[u32]) -> bool
 }
 
 // The same of the used rows of slot i.
-fn is_slot_listable(i: usize, slot: Slot, table: &[u32]) -> bool
-    requires { ⌜ (i < 8) × (slot .rows ≤ 128) × (length (now table) ≡ 3072) ⌝ }
-    ensures { λ r. ⌜ r ≡ slotListable i slot (now (table .entry)) ⌝ }
+fn is_slot_listable(st: State, i: usize, table: &[u32]) -> bool
+    requires { ⌜ (stateFormed st ≡ true) × (i < 8) × (length (now table) ≡ 3072) ⌝ }
+    ensures { λ r. ⌜ r ≡ slotListable st i (now (table .entry)) ⌝ }
 {
+    let slot = st.slots[i];
     if slot.address == 0 {
         return true;
     }
-    let start = i * 384;
+    let start = state::place(i);
     let end = start + 3 * slot.rows as usize;
     are_rows_marked(&table[start..end])
 }
@@ -49,8 +49,7 @@ fn are_slots_listable(st: State, table: &[u32]) -> bool
 {
     let mut i = 0;
     while i < state::SLOTS {
-        let slot = st.slots[i];
-        if !is_slot_listable(i, slot, table) {
+        if !is_slot_listable(st, i, table) {
             return false;
         }
         i += 1;
@@ -78,15 +77,16 @@ fn listing_answer(st: State, table: &[u32], octets: usize) -> u8
 }
 
 // Writes the lines of slot i, if it is used.
-fn put_slot(out: &mut [u8], at: usize, i: usize, slot: Slot, table: &[u32]) -> usize
-    requires { ⌜ (i < 8) × (slot .rows ≤ 128) × (length (now table) ≡ 3072) ⌝ }
-    requires { ⌜ at + length (slotText i slot (now table)) ≤ length (now out) ⌝ }
-    ensures { λ r. ⌜ Written (slotText i slot (now (table .entry))) at (now (out .entry)) (now (out .exit)) r ⌝ }
+fn put_slot(out: &mut [u8], at: usize, st: State, i: usize, table: &[u32]) -> usize
+    requires { ⌜ (stateFormed st ≡ true) × (i < 8) × (length (now table) ≡ 3072) ⌝ }
+    requires { ⌜ at + length (slotText st i (now table)) ≤ length (now out) ⌝ }
+    ensures { λ r. ⌜ Written (slotText st i (now (table .entry))) at (now (out .entry)) (now (out .exit)) r ⌝ }
 {
+    let slot = st.slots[i];
     if slot.address == 0 {
         return at;
     }
-    let from = i * 384;
+    let from = state::place(i);
     let to = from + 3 * slot.rows as usize;
     let rows = &table[from..to];
     let head = lines::put_head(out, at, i, slot, rows);
@@ -101,8 +101,7 @@ fn put_slots(out: &mut [u8], at: usize, st: State, table: &[u32]) -> usize
     let mut end = at;
     let mut i = 0;
     while i < state::SLOTS {
-        let slot = st.slots[i];
-        end = put_slot(out, end, i, slot, table);
+        end = put_slot(out, end, st, i, table);
         i += 1;
     }
     end

@@ -5,17 +5,17 @@ use mathlib.Core.Path.{_≡_, refl, sym, _∙_, ap, subst}
 use mathlib.Core.Bool.{Bool, true, false, not}
 use mathlib.Core.List.{List, [], _∷_, _++_, map}
 use lib.Dec.{eqb}
-use lib.ListN.{length, take, drop, getD, length-drop, length-map, take-append-drop}
+use lib.ListN.{length, take, drop, getD, length-drop, length-map, take-append-drop, List·getD-map}
 use lib.Seq.{length-take-le, drop-drop}
 use borrow.Author.Tests.{eqb-true}
 use Rattle.checks.specs.Lists.{every, join}
-use Rattle.nets.specs.Rows.{rowsOf, flat}
+use Rattle.nets.specs.Rows.{Row, rowsOf, flat}
 use Rattle.rows.specs.Storing.{zeros, padded}
 use Rattle.state.specs.declared.Slot as Stored
 use Rattle.state.specs.Slots.{freeSlot, slotAt}
+use Rattle.state.specs.Places.{rowCount, rowCounts, partAt, readRows}
 use Rattle.state.specs.Formed.{stateFormed}
 use Rattle.state.proofs.Theorems.{formed-slot, free-is-zero}
-use Rattle.calls.specs.Carried.{partAt}
 use Rattle.model.specs.Model.{Call, Slot, free, used, slotIn, modelFrom, saidFrom}
 use Rattle.model.specs.Theorem.{Gateway, gatewayFrom, seenFrom, cell, stateOf, rowsHeld, part, tableOf, shown, rowsAt, carriesOctets, listsNothing, unused, Sensible, Listable, peerFrom, slotFrom, slotsFrom, modelOf, FromAnyState}
 use Rattle.model.proofs.Represent.{sound, Good}
@@ -41,33 +41,34 @@ flat-back (a ∷ b ∷ []) k e = absurd (omega arith)
 flat-back (a ∷ b ∷ c ∷ l) zero e = absurd (omega arith)
 flat-back (a ∷ b ∷ c ∷ l) (suc k) e = ap (λ (r : List ℕ). a ∷ b ∷ c ∷ r) (flat-back l k (omega arith))
 
--- what is known of one slot and its part
-record Known (slot : Stored.Slot) (numbers : List ℕ) : Type 0 where
+-- what is known of one slot, its part and the rows read off it
+record Known (slot : Stored.Slot) (numbers : List ℕ) (rows : List Row) : Type 0 where
   is-free : slot .address ≡ 0 → slot ≡ freeSlot
   few : slot .rows ≤ 128
   whole : length numbers ≡ 384
   zeroed : drop (3 * slot .rows) numbers ≡ zeros (384 - 3 * slot .rows)
+  read : rows ≡ rowsOf (take (3 * slot .rows) numbers)
 
-module _ (slot : Stored.Slot) (numbers : List ℕ) (k : Known slot numbers) where
+module _ (slot : Stored.Slot) (numbers : List ℕ) (rows : List Row) (k : Known slot numbers rows) where
   front : length (take (3 * slot .rows) numbers) ≡ 3 * slot .rows
   front = length-take-le (3 * slot .rows) numbers (omega (arith, k .few, k .whole))
 
-  slot-free : slot .address ≡ 0 → slotFrom slot numbers ≡ free
+  slot-free : slot .address ≡ 0 → slotFrom slot rows ≡ free
   unfolding slotFrom
   slot-free e = rw e
 
-  slot-used : eqb (slot .address) 0 ≡ false → slotFrom slot numbers ≡ used (peerFrom slot (rowsOf (take (3 * slot .rows) numbers)))
+  slot-used : eqb (slot .address) 0 ≡ false → slotFrom slot rows ≡ used (peerFrom slot rows)
   unfolding slotFrom
   slot-used e = rw e
 
-  cell-back : cell (slotFrom slot numbers) ≡ slot
+  cell-back : cell (slotFrom slot rows) ≡ slot
   unfolding cell
   cell-back = go (eqb (slot .address) 0) refl
     where
-      go : (b : Bool) → eqb (slot .address) 0 ≡ b → cell (slotFrom slot numbers) ≡ slot
+      go : (b : Bool) → eqb (slot .address) 0 ≡ b → cell (slotFrom slot rows) ≡ slot
       go true e = ap cell (slot-free (eqb-true (slot .address) 0 e)) ∙ sym (k .is-free (eqb-true (slot .address) 0 e))
       go false e =
-          let c = rows-count (take (3 * slot .rows) numbers) (slot .rows) front in
+          let c : length rows ≡ slot .rows = ap length (k .read) ∙ rows-count (take (3 * slot .rows) numbers) (slot .rows) front in
           ap cell (slot-used e) ∙ (λ i. record { address = slot .address; asn = slot .asn; neighbour = slot .neighbour; rows = c i })
 
   no-count : slot .address ≡ 0 → slot .rows ≡ 0
@@ -81,23 +82,23 @@ module _ (slot : Stored.Slot) (numbers : List ℕ) (k : Known slot numbers) wher
   unfolding part rowsHeld padded flat
   free-part = refl
 
-  used-part : part (used (peerFrom slot (rowsOf (take (3 * slot .rows) numbers)))) ≡ numbers
+  used-part : part (used (peerFrom slot rows)) ≡ numbers
   unfolding part rowsHeld padded
   used-part =
-      rw (flat-back (take (3 * slot .rows) numbers) (slot .rows) front, front, ← (k .zeroed)) (take-append-drop (3 * slot .rows) numbers)
+      rw (k .read, flat-back (take (3 * slot .rows) numbers) (slot .rows) front, front, ← (k .zeroed)) (take-append-drop (3 * slot .rows) numbers)
 
-  part-back : part (slotFrom slot numbers) ≡ numbers
+  part-back : part (slotFrom slot rows) ≡ numbers
   part-back = go (eqb (slot .address) 0) refl
     where
-      go : (b : Bool) → eqb (slot .address) 0 ≡ b → part (slotFrom slot numbers) ≡ numbers
+      go : (b : Bool) → eqb (slot .address) 0 ≡ b → part (slotFrom slot rows) ≡ numbers
       go true e = ap part (slot-free (eqb-true (slot .address) 0 e)) ∙ free-part ∙ sym (all-zero (eqb-true (slot .address) 0 e))
       go false e = ap part (slot-used e) ∙ used-part
 
-  sound-back : sound (slotFrom slot numbers) ≡ true
+  sound-back : sound (slotFrom slot rows) ≡ true
   unfolding sound
   sound-back = go (eqb (slot .address) 0) refl
     where
-      go : (b : Bool) → eqb (slot .address) 0 ≡ b → sound (slotFrom slot numbers) ≡ true
+      go : (b : Bool) → eqb (slot .address) 0 ≡ b → sound (slotFrom slot rows) ≡ true
       go true e = ap sound (slot-free (eqb-true (slot .address) 0 e))
       go false e = ap sound (slot-used e) ∙ ap not e
 
@@ -106,64 +107,81 @@ unfolding every
 every-below p [] d h = refl
 every-below p (x ∷ xs) d h = rw (h 0 (omega arith)) (every-below p xs d (λ i q. h (suc i) (omega (arith, q))))
 
--- ---- slot by slot
+-- ---- slot by slot, from index k on
 
-abbrev AllKnown : List Stored.Slot → List ℕ → Type 0
-AllKnown slots table = (i : ℕ) → i < length slots → Known (getD slots i freeSlot) (take 384 (drop (i * 384) table))
+module _ (table counts : List ℕ) where
+  abbrev AllKnown : ℕ → List Stored.Slot → Type 0
+  AllKnown k slots = (i : ℕ) → i < length slots → Known (getD slots i freeSlot) (partAt table (k + i)) (readRows table counts (k + i))
 
-known-tail : (slot : Stored.Slot) (rest : List Stored.Slot) (table : List ℕ) → AllKnown (slot ∷ rest) table → AllKnown rest (drop 384 table)
-known-tail slot rest table h i l =
-    let n : 384 + i * 384 ≡ suc i * 384 = omega arith in
-    let e : drop (i * 384) (drop 384 table) ≡ drop (suc i * 384) table = drop-drop (i * 384) 384 table ∙ ap (λ (k : ℕ). drop k table) n in
-    subst (λ (t : List ℕ). Known (getD rest i freeSlot) (take 384 t)) (sym e) (h (suc i) (omega (arith, l)))
+  module _ (k : ℕ) (slot : Stored.Slot) (rest : List Stored.Slot) (h : AllKnown k (slot ∷ rest)) where
+    known-tail : AllKnown (suc k) rest
+    known-tail i l =
+        let e : k + suc i ≡ suc k + i = omega arith in
+        subst (λ (n : ℕ). Known (getD rest i freeSlot) (partAt table n) (readRows table counts n)) e (h (suc i) (omega (arith, l)))
 
-known-head : (slot : Stored.Slot) (rest : List Stored.Slot) (table : List ℕ) → AllKnown (slot ∷ rest) table → Known slot (take 384 table)
-known-head slot rest table h = h 0 (omega arith)
+    known-head : Known slot (partAt table k) (readRows table counts k)
+    known-head =
+        let e : k + 0 ≡ k = omega arith in
+        subst (λ (n : ℕ). Known slot (partAt table n) (readRows table counts n)) e (h 0 (omega arith))
 
-slots-back : (slots : List Stored.Slot) (table : List ℕ) → AllKnown slots table → map cell (slotsFrom slots table) ≡ slots
-unfolding slotsFrom
-slots-back [] table h = refl
-slots-back (slot ∷ rest) table h =
-    rw (cell-back slot (take 384 table) (known-head slot rest table h))
-    (ap (λ (l : List Stored.Slot). slot ∷ l) (slots-back rest (drop 384 table) (known-tail slot rest table h)))
+  slots-back : (k : ℕ) (slots : List Stored.Slot) → AllKnown k slots → map cell (slotsFrom k slots table counts) ≡ slots
+  unfolding slotsFrom
+  slots-back k [] h = refl
+  slots-back k (slot ∷ rest) h =
+      rw (cell-back slot (partAt table k) (readRows table counts k) (known-head k slot rest h))
+      (ap (λ (l : List Stored.Slot). slot ∷ l) (slots-back (suc k) rest (known-tail k slot rest h)))
 
-parts-back : (slots : List Stored.Slot) (table : List ℕ) → AllKnown slots table → length table ≡ length slots * 384 → join (map part (slotsFrom slots table)) ≡ table
-unfolding slotsFrom join
-parts-back [] table h e = sym (nothing table e)
-  where
-    nothing : (l : List ℕ) → length l ≡ 0 → l ≡ []
-    nothing [] q = refl
-    nothing (x ∷ xs) q = absurd (omega arith)
-parts-back (slot ∷ rest) table h e =
-    rw (part-back slot (take 384 table) (known-head slot rest table h))
-    (ap (λ (l : List ℕ). take 384 table ++ l) (parts-back rest (drop 384 table) (known-tail slot rest table h) (length-drop 384 table ∙ omega (arith, e)))
-    ∙ take-append-drop 384 table)
+  -- the parts from index k on are the table from there
+  parts-back : (k : ℕ) (slots : List Stored.Slot) → AllKnown k slots → length table ≡ (k + length slots) * 384
+      → join (map part (slotsFrom k slots table counts)) ≡ drop (k * 384) table
+  unfolding slotsFrom join partAt
+  parts-back k [] h e = sym (nothing (drop (k * 384) table) (length-drop (k * 384) table ∙ omega (arith, e)))
+    where
+      nothing : (l : List ℕ) → length l ≡ 0 → l ≡ []
+      nothing [] q = refl
+      nothing (x ∷ xs) q = absurd (omega arith)
+  parts-back k (slot ∷ rest) h e =
+      let n : k * 384 + 384 ≡ suc k * 384 = omega arith in
+      let d : drop 384 (drop (k * 384) table) ≡ drop (suc k * 384) table = drop-drop 384 (k * 384) table ∙ ap (λ (j : ℕ). drop j table) n in
+      rw (part-back slot (partAt table k) (readRows table counts k) (known-head k slot rest h))
+      (ap (λ (l : List ℕ). take 384 (drop (k * 384) table) ++ l) (parts-back (suc k) rest (known-tail k slot rest h) (e ∙ omega arith) ∙ sym d)
+      ∙ take-append-drop 384 (drop (k * 384) table))
 
-sounds-back : (slots : List Stored.Slot) (table : List ℕ) → AllKnown slots table → every sound (slotsFrom slots table) ≡ true
-unfolding slotsFrom every
-sounds-back [] table h = refl
-sounds-back (slot ∷ rest) table h =
-    rw (sound-back slot (take 384 table) (known-head slot rest table h)) (sounds-back rest (drop 384 table) (known-tail slot rest table h))
+  sounds-back : (k : ℕ) (slots : List Stored.Slot) → AllKnown k slots → every sound (slotsFrom k slots table counts) ≡ true
+  unfolding slotsFrom every
+  sounds-back k [] h = refl
+  sounds-back k (slot ∷ rest) h =
+      rw (sound-back slot (partAt table k) (readRows table counts k) (known-head k slot rest h)) (sounds-back (suc k) rest (known-tail k slot rest h))
 
 module _ (b : Gateway) (s : Sensible b) where
-  known : AllKnown (b .state .slots) (b .table)
-  unfolding unused slotAt partAt
-  known i h =
+  count-is : (i : ℕ) → getD (rowCounts (b .state)) i 0 ≡ (getD (b .state .slots) i freeSlot) .rows
+  unfolding rowCounts freeSlot
+  count-is i = List·getD-map rowCount (b .state .slots) i freeSlot
+
+  known-at : (i : ℕ) → i < length (b .state .slots) → Known (getD (b .state .slots) i freeSlot) (partAt (b .table) i) (readRows (b .table) (rowCounts (b .state)) i)
+  unfolding unused slotAt partAt readRows
+  known-at i h =
       let i8 : i < 8 = omega (arith, h, s .eight) in
       record {
         is-free = λ e. free-is-zero (b .state) i (s .formed) e;
         few = formed-slot (b .state) i (s .formed) .1 .few;
         whole = length-take-le 384 (drop (i * 384) (b .table)) (rw (length-drop (i * 384) (b .table)) (omega (arith, i8, s .long)));
         zeroed = s .zero-unused i i8;
+        read = rw (count-is i);
       }
+
+  known : AllKnown (b .table) (rowCounts (b .state)) 0 (b .state .slots)
+  known i h =
+      let e : 0 + i ≡ i = omega arith in
+      subst (λ (n : ℕ). Known (getD (b .state .slots) i freeSlot) (partAt (b .table) n) (readRows (b .table) (rowCounts (b .state)) n)) (sym e) (known-at i h)
 
   pub state-back : stateOf (modelOf b) ≡ b .state
   unfolding stateOf modelOf
-  state-back = let e = slots-back (b .state .slots) (b .table) known in λ i. record { settings = b .state .settings; slots = e i }
+  state-back = let e = slots-back (b .table) (rowCounts (b .state)) 0 (b .state .slots) known in λ i. record { settings = b .state .settings; slots = e i }
 
   pub table-back : tableOf (modelOf b) ≡ b .table
   unfolding tableOf modelOf
-  table-back = parts-back (b .state .slots) (b .table) known (omega (arith, s .eight, s .long))
+  table-back = parts-back (b .table) (rowCounts (b .state)) 0 (b .state .slots) known (omega (arith, s .eight, s .long))
 
   pub model-back : represent (modelOf b) ≡ b
   unfolding represent
@@ -172,11 +190,11 @@ module _ (b : Gateway) (s : Sensible b) where
   eight-back : length ((modelOf b) .slots) ≡ 8
   unfolding modelOf
   eight-back =
-      sym (length-map (slotsFrom (b .state .slots) (b .table)) cell) ∙ ap length (slots-back (b .state .slots) (b .table) known) ∙ s .eight
+      sym (length-map (slotsFrom 0 (b .state .slots) (b .table) (rowCounts (b .state))) cell) ∙ ap length (slots-back (b .table) (rowCounts (b .state)) 0 (b .state .slots) known) ∙ s .eight
 
   sounds : every sound ((modelOf b) .slots) ≡ true
   unfolding modelOf
-  sounds = sounds-back (b .state .slots) (b .table) known
+  sounds = sounds-back (b .table) (rowCounts (b .state)) 0 (b .state .slots) known
 
   pub good-back : Good (modelOf b)
   good-back = record { eight = eight-back; each = sounds; formed = ap stateFormed state-back ∙ s .formed }

@@ -26,11 +26,11 @@ use Rattle.machine.specs.Intrinsics.{Intrinsic, asEvent}
 use Rattle.machine.specs.Step.{stepOf}
 use Rattle.state.specs.declared.Slot as Stored
 use Rattle.state.specs.Slots.{freeSlot}
+use Rattle.state.specs.Places.{partAt}
 use Rattle.state.proofs.Theorems.{slot-unique}
-use Rattle.calls.specs.Carried.{partAt}
 use Rattle.calls.specs.Home.{goodHome}
 use Rattle.claims.proofs.Others.{others-untouched}
-use Rattle.claims.proofs.Verdicts.{is-up}
+use Rattle.claims.proofs.Calls.{is-up}
 use Rattle.model.specs.Model.{Call, add, remove, happen, start, stop, tick, receive, listing, Slot, free, used, Model, slotIn, placeOf, noOctets, messageMove, eventTurn, step, model, modelFrom, Peer}
 use Rattle.model.specs.History.{isUpSlot, accepts, upAfter, told, lastFrom, lastAccepted, isAbout, isElsewhere}
 use Rattle.model.specs.Theorem.{Gateway, outcomeOf, gatewayStep, gatewayFrom, run, cell, stateOf, rowsHeld, part, tableOf, rowsAt, listsNothing, unused, Sensible, peerFrom, modelOf}
@@ -329,15 +329,15 @@ closed-whatever-by = from-model (λ b. (i j net : ℕ) → BothReport b i j net 
 module _ (event : Intrinsic) (b : Gateway) (a : ℕ) (buffer : List ℕ) (j : ℕ) where
   event-address : (slotOn (gatewayStep (happen event a buffer) b) j) .address ≡ (slotOn b j) .address
   unfolding gatewayStep outcomeOf
-  event-address = others-untouched .events (asEvent event) (b .state) (b .table) buffer a .addresses j
+  event-address = others-untouched .events event (b .state) (b .table) buffer a .addresses j
 
   event-asn : (slotOn (gatewayStep (happen event a buffer) b) j) .asn ≡ (slotOn b j) .asn
   unfolding gatewayStep outcomeOf
-  event-asn = others-untouched .events (asEvent event) (b .state) (b .table) buffer a .asns j
+  event-asn = others-untouched .events event (b .state) (b .table) buffer a .asns j
 
   event-settings : (gatewayStep (happen event a buffer) b) .state .settings ≡ b .state .settings
   unfolding gatewayStep outcomeOf
-  event-settings = others-untouched .events (asEvent event) (b .state) (b .table) buffer a .settings
+  event-settings = others-untouched .events event (b .state) (b .table) buffer a .settings
 
 -- what a message says to a slot is told by the settings and the slot's AS alone
 says-on : (b c : Gateway) (j : ℕ) (o home buffer : List ℕ) (x : Message) → c .state .settings ≡ b .state .settings → (slotOn c j) .asn ≡ (slotOn b j) .asn

@@ -21,48 +21,50 @@ use Rattle.neighbour.specs.Record.{isUp}
 use Rattle.machine.specs.Intrinsics.{Intrinsic, asEvent}
 use Rattle.machine.specs.Step.{stepOf}
 use Rattle.state.specs.Slots.{freeSlot}
+use Rattle.state.specs.Places.{rowCounts, readRows}
 use Rattle.state.specs.Formed.{stateFormed}
 use Rattle.state.proofs.ListLaws.{every-set, every-getD}
-use Rattle.calls.specs.Carried.{partAt}
-use Rattle.calls.specs.Calls.{tableFits}
+use Rattle.calls.specs.Calls.{tableFits, lentChecks}
 use Rattle.lines.specs.Lines.{Entry, entryFor}
-use Rattle.lines.specs.Listing.{usedRows, entryOf, entriesFrom, entries, markedRow, listable, listingChecks}
+use Rattle.lines.specs.Listing.{entryOf, entriesFrom, entries, markedRow, listable, listingChecks}
 use Rattle.model.specs.Model.{Call, add, remove, happen, receive, listing, Peer, Slot, free, used, Model, slotIn, put, addTurn, removeTurn, noOctets, noMove, rowsIn, moved, eventMove, isUpdate, answerTo, afterMessage, rowsAfter, messageMove, turnAt, eventTurn, messageTurn, listedFrom, listed, listingAnswer, listingTurn, step, placeOf, newPeer, refusedMove}
 use Rattle.model.specs.Theorem.{isOctet, carriesOctets, cell, stateOf, rowsHeld, tableOf}
-use Rattle.model.proofs.Represent.{sound, Good, table-length, part-of, read-back}
+use Rattle.model.proofs.Represent.{sound, Good, table-length, read-of}
 use Rattle.model.proofs.Marked.{update-marks}
 
 -- ---- the entries
 
-unfoldable ReadsBack : List ℕ → ℕ → List Slot → Type 0
-ReadsBack table k l = (i : ℕ) → i < length l → usedRows (cell (getD l i free)) (partAt table (k + i)) ≡ rowsHeld (getD l i free)
+-- the rows of each of these slots, the first of which has index k, are read off the table
+unfoldable ReadsBack : List ℕ → List ℕ → ℕ → List Slot → Type 0
+ReadsBack table counts k l = (i : ℕ) → i < length l → readRows table counts (k + i) ≡ rowsHeld (getD l i free)
 
-reads-next : (table : List ℕ) (k : ℕ) (slot : Slot) (l : List Slot) → ReadsBack table k (slot ∷ l) → ReadsBack table (suc k) l
+reads-next : (table counts : List ℕ) (k : ℕ) (slot : Slot) (l : List Slot) → ReadsBack table counts k (slot ∷ l) → ReadsBack table counts (suc k) l
 unfolding ReadsBack
-reads-next table k slot l h i q =
+reads-next table counts k slot l h i q =
     let e : k + suc i ≡ suc k + i = omega arith in
-    subst (λ (n : ℕ). usedRows (cell (getD l i free)) (partAt table n) ≡ rowsHeld (getD l i free)) e (h (suc i) (omega (arith, q)))
+    subst (λ (n : ℕ). readRows table counts n ≡ rowsHeld (getD l i free)) e (h (suc i) (omega (arith, q)))
 
-reads-here : (table : List ℕ) (k : ℕ) (slot : Slot) (l : List Slot) → ReadsBack table k (slot ∷ l) → usedRows (cell slot) (partAt table k) ≡ rowsHeld slot
+reads-here : (table counts : List ℕ) (k : ℕ) (slot : Slot) (l : List Slot) → ReadsBack table counts k (slot ∷ l) → readRows table counts k ≡ rowsHeld slot
 unfolding ReadsBack
-reads-here table k slot l h =
+reads-here table counts k slot l h =
     let e : k + 0 ≡ k = omega arith in
-    subst (λ (n : ℕ). usedRows (cell slot) (partAt table n) ≡ rowsHeld slot) e (h 0 (omega arith))
+    subst (λ (n : ℕ). readRows table counts n ≡ rowsHeld slot) e (h 0 (omega arith))
 
-entry-is : (table : List ℕ) (k : ℕ) (peer : Peer) → usedRows (cell (used peer)) (partAt table k) ≡ peer .rows
-    → entryOf k (cell (used peer)) table ≡ entryFor k (peer .address) (peer .asn) (peer .neighbour) (peer .rows)
+entry-is : (table counts : List ℕ) (k : ℕ) (peer : Peer) → readRows table counts k ≡ peer .rows
+    → entryOf k (cell (used peer)) table counts ≡ entryFor k (peer .address) (peer .asn) (peer .neighbour) (peer .rows)
 unfolding entryOf cell
-entry-is table k peer e = ap (entryFor k (peer .address) (peer .asn) (peer .neighbour)) e
+entry-is table counts k peer e = ap (entryFor k (peer .address) (peer .asn) (peer .neighbour)) e
 
-listed-from : (table : List ℕ) (k : ℕ) (l : List Slot) → every sound l ≡ true → ReadsBack table k l → entriesFrom k (map cell l) table ≡ listedFrom k l
+listed-from : (table counts : List ℕ) (k : ℕ) (l : List Slot) → every sound l ≡ true → ReadsBack table counts k l
+    → entriesFrom k (map cell l) table counts ≡ listedFrom k l
 unfolding entriesFrom listedFrom every sound cell freeSlot rowsHeld
-listed-from table k [] s h = refl
-listed-from table k (free ∷ l) s h = listed-from table (suc k) l s (reads-next table k free l h)
-listed-from table k (used peer ∷ l) s h =
+listed-from table counts k [] s h = refl
+listed-from table counts k (free ∷ l) s h = listed-from table counts (suc k) l s (reads-next table counts k free l h)
+listed-from table counts k (used peer ∷ l) s h =
     let slot = used peer in
-    rw (not-true (eqb (peer .address) 0) (and-left (sound slot) (every sound l) s), entry-is table k peer (reads-here table k slot l h))
+    rw (not-true (eqb (peer .address) 0) (and-left (sound slot) (every sound l) s), entry-is table counts k peer (reads-here table counts k slot l h))
     (ap (λ (r : List Entry). entryFor k (peer .address) (peer .asn) (peer .neighbour) (peer .rows) ∷ r)
-    (listed-from table (suc k) l (and-right (sound slot) (every sound l) s) (reads-next table k slot l h)))
+    (listed-from table counts (suc k) l (and-right (sound slot) (every sound l) s) (reads-next table counts k slot l h)))
 
 -- ---- the rows
 
@@ -83,19 +85,19 @@ listed-marks k (used peer ∷ l) e =
     (and-left (marked slot) (every marked l) e) (listed-marks (suc k) l (and-right (marked slot) (every marked l) e))
 
 module _ (m : Model) (ok : Good m) where
-  reads-back : ReadsBack (tableOf m) 0 (m .slots)
-  unfolding ReadsBack usedRows slotIn
+  reads-back : ReadsBack (tableOf m) (rowCounts (stateOf m)) 0 (m .slots)
+  unfolding ReadsBack slotIn
   reads-back i q =
       let i8 : i < 8 = omega (arith, q, ok .eight) in
       let z : 0 + i ≡ i = omega arith in
-      rw (z, part-of m ok i i8) (read-back (slotIn m i))
+      rw z (read-of m ok i i8)
 
   pub entries-of : entries (stateOf m) (tableOf m) ≡ listed m
   unfolding entries listed stateOf
-  entries-of = listed-from (tableOf m) 0 (m .slots) (ok .each) reads-back
+  entries-of = listed-from (tableOf m) (rowCounts (stateOf m)) 0 (m .slots) (ok .each) reads-back
 
   pub listing-answer : Marked m → (buffer : List ℕ) → listingChecks (stateOf m) (tableOf m) buffer ≡ listingAnswer buffer
-  unfolding listingChecks listingAnswer listed check
+  unfolding listingChecks lentChecks listingAnswer listed check
   listing-answer k buffer =
       check-holds (stateFormed (stateOf m)) 1 _ (ok .formed)
       ∙ check-holds (tableFits (tableOf m) && every listable (entries (stateOf m) (tableOf m))) 2 _

@@ -1,45 +1,42 @@
--- The gateway's verdict on one neighbour and the model's move of one slot. Assumes nothing.
+-- The gateway's ruling on one neighbour and the model's move of one slot. Assumes nothing.
 use Prim.Native.Nat.{ℕ}
 use native.Mathlib.Omega.{arith}
 use mathlib.Core.Path.{_≡_, refl, sym, _∙_, ap}
 use mathlib.Core.Bool.{Bool, true, false, cond, not, _&&_}
 use mathlib.Core.List.{List, [], _∷_}
-use lib.Dec.{leb, eqb}
-use lib.ListN.{length, getD}
-use borrow.Author.Tests.{eqb-false}
+use lib.Dec.{eqb}
+use lib.ListN.{length}
+use borrow.Author.Tests.{ne-eqb}
 use Rattle.neighbour.specs.Record.{isUp}
-use Rattle.checks.proofs.Laws.{cond-elim}
 use Rattle.checks.specs.Checks.{check, ifOk}
-use Rattle.octets.specs.Numbers.{word16}
-use Rattle.octets.specs.Checksum.{checksumOf}
 use Rattle.nets.specs.Rows.{Row, flat}
+use Rattle.message.specs.Kinds.{kindOf}
+use Rattle.message.specs.declared.Kind.the-variants as K
 use Rattle.message.specs.declared.Message.{Message}
-use Rattle.message.specs.declared.Message.the-variants.{Request, Confirm, Refuse, Cease, CeaseAck, Hello, IHeardYou, Poll, Update, Error}
-use Rattle.wire.specs.Reading.{headerAnswer, asnAt, decodeOf}
-use Rattle.wire.specs.Reading as Wire
+use Rattle.wire.specs.Reading.{headerAnswer, asnAt, kindIn, decodeOf}
 use Rattle.wire.specs.declared.Decoded.{Decoded}
 use Rattle.wire.specs.declared.Decoded.the-variants as D
 use Rattle.walk.specs.Body.{UpdateRead, accepted, brokenAt, tooMany, updateOf, rowsRead}
 use Rattle.walk.specs.Body as Body
-use Rattle.rows.specs.Storing.{zeros, padded}
+use Rattle.rows.specs.Storing.{padded}
 use Rattle.neighbour.specs.declared.Phase.{Phase}
 use Rattle.neighbour.specs.declared.Settings.{Settings}
-use Rattle.neighbour.specs.Rules.{inSequence}
+use Rattle.neighbour.specs.declared.Neighbour.{Neighbour}
+use Rattle.neighbour.specs.Rules.{same, inSequence}
 use Rattle.machine.specs.declared.Event.the-variants.{Received}
 use Rattle.machine.specs.Intrinsics.{Intrinsic, asEvent}
 use Rattle.machine.specs.declared.Reply.{Reply}
-use Rattle.machine.specs.declared.Reply.the-variants.{Nothing}
 use Rattle.machine.specs.declared.After.{After}
 use Rattle.machine.specs.Step.{stepOf}
-use Rattle.machine.proofs.Theorems.{update-stays-up}
 use Rattle.state.specs.Claims.{SlotGood}
-use Rattle.calls.specs.declared.Effect.{Effect}
-use Rattle.calls.specs.declared.Effect.the-variants.{Keep, Clear, Replace}
-use Rattle.calls.specs.declared.Verdict.{Verdict}
-use Rattle.calls.specs.Verdict.{effectOf, stepped, refuses, headAt, errorTo, refuseTo, updateVerdict, carriedOut, phaseVerdict, bodyVerdict, kindVerdict, receiveVerdict}
+use Rattle.calls.specs.Number.{bringsRows, bodyNumber, messageNumber, headAt, errorTo, refuseTo, namedReply}
+use Rattle.calls.specs.Ruling.{Change, keep, clear, replace, Ruling, leaving, stepped, refuses, changeBy, carriedOut, receiveRuling}
+use Rattle.calls.specs.Ruling as Ruled
 use Rattle.calls.specs.Carried.{countAfter, slotAfter}
 use Rattle.calls.specs.Calls.{noHead}
-use Rattle.claims.proofs.Verdicts.{is-up}
+use Rattle.calls.proofs.Number.{meaningNumber, kindNumber, message-number, NumberPassed, number-passed}
+use Rattle.calls.proofs.Rulings.{receive-holds}
+use Rattle.claims.proofs.Calls.{after-up}
 use Rattle.model.specs.Model.{Slot, used, Move, rowsIn, moved, noOctets, eventMove, bodyAnswer, isUpdate, kindAnswer, answerTo, firstTwelve, errorReply, refuseReply, refusalReply, afterMessage, rowsAfter, messageMove, Peer, peerWith, refusedMove}
 use Rattle.model.specs.Theorem.{cell, rowsHeld, part}
 
@@ -47,203 +44,145 @@ pub no-rows : (rows : List Row) → length rows ≡ 0 → rows ≡ []
 no-rows [] e = refl
 no-rows (x ∷ xs) e = absurd (omega arith)
 
--- a slot's rows and its part of the table, by the effect of a verdict; an Update brought the rows read
-unfoldable pub rowsFrom : Effect → List Row → List Row → List Row
-rowsFrom Keep rows read = rows
-rowsFrom Clear rows read = []
-rowsFrom (Replace count) rows read = read
+-- a slot's rows and its part of the table, by what becomes of them
+unfoldable pub rowsFrom : Change → List Row → List Row
+rowsFrom keep rows = rows
+rowsFrom clear rows = []
+rowsFrom (replace new) rows = new
 
-unfoldable pub partFrom : Effect → List ℕ → List Row → List ℕ
-partFrom Keep old read = old
-partFrom Clear old read = zeros 384
-partFrom (Replace count) old read = padded 384 (flat read)
+unfoldable pub partFrom : Change → List ℕ → List ℕ
+partFrom keep old = old
+partFrom clear old = padded 384 (flat [])
+partFrom (replace new) old = padded 384 (flat new)
 
--- the verdict on what a slot is shown as, and the move of the slot
-pub record Agrees (old : Slot) (v : Verdict) (read : List Row) (move : Move) : Type 0 where
-  pub answer : v .answer ≡ move .answer
-  pub reply : v .reply ≡ move .reply
-  pub cell-is : slotAfter (cell old) v ≡ cell (move .slot)
-  pub part-is : part (move .slot) ≡ partFrom (v .effect) (part old) read
+-- the ruling on what a slot is shown as, and the move of the slot
+pub record Agrees (old : Slot) (x : Ruling) (move : Move) : Type 0 where
+  pub answer : x .answer ≡ move .answer
+  pub reply : x .reply ≡ move .reply
+  pub cell-is : slotAfter (cell old) x ≡ cell (move .slot)
+  pub part-is : part (move .slot) ≡ partFrom (x .change) (part old)
 
-empty-part : padded 384 (flat []) ≡ zeros 384
-unfolding padded flat
-empty-part = refl
-
-part-from : (effect : Effect) (rows read : List Row) → padded 384 (flat (rowsFrom effect rows read)) ≡ partFrom effect (padded 384 (flat rows)) read
+part-from : (change : Change) (rows : List Row) → padded 384 (flat (rowsFrom change rows)) ≡ partFrom change (padded 384 (flat rows))
 unfolding rowsFrom partFrom
-part-from Keep rows read = refl
-part-from Clear rows read = empty-part
-part-from (Replace count) rows read = refl
+part-from keep rows = refl
+part-from clear rows = refl
+part-from (replace new) rows = refl
 
-agrees : (peer : Peer) (v : Verdict) (read : List Row) (move : Move)
-    → v .answer ≡ move .answer → v .reply ≡ move .reply
-    → move .slot ≡ used (peerWith peer (v .neighbour) (rowsFrom (v .effect) (peer .rows) read))
-    → countAfter (length (peer .rows)) (v .effect) ≡ length (rowsFrom (v .effect) (peer .rows) read)
-    → Agrees (used peer) v read move
+count-from : (change : Change) (rows : List Row) → countAfter (length rows) change ≡ length (rowsFrom change rows)
+unfolding rowsFrom countAfter
+count-from keep rows = refl
+count-from clear rows = refl
+count-from (replace new) rows = refl
+
+agrees : (peer : Peer) (x : Ruling) (move : Move)
+    → x .answer ≡ move .answer → x .reply ≡ move .reply
+    → move .slot ≡ used (peerWith peer (x .neighbour) (rowsFrom (x .change) (peer .rows)))
+    → Agrees (used peer) x move
 unfolding slotAfter cell part rowsHeld
-agrees peer v read move a r s c =
+agrees peer x move a r s =
     record {
       answer = a;
       reply = r;
-      cell-is = rw (s, c);
-      part-is = rw s (part-from (v .effect) (peer .rows) read);
+      cell-is = rw (s, count-from (x .change) (peer .rows));
+      part-is = rw s (part-from (x .change) (peer .rows));
     }
 
 -- ---- a step of the machine
 
-rows-step : (before now : Phase) (rows read : List Row) → (isUp before ≡ false → length rows ≡ 0) → rowsIn now rows ≡ rowsFrom (effectOf before now) rows read
-unfolding rowsIn effectOf rowsFrom
-rows-step before now rows read none = go (isUp before) refl (isUp now) refl
+rows-step : (before now : Phase) (rows : List Row) → (isUp before ≡ false → length rows ≡ 0) → rowsIn now rows ≡ rowsFrom (leaving before now) rows
+unfolding rowsIn leaving rowsFrom
+rows-step before now rows none = go (isUp before) refl (isUp now) refl
   where
-    go : (b : Bool) → isUp before ≡ b → (c : Bool) → isUp now ≡ c → cond (isUp now) rows [] ≡ rowsFrom (cond (isUp before && not (isUp now)) Clear Keep) rows read
+    go : (b : Bool) → isUp before ≡ b → (c : Bool) → isUp now ≡ c → cond (isUp now) rows [] ≡ rowsFrom (cond (isUp before && not (isUp now)) clear keep) rows
     go true e true f = rw (e, f)
     go true e false f = rw (e, f)
     go false e true f = rw (e, f)
     go false e false f = rw (e, f) (sym (no-rows rows (none e)))
 
-count-step : (before now : Phase) (rows read : List Row) → countAfter (length rows) (effectOf before now) ≡ length (rowsFrom (effectOf before now) rows read)
-unfolding effectOf rowsFrom countAfter
-count-step before now rows read = go (isUp before && not (isUp now))
-  where
-    go : (b : Bool) → countAfter (length rows) (cond b Clear Keep) ≡ length (rowsFrom (cond b Clear Keep) rows read)
-    go true = refl
-    go false = refl
+-- ---- the number and the reply of a message: the model's own rules beside the gateway's
+
+body-same : (u : UpdateRead) → Body.numberOf u ≡ bodyAnswer u
+unfolding Body.numberOf bodyAnswer
+body-same (accepted rows) = refl
+body-same (brokenAt offset) = refl
+body-same tooMany = refl
+
+kind-same : (g : Settings) (n : Neighbour) (o : List ℕ) (d : Decoded) → kindNumber 128 g n o d ≡ kindAnswer g n o d
+unfolding kindNumber meaningNumber kindAnswer isUpdate bodyNumber
+kind-same g n o (D.Good m) = rw (body-same (updateOf 128 (g .net) o))
+kind-same g n o D.UnknownKind = refl
+kind-same g n o D.BadStatus = refl
+kind-same g n o D.BadLength = refl
+
+number-same : (g : Settings) (asn : ℕ) (n : Neighbour) (o : List ℕ) → messageNumber 128 g asn n o ≡ answerTo g asn n o
+unfolding answerTo
+number-same g asn n o =
+    message-number 128 g n o asn
+    ∙ ap (λ (k : ℕ). ifOk (headerAnswer o) (check (eqb (asnAt o) asn) 9 k) (headerAnswer o)) (kind-same g n o (decodeOf o))
+
+reply-same : (g : Settings) (n : Neighbour) (o : List ℕ) (k : ℕ) → namedReply g n o k ≡ refusalReply g n o k
+unfolding namedReply refusalReply refuseTo refuseReply errorTo errorReply headAt firstTwelve
+reply-same g n o k = refl
+
+after-same : (g : Settings) (asn : ℕ) (n : Neighbour) (o : List ℕ) (d : Decoded) → Ruled.afterMessage g asn n o d ≡ afterMessage g asn n o d
+unfolding Ruled.afterMessage afterMessage headAt firstTwelve
+after-same g asn n o (D.Good m) = refl
+after-same g asn n o D.UnknownKind = refl
+after-same g asn n o D.BadStatus = refl
+after-same g asn n o D.BadLength = refl
 
 module _ (peer : Peer) (good : SlotGood (cell (used peer))) where
   none-unless-up : isUp (peer .neighbour .phase) ≡ false → length (peer .rows) ≡ 0
   unfolding cell
   none-unless-up e = good .none e
 
-  stepped-agrees : (after : After) (read : List Row) → Agrees (used peer) (stepped (peer .neighbour) after) read (moved peer after (peer .rows))
+  stepped-agrees : (after : After) → Agrees (used peer) (stepped (peer .neighbour) after) (moved peer after (peer .rows))
   unfolding stepped moved
-  stepped-agrees after read =
-      agrees peer (stepped (peer .neighbour) after) read (moved peer after (peer .rows)) refl refl
-      (ap (λ (l : List Row). used (peerWith peer (after .neighbour) l)) (rows-step (peer .neighbour .phase) (after .neighbour .phase) (peer .rows) read none-unless-up))
-      (count-step (peer .neighbour .phase) (after .neighbour .phase) (peer .rows) read)
+  stepped-agrees after =
+      agrees peer (stepped (peer .neighbour) after) (moved peer after (peer .rows)) refl refl
+      (ap (λ (l : List Row). used (peerWith peer (after .neighbour) l)) (rows-step (peer .neighbour .phase) (after .neighbour .phase) (peer .rows) none-unless-up))
 
-  pub event-agrees : (g : Settings) (event : Intrinsic) → Agrees (used peer) (stepped (peer .neighbour) (stepOf g (peer .asn) (peer .neighbour) (asEvent event) noHead)) [] (eventMove g event (used peer))
+  pub event-agrees : (g : Settings) (event : Intrinsic)
+      → Agrees (used peer) (stepped (peer .neighbour) (stepOf g (peer .asn) (peer .neighbour) (asEvent event) noHead)) (eventMove g event (used peer))
   unfolding eventMove noHead noOctets
-  event-agrees g event = stepped-agrees (stepOf g (peer .asn) (peer .neighbour) (asEvent event) noOctets) []
+  event-agrees g event = stepped-agrees (stepOf g (peer .asn) (peer .neighbour) (asEvent event) noOctets)
 
   -- ---- a message
 
   module _ (g : Settings) (o : List ℕ) where
-    abbrev Right : Verdict → Type 0
-    Right v = Agrees (used peer) v (rowsRead (updateOf 128 (g .net) o)) (messageMove g o (used peer))
+    abbrev after : After
+    after = afterMessage g (peer .asn) (peer .neighbour) o (decodeOf o)
 
-    move-refused : (k : ℕ) → answerTo g (peer .asn) (peer .neighbour) o ≡ k → eqb k 0 ≡ false
-        → messageMove g o (used peer) ≡ refusedMove g o peer k
-    unfolding messageMove ifOk
-    move-refused k e z = rw (e, z)
+    abbrev Right : Ruling → Type 0
+    Right x = Agrees (used peer) x (messageMove g o (used peer))
 
-    move-done : answerTo g (peer .asn) (peer .neighbour) o ≡ 0
-        → messageMove g o (used peer) ≡ moved peer (afterMessage g (peer .asn) (peer .neighbour) o (decodeOf o)) (rowsAfter g (peer .neighbour) o (decodeOf o) (peer .rows))
-    unfolding messageMove ifOk
-    move-done e = rw e
+    refused-right : (k : ℕ) → (k ≡ 0 → ⊥) → messageNumber 128 g (peer .asn) (peer .neighbour) o ≡ k
+        → Right (refuses (peer .neighbour) k (namedReply g (peer .neighbour) o k))
+    unfolding messageMove ifOk refuses rowsFrom
+    refused-right k z e =
+        rw (← (number-same g (peer .asn) (peer .neighbour) o), e, ne-eqb k 0 z)
+        (agrees peer (refuses (peer .neighbour) k (namedReply g (peer .neighbour) o k)) (refusedMove g o peer k) refl (reply-same g (peer .neighbour) o k) refl)
 
-    refused-right : (k : ℕ) (reply : Reply) → answerTo g (peer .asn) (peer .neighbour) o ≡ k → eqb k 0 ≡ false → reply ≡ refusalReply g (peer .neighbour) o k → Right (refuses (peer .neighbour) k reply)
-    unfolding refuses rowsFrom countAfter
-    refused-right k reply e z r =
-        rw (move-refused k e z)
-        (agrees peer (refuses (peer .neighbour) k reply) (rowsRead (updateOf 128 (g .net) o)) (refusedMove g o peer k)
-        refl r refl refl)
+    -- the rows of an accepted Update, which finds and leaves its neighbour Up, or what the step leaves of those there were
+    carried-rows : NumberPassed 128 g (peer .asn) (peer .neighbour) o
+        → rowsIn (after .neighbour .phase) (rowsAfter g (peer .neighbour) o (decodeOf o) (peer .rows)) ≡ rowsFrom (changeBy 128 g (peer .neighbour) o after) (peer .rows)
+    unfolding changeBy afterMessage rowsAfter isUpdate rowsIn rowsFrom headAt firstTwelve
+    carried-rows p =
+        rw (p .read, p .brings) (go (same (kindOf (p .message)) K.Update && isUp (peer .neighbour .phase)) refl)
+      where
+        go : (b : Bool) → (same (kindOf (p .message)) K.Update && isUp (peer .neighbour .phase)) ≡ b
+            → rowsIn ((stepOf g (peer .asn) (peer .neighbour) (Received (p .message)) (headAt o)) .neighbour .phase) (cond b (rowsRead (updateOf 128 (g .net) o)) (peer .rows))
+            ≡ rowsFrom (cond b (replace (rowsRead (updateOf 128 (g .net) o))) (leaving (peer .neighbour .phase) ((stepOf g (peer .asn) (peer .neighbour) (Received (p .message)) (headAt o)) .neighbour .phase))) (peer .rows)
+        go true e = rw (after-up g (peer .asn) (peer .neighbour) o (p .message) e)
+        go false e = rows-step (peer .neighbour .phase) ((stepOf g (peer .asn) (peer .neighbour) (Received (p .message)) (headAt o)) .neighbour .phase) (peer .rows) none-unless-up
 
-    carried-right : (m : Message) → decodeOf o ≡ D.Good m → (isUpdate m && isUp (peer .neighbour .phase)) ≡ false → answerTo g (peer .asn) (peer .neighbour) o ≡ 0 → Right (carriedOut g (peer .asn) (peer .neighbour) o m)
-    unfolding carriedOut afterMessage rowsAfter headAt firstTwelve
-    carried-right m d k e = rw (move-done e, d, k) (stepped-agrees (stepOf g (peer .asn) (peer .neighbour) (Received m) (firstTwelve o)) (rowsRead (updateOf 128 (g .net) o)))
+    carried-right : messageNumber 128 g (peer .asn) (peer .neighbour) o ≡ 0
+        → Right (carriedOut 128 g (peer .neighbour) o (Ruled.afterMessage g (peer .asn) (peer .neighbour) o (decodeOf o)))
+    unfolding messageMove ifOk moved carriedOut
+    carried-right e =
+        rw (← (number-same g (peer .asn) (peer .neighbour) o), e, after-same g (peer .asn) (peer .neighbour) o (decodeOf o))
+        (agrees peer (carriedOut 128 g (peer .neighbour) o after) (moved peer after (rowsAfter g (peer .neighbour) o (decodeOf o) (peer .rows))) refl refl
+        (ap (λ (l : List Row). used (peerWith peer (after .neighbour) l)) (carried-rows (number-passed 128 g (peer .asn) (peer .neighbour) o e))))
 
-    -- an accepted Update finds and leaves its neighbour Up
-    update-right : (a q s net : ℕ) (new : List Row) → decodeOf o ≡ D.Good (Update a q s net) → isUp (peer .neighbour .phase) ≡ true → updateOf 128 (g .net) o ≡ accepted new
-        → answerTo g (peer .asn) (peer .neighbour) o ≡ 0 → Right (updateVerdict g (peer .asn) (peer .neighbour) o (Update a q s net) (accepted new))
-    unfolding updateVerdict afterMessage rowsAfter headAt firstTwelve isUpdate moved rowsIn rowsRead rowsFrom countAfter
-    update-right a q s net new d up u e =
-        let stays : isUp ((stepOf g (peer .asn) (peer .neighbour) (Received (Update a q s net)) (firstTwelve o)) .neighbour .phase) ≡ true =
-        ap isUp (update-stays-up g (peer .asn) (peer .neighbour) a q s net (firstTwelve o) (is-up (peer .neighbour .phase) up) .0) in
-        let mine : isUp (peer .neighbour .phase) ≡ true = up in
-        rw (move-done e, d, mine, u)
-        (agrees peer _ new _ refl refl (rw stays) refl)
-
-    -- what the model answers, as its checks pass one by one
-    module _ (h : eqb (headerAnswer o) 0 ≡ true) where
-      answer-nine : eqb (asnAt o) (peer .asn) ≡ false → answerTo g (peer .asn) (peer .neighbour) o ≡ 9
-      unfolding answerTo ifOk check
-      answer-nine a = rw (h, a)
-
-      answer-kind : (d : Decoded) → eqb (asnAt o) (peer .asn) ≡ true → decodeOf o ≡ d → answerTo g (peer .asn) (peer .neighbour) o ≡ kindAnswer g (peer .neighbour) o d
-      unfolding answerTo ifOk check
-      answer-kind d a e = rw (h, a, e)
-
-    answer-header : eqb (headerAnswer o) 0 ≡ false → answerTo g (peer .asn) (peer .neighbour) o ≡ headerAnswer o
-    unfolding answerTo ifOk
-    answer-header h = rw h
-
-    module _ (m : Message) (i : inSequence (peer .neighbour) m ≡ true) where
-      kind-passed : (isUpdate m && isUp (peer .neighbour .phase)) ≡ false → kindAnswer g (peer .neighbour) o (D.Good m) ≡ 0
-      unfolding kindAnswer check
-      kind-passed k = rw (i, k)
-
-      kind-body : (isUpdate m && isUp (peer .neighbour .phase)) ≡ true → kindAnswer g (peer .neighbour) o (D.Good m) ≡ bodyAnswer (updateOf 128 (g .net) o)
-      unfolding kindAnswer check
-      kind-body k = rw (i, k)
-
-    kind-order : (m : Message) → inSequence (peer .neighbour) m ≡ false → kindAnswer g (peer .neighbour) o (D.Good m) ≡ 13
-    unfolding kindAnswer check
-    kind-order m i = rw i
-
-    three-checks : (a b c : Bool) (Q : ℕ → Type 0) → Q 6 → Q 7 → Q 8 → (check a 6 (check b 7 (check c 8 0)) ≡ 0 → ⊥) → Q (check a 6 (check b 7 (check c 8 0)))
-    unfolding check
-    three-checks false b c Q six seven eight z = six
-    three-checks true false c Q six seven eight z = seven
-    three-checks true true false Q six seven eight z = eight
-    three-checks true true true Q six seven eight z = absurd (z refl)
-
-    header-silent : (headerAnswer o ≡ 0 → ⊥) → Nothing ≡ refusalReply g (peer .neighbour) o (headerAnswer o)
-    unfolding headerAnswer refusalReply
-    header-silent z =
-        three-checks (leb 10 (length o) && leb (length o) 2048) (eqb (getD o 0 0) 2) (eqb (word16 o 4) (checksumOf o))
-        (λ k. Nothing ≡ refusalReply g (peer .neighbour) o k) refl refl refl z
-
-    module _ (h : eqb (headerAnswer o) 0 ≡ true) (as₀ : eqb (asnAt o) (peer .asn) ≡ true) where
-      read-right : (a q s net : ℕ) → decodeOf o ≡ D.Good (Update a q s net) → inSequence (peer .neighbour) (Update a q s net) ≡ true → isUp (peer .neighbour .phase) ≡ true
-          → (u : UpdateRead) → updateOf 128 (g .net) o ≡ u → Right (updateVerdict g (peer .asn) (peer .neighbour) o (Update a q s net) u)
-      unfolding bodyAnswer isUpdate updateVerdict Body.numberOf refusalReply errorReply errorTo headAt firstTwelve
-      read-right a q s net d i up (accepted new) u =
-          update-right a q s net new d up u
-          (answer-kind h _ as₀ d ∙ kind-body (Update a q s net) i up ∙ ap bodyAnswer u)
-      read-right a q s net d i up (brokenAt k) u =
-          refused-right 14 (errorTo g (peer .neighbour) o 2) (answer-kind h _ as₀ d ∙ kind-body (Update a q s net) i up ∙ ap bodyAnswer u) refl refl
-      read-right a q s net d i up tooMany u =
-          refused-right 15 (errorTo g (peer .neighbour) o 0) (answer-kind h _ as₀ d ∙ kind-body (Update a q s net) i up ∙ ap bodyAnswer u) refl refl
-
-      plain : (m : Message) → decodeOf o ≡ D.Good m → inSequence (peer .neighbour) m ≡ true → (isUpdate m && isUp (peer .neighbour .phase)) ≡ false → Right (carriedOut g (peer .asn) (peer .neighbour) o m)
-      plain m d i k = carried-right m d k (answer-kind h _ as₀ d ∙ kind-passed m i k)
-
-      body-right : (m : Message) → decodeOf o ≡ D.Good m → inSequence (peer .neighbour) m ≡ true → Right (bodyVerdict g (peer .asn) (peer .neighbour) o m)
-      unfolding bodyVerdict phaseVerdict isUpdate
-      body-right (Update a q s net) d i =
-          cond-elim Right (isUp (peer .neighbour .phase)) _ _ (λ up. read-right a q s net d i up (updateOf 128 (g .net) o) refl)
-          (λ down. plain (Update a q s net) d i down)
-      body-right (Request a q s hello poll) d i = plain (Request a q s hello poll) d i refl
-      body-right (Confirm a q s hello poll) d i = plain (Confirm a q s hello poll) d i refl
-      body-right (Refuse a q s) d i = plain (Refuse a q s) d i refl
-      body-right (Cease a q s) d i = plain (Cease a q s) d i refl
-      body-right (CeaseAck a q s) d i = plain (CeaseAck a q s) d i refl
-      body-right (Hello a q s) d i = plain (Hello a q s) d i refl
-      body-right (IHeardYou a q s) d i = plain (IHeardYou a q s) d i refl
-      body-right (Poll a q s net) d i = plain (Poll a q s net) d i refl
-      body-right (Error a q s reason x y z) d i = plain (Error a q s reason x y z) d i refl
-
-      kind-right : (d : Decoded) → decodeOf o ≡ d → Right (kindVerdict g (peer .asn) (peer .neighbour) o d)
-      unfolding kindVerdict Wire.numberOf kindAnswer refusalReply errorReply errorTo headAt firstTwelve
-      kind-right (D.Good m) d =
-          cond-elim Right (inSequence (peer .neighbour) m) _ _ (λ i. body-right m d i) (λ i. refused-right 13 Nothing (answer-kind h _ as₀ d ∙ kind-order m i) refl refl)
-      kind-right D.UnknownKind d = refused-right 10 (errorTo g (peer .neighbour) o 1) (answer-kind h _ as₀ d) refl refl
-      kind-right D.BadStatus d = refused-right 11 (errorTo g (peer .neighbour) o 1) (answer-kind h _ as₀ d) refl refl
-      kind-right D.BadLength d = refused-right 12 (errorTo g (peer .neighbour) o 1) (answer-kind h _ as₀ d) refl refl
-
-    pub message-agrees : Right (receiveVerdict g (peer .asn) (peer .neighbour) o)
-    unfolding receiveVerdict refusalReply refuseReply refuseTo
-    message-agrees =
-        cond-elim Right (eqb (headerAnswer o) 0) _ _
-        (λ h. cond-elim Right (eqb (asnAt o) (peer .asn)) _ _ (λ a. kind-right h a (decodeOf o) refl) (λ a. refused-right 9 (refuseTo g (peer .neighbour) o) (answer-nine h a) refl refl))
-        (λ h. refused-right (headerAnswer o) Nothing (answer-header h) h (header-silent (eqb-false (headerAnswer o) 0 h)))
+    pub message-agrees : Right (receiveRuling 128 g (peer .asn) (peer .neighbour) o)
+    message-agrees = receive-holds 128 g (peer .asn) (peer .neighbour) o Right refused-right carried-right

@@ -23,7 +23,7 @@ use Rattle.machine.specs.declared.Event.{Event}
 use Rattle.machine.specs.declared.Event.the-variants.{Received, Tick}
 use Rattle.state.specs.declared.Slot as Stored
 use Rattle.state.specs.Slots.{freeSlot}
-use Rattle.claims.proofs.Verdicts.{is-up}
+use Rattle.claims.proofs.Calls.{is-up}
 use Rattle.model.specs.Model.{Call, receive, Slot, free, used, Model, slotIn, isFree, isIdleSlot, placeOf, step, model, empty}
 use Rattle.model.specs.History.{isUpSlot, saysUpdate, accepts}
 use Rattle.model.specs.Theorem.{Gateway, gatewayStep, gatewayFrom, run, cell, rowsHeld, rowsAt}

@@ -13,13 +13,13 @@ use Rattle.nets.specs.Rows.{Row, rowsOf, flat}
 use Rattle.rows.specs.Storing.{zeros, padded}
 use Rattle.rows.proofs.Laws.{flat-length, padded-length}
 use Rattle.state.specs.declared.Slot as Stored
+use Rattle.state.specs.Places.{rowCount, rowCounts, partAt, withPart, readRows}
 use Rattle.state.specs.Slots.{freeSlot, slotAt, withSlot, addressOf, addresses, clash, slotOf, isNone, lowestFree}
 use Rattle.state.specs.Formed.{stateFormed}
 use Rattle.state.specs.Claims.{SlotGood}
 use Rattle.state.proofs.ListLaws.{every-getD, map-set}
 use Rattle.state.proofs.SlotLaws.{clash-is, clash-not, clash-zero}
 use Rattle.state.proofs.Theorems.{formed-slot}
-use Rattle.calls.specs.Carried.{partAt, withPart}
 use Rattle.claims.specs.Claims.{FormedState}
 use Rattle.model.specs.Model.{Slot, free, used, Model, slotIn, put, isFree, hasAddress, placeOf, vacancy, Peer}
 use Rattle.model.specs.Theorem.{cell, stateOf, rowsHeld, part, tableOf}
@@ -72,7 +72,7 @@ rows-flat [] = refl
 rows-flat (r ∷ rest) = ap (λ (l : List Row). r ∷ l) (rows-flat rest)
 
 -- the rows of a slot, read off its part by its count
-pub read-back : (slot : Slot) → rowsOf (take (3 * (cell slot) .rows) (part slot)) ≡ rowsHeld slot
+read-back : (slot : Slot) → rowsOf (take (3 * (cell slot) .rows) (part slot)) ≡ rowsHeld slot
 unfolding cell part rowsHeld padded freeSlot rowsOf
 read-back free = refl
 read-back (used peer) = ap rowsOf (take-at (flat (peer .rows)) (zeros (384 - length (flat (peer .rows)))) (3 * length (peer .rows)) (flat-length (peer .rows))) ∙ rows-flat (peer .rows)
@@ -97,6 +97,10 @@ module _ (m : Model) (ok : Good m) where
   pub at-of : (i : ℕ) → slotAt (stateOf m) i ≡ cell (slotIn m i)
   unfolding slotAt stateOf slotIn cell
   at-of i = List·getD-map cell (m .slots) i free
+
+  pub count-of : (i : ℕ) → getD (rowCounts (stateOf m)) i 0 ≡ (cell (slotIn m i)) .rows
+  unfolding rowCounts slotAt freeSlot
+  count-of i = List·getD-map rowCount ((stateOf m) .slots) i freeSlot ∙ ap rowCount (at-of i)
 
   pub eight-of : length ((stateOf m) .slots) ≡ 8
   unfolding stateOf
@@ -137,6 +141,11 @@ module _ (m : Model) (ok : Good m) where
   pub part-of : (j : ℕ) → j < 8 → partAt (tableOf m) j ≡ part (slotIn m j)
   unfolding tableOf slotIn
   part-of j h = join-part (map part (m .slots)) j (part free) whole-parts (omega (arith, eight-parts)) ∙ List·getD-map part (m .slots) j free
+
+  -- the rows read off the table are those held
+  pub read-of : (j : ℕ) → j < 8 → readRows (tableOf m) (rowCounts (stateOf m)) j ≡ rowsHeld (slotIn m j)
+  unfolding readRows
+  read-of j h = rw (count-of m ok j, part-of j h) (read-back (slotIn m j))
 
   pub table-with : (i : ℕ) (slot : Slot) → i < 8 → tableOf (put m i slot) ≡ withPart (tableOf m) i (part slot)
   unfolding tableOf put

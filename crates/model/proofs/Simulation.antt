@@ -13,7 +13,6 @@ use Rattle.checks.specs.Lists.{every}
 use Rattle.octets.specs.Buffer.{over}
 use Rattle.nets.specs.Rows.{Row, rowsOf}
 use Rattle.wire.specs.Reading.{decodeOf}
-use Rattle.walk.specs.Body.{updateOf, rowsRead}
 use Rattle.neighbour.specs.declared.Phase.{Phase}
 use Rattle.neighbour.specs.declared.Phase.the-variants as Phases
 use Rattle.neighbour.specs.declared.Settings.{Settings}
@@ -24,24 +23,22 @@ use Rattle.machine.specs.declared.Reply.the-variants.{Nothing, One, Two}
 use Rattle.machine.specs.Step.{stepOf}
 use Rattle.state.specs.declared.State.{State}
 use Rattle.state.specs.declared.Outcome.{Outcome}
-use Rattle.state.specs.Slots.{freeSlot, slotAt, slotOf, present}
+use Rattle.state.specs.Slots.{newcomer, freeSlot, slotAt, slotOf, present}
+use Rattle.state.specs.Places.{rowCounts, withPart, writeRows}
 use Rattle.state.specs.Formed.{goodPeer, stateFormed}
 use Rattle.state.specs.Claims.{SlotGood}
 use Rattle.state.specs.Outcomes.{refusedOf, silentOf}
 use Rattle.state.proofs.ListLaws.{first-in, every-set}
 use Rattle.slots.specs.Calls as Slots
-use Rattle.slots.specs.Calls.{newcomer, addOf, removeOf}
-use Rattle.calls.specs.declared.Effect.{Effect}
-use Rattle.calls.specs.declared.Effect.the-variants.{Keep, Clear, Replace}
-use Rattle.calls.specs.declared.Verdict.{Verdict}
+use Rattle.slots.specs.Calls.{addOf, removeOf}
 use Rattle.calls.specs.Home.{goodHome}
-use Rattle.calls.specs.Verdict.{stepped, receiveVerdict}
+use Rattle.calls.specs.Ruling.{Change, keep, clear, replace, Ruling, stepped, receiveRuling}
 use Rattle.calls.specs.Carried as Carried
 use Rattle.calls.specs.Carried.{firstOctets, secondOctets, replyOctets, outcomeAfter}
-use Rattle.calls.specs.Calls.{tableFits, eventChecks, messageChecks, noHead, eventVerdict, messageVerdict, eventOutcome, eventTable, eventBuffer, messageOutcome, messageTable, messageBuffer}
+use Rattle.calls.specs.Calls.{tableFits, lentChecks, eventChecks, messageChecks, noHead, updateRoom, eventRuling, messageRuling, eventOutcome, eventTable, eventBuffer, messageOutcome, messageTable, messageBuffer}
 use Rattle.claims.proofs.Formed.{well-formed-kept}
 use Rattle.lines.specs.Lines.{listingText}
-use Rattle.lines.specs.Listing.{entries, listingChecks, listingOutcome, listingBuffer}
+use Rattle.lines.specs.Listing.{listingOutcome, listingBuffer}
 use Rattle.model.specs.Model.{isFree, noMove, moved, answerTo, afterMessage, rowsAfter, Call, add, remove, happen, receive, listing, Slot, free, used, Model, slotIn, put, hasAddress, placeOf, isPresent, vacancy, Said, silent, spoken, addable, addAnswer, isIdleSlot, removeAnswer, addTurn, removeTurn, Move, eventMove, messageMove, eventAnswer, messageAnswer, turnAt, eventTurn, messageTurn, listed, listingAnswer, listingSaid, listingTurn, step, Peer, newPeer, refusedMove}
 use Rattle.model.specs.Theorem.{Gateway, outcomeOf, tableAfter, bufferOf, bufferAfter, listsNothing, cell, stateOf, rowsHeld, part, tableOf}
 use Rattle.model.proofs.Represent.{sound, Good, used-at, slot-of, lowest-of, at-of, state-ok, good-at, sound-at, state-with, table-length, table-with, table-same}
@@ -141,21 +138,21 @@ module _ (m : Model) (ok : Good m) where
 
   -- ---- a move of the slot at i
 
-  table-after : (i : ℕ) (new : Slot) (read : List Row) (effect : Effect) → i < 8 → part new ≡ partFrom effect (part (slotIn m i)) read
-      → Carried.tableAfter (tableOf m) i effect read ≡ tableOf (put m i new)
-  unfolding Carried.tableAfter partFrom
-  table-after i new read Keep h e = sym (table-same m ok i new e)
-  table-after i new read Clear h e = sym (table-with m ok i new h ∙ ap (Carried.withPart (tableOf m) i) e)
-  table-after i new read (Replace count) h e = sym (table-with m ok i new h ∙ ap (Carried.withPart (tableOf m) i) e)
+  table-after : (i : ℕ) (new : Slot) (counts : List ℕ) (change : Change) → i < 8 → part new ≡ partFrom change (part (slotIn m i))
+      → Carried.tableAfter (tableOf m) counts i change ≡ tableOf (put m i new)
+  unfolding Carried.tableAfter writeRows partFrom
+  table-after i new counts keep h e = sym (table-same m ok i new e)
+  table-after i new counts clear h e = sym (table-with m ok i new h ∙ ap (withPart (tableOf m) i) e)
+  table-after i new counts (replace rows) h e = sym (table-with m ok i new h ∙ ap (withPart (tableOf m) i) e)
 
-  moved-shown : (i : ℕ) (v : Verdict) (home read : List Row) (move : Move) (buffer : List ℕ) → i < 8 → Agrees (slotIn m i) v read move
-      → Shown (outcomeAfter (stateOf m) i v home) (Carried.tableAfter (tableOf m) i (v .effect) read) (Carried.bufferAfter buffer (v .reply) home)
+  moved-shown : (i : ℕ) (x : Ruling) (home : List Row) (move : Move) (buffer : List ℕ) → i < 8 → Agrees (slotIn m i) x move
+      → Shown (outcomeAfter (stateOf m) i x home) (Carried.tableAfter (tableOf m) (rowCounts (stateOf m)) i (x .change)) (Carried.bufferAfter buffer (x .reply) home)
       (put m i (move .slot)) (spoken (move .answer) (move .reply) home) buffer
   unfolding outcomeAfter Carried.bufferAfter replyOctets
-  moved-shown i v home read move buffer h a =
+  moved-shown i x home move buffer h a =
       record {
         state = rw (at-of m ok i, a .cell-is) (sym (state-with m ok i (move .slot)));
-        table = table-after i (move .slot) read (v .effect) h (a .part-is);
+        table = table-after i (move .slot) (rowCounts (stateOf m)) (x .change) h (a .part-is);
         answer = a .answer ∙ sym (spoken-answer (move .answer) (move .reply) home);
         first = rw (a .reply, spoken-first (move .answer) (move .reply) home);
         second = rw (a .reply, spoken-second (move .answer) (move .reply) home);
@@ -178,14 +175,14 @@ module _ (m : Model) (ok : Good m) where
 
   -- ---- Start, Stop, tick
 
-  event-answer : (a : ℕ) (buffer : List ℕ) → eventChecks (stateOf m) (tableOf m) buffer a ≡ eventAnswer m a buffer
-  unfolding eventChecks eventAnswer check
-  event-answer a buffer =
+  event-answer : (event : Intrinsic) (a : ℕ) (buffer : List ℕ) → eventChecks event (stateOf m) (tableOf m) buffer a ≡ eventAnswer m a buffer
+  unfolding eventChecks lentChecks eventAnswer check
+  event-answer event a buffer =
       check-holds (stateFormed (stateOf m)) 1 _ (ok .formed) ∙ check-holds (tableFits (tableOf m)) 2 _ (eq-eqb (length (tableOf m)) 3072 (table-length m ok))
       ∙ rw (present-of a)
 
   message-answer : (a : ℕ) (home buffer : List ℕ) → messageChecks (stateOf m) (tableOf m) buffer home a ≡ messageAnswer m a home buffer
-  unfolding messageChecks messageAnswer stateOf check
+  unfolding messageChecks lentChecks messageAnswer stateOf check
   message-answer a home buffer =
       check-holds (stateFormed (stateOf m)) 1 _ (ok .formed) ∙ check-holds (tableFits (tableOf m)) 2 _ (eq-eqb (length (tableOf m)) 3072 (table-length m ok))
       ∙ rw (present-of a)
@@ -204,45 +201,45 @@ module _ (m : Model) (ok : Good m) where
   settings-of = refl
 
   event-move : (event : Intrinsic) (slot : Slot) → SlotGood (cell slot) → (a : ℕ) → hasAddress a slot ≡ true
-      → Agrees slot (stepped ((cell slot) .neighbour) (stepOf (m .settings) ((cell slot) .asn) ((cell slot) .neighbour) (asEvent event) noHead)) [] (eventMove (m .settings) event slot)
+      → Agrees slot (stepped ((cell slot) .neighbour) (stepOf (m .settings) ((cell slot) .asn) ((cell slot) .neighbour) (asEvent event) noHead)) (eventMove (m .settings) event slot)
   unfolding cell
   event-move event slot good a e =
       used-at
-      (λ s. SlotGood (cell s) → Agrees s (stepped ((cell s) .neighbour) (stepOf (m .settings) ((cell s) .asn) ((cell s) .neighbour) (asEvent event) noHead)) [] (eventMove (m .settings) event s))
+      (λ s. SlotGood (cell s) → Agrees s (stepped ((cell s) .neighbour) (stepOf (m .settings) ((cell s) .asn) ((cell s) .neighbour) (asEvent event) noHead)) (eventMove (m .settings) event s))
       a (λ peer k. event-agrees peer k (m .settings) event) slot e good
 
   message-move : (o : List ℕ) (slot : Slot) → SlotGood (cell slot) → (a : ℕ) → hasAddress a slot ≡ true
-      → Agrees slot (receiveVerdict (m .settings) ((cell slot) .asn) ((cell slot) .neighbour) o) (rowsRead (updateOf 128 (m .settings .net) o)) (messageMove (m .settings) o slot)
+      → Agrees slot (receiveRuling 128 (m .settings) ((cell slot) .asn) ((cell slot) .neighbour) o) (messageMove (m .settings) o slot)
   unfolding cell
   message-move o slot good a e =
       used-at
-      (λ s. SlotGood (cell s) → Agrees s (receiveVerdict (m .settings) ((cell s) .asn) ((cell s) .neighbour) o) (rowsRead (updateOf 128 (m .settings .net) o)) (messageMove (m .settings) o s))
+      (λ s. SlotGood (cell s) → Agrees s (receiveRuling 128 (m .settings) ((cell s) .asn) ((cell s) .neighbour) o) (messageMove (m .settings) o s))
       a (λ peer k. message-agrees peer k (m .settings) o) slot e good
 
-  event-verdict : (event : Intrinsic) (a : ℕ) → placeOf m a < 8
-      → Agrees (slotIn m (placeOf m a)) (eventVerdict (stateOf m) a (asEvent event)) [] (eventMove (m .settings) event (slotIn m (placeOf m a)))
-  unfolding eventVerdict
-  event-verdict event a h =
+  event-ruling : (event : Intrinsic) (a : ℕ) → placeOf m a < 8
+      → Agrees (slotIn m (placeOf m a)) (eventRuling event (stateOf m) a) (eventMove (m .settings) event (slotIn m (placeOf m a)))
+  unfolding eventRuling
+  event-ruling event a h =
       rw (slot-of m ok a, at-of m ok (placeOf m a), settings-of)
       (event-move event (slotIn m (placeOf m a)) (good-at m ok (placeOf m a)) a (found-used a h))
 
-  message-verdict : (o : List ℕ) (a : ℕ) → placeOf m a < 8
-      → Agrees (slotIn m (placeOf m a)) (messageVerdict (stateOf m) a o) (rowsRead (updateOf 128 ((stateOf m) .settings .net) o)) (messageMove (m .settings) o (slotIn m (placeOf m a)))
-  unfolding messageVerdict
-  message-verdict o a h =
+  message-ruling : (o : List ℕ) (a : ℕ) → placeOf m a < 8
+      → Agrees (slotIn m (placeOf m a)) (messageRuling (stateOf m) a o) (messageMove (m .settings) o (slotIn m (placeOf m a)))
+  unfolding messageRuling updateRoom
+  message-ruling o a h =
       rw (slot-of m ok a, at-of m ok (placeOf m a), settings-of)
       (message-move o (slotIn m (placeOf m a)) (good-at m ok (placeOf m a)) a (found-used a h))
 
   pub event-shown : (event : Intrinsic) (a : ℕ) (buffer : List ℕ)
-      → Shown (eventOutcome (asEvent event) (stateOf m) (tableOf m) buffer a) (eventTable (asEvent event) (stateOf m) (tableOf m) buffer a) (eventBuffer (asEvent event) (stateOf m) (tableOf m) buffer a)
+      → Shown (eventOutcome event (stateOf m) (tableOf m) buffer a) (eventTable event (stateOf m) (tableOf m) buffer a) (eventBuffer event (stateOf m) (tableOf m) buffer a)
       ((eventTurn event m a buffer) .model) ((eventTurn event m a buffer) .said) buffer
   unfolding eventOutcome eventTable eventBuffer eventTurn turnAt
   event-shown event a buffer =
-      shown-call (eventAnswer m a buffer) (eventChecks (stateOf m) (tableOf m) buffer a) _ _ _ _ _ _ _ _ _ _ buffer (event-answer a buffer)
+      shown-call (eventAnswer m a buffer) (eventChecks event (stateOf m) (tableOf m) buffer a) _ _ _ _ _ _ _ _ _ _ buffer (event-answer event a buffer)
       (λ z. rw (slot-of m ok a)
-      (moved-shown (placeOf m a) (eventVerdict (stateOf m) a (asEvent event)) [] [] (eventMove (m .settings) event (slotIn m (placeOf m a))) buffer
-      (event-below a buffer z) (event-verdict event a (event-below a buffer z))))
-      (refused-shown (eventAnswer m a buffer) (eventChecks (stateOf m) (tableOf m) buffer a) buffer (event-answer a buffer))
+      (moved-shown (placeOf m a) (eventRuling event (stateOf m) a) [] (eventMove (m .settings) event (slotIn m (placeOf m a))) buffer
+      (event-below a buffer z) (event-ruling event a (event-below a buffer z))))
+      (refused-shown (eventAnswer m a buffer) (eventChecks event (stateOf m) (tableOf m) buffer a) buffer (event-answer event a buffer))
 
   pub message-shown : (a : ℕ) (o home buffer : List ℕ)
       → Shown (messageOutcome (stateOf m) (tableOf m) buffer home a o) (messageTable (stateOf m) (tableOf m) buffer home a o) (messageBuffer (stateOf m) (tableOf m) buffer home a o)
@@ -251,9 +248,8 @@ module _ (m : Model) (ok : Good m) where
   message-shown a o home buffer =
       shown-call (messageAnswer m a home buffer) (messageChecks (stateOf m) (tableOf m) buffer home a) _ _ _ _ _ _ _ _ _ _ buffer (message-answer a home buffer)
       (λ z. rw (slot-of m ok a)
-      (moved-shown (placeOf m a) (messageVerdict (stateOf m) a o) (rowsOf home) (rowsRead (updateOf 128 ((stateOf m) .settings .net) o))
-      (messageMove (m .settings) o (slotIn m (placeOf m a))) buffer
-      (message-below a home buffer z) (message-verdict o a (message-below a home buffer z))))
+      (moved-shown (placeOf m a) (messageRuling (stateOf m) a o) (rowsOf home) (messageMove (m .settings) o (slotIn m (placeOf m a))) buffer
+      (message-below a home buffer z) (message-ruling o a (message-below a home buffer z))))
       (refused-shown (messageAnswer m a home buffer) (messageChecks (stateOf m) (tableOf m) buffer home a) buffer (message-answer a home buffer))
 
   -- ---- add and remove
@@ -292,7 +288,7 @@ module _ (m : Model) (ok : Good m) where
   idle-none (used peer) good e = no-rows (peer .rows) (good .none (idle-not-up (peer .neighbour .phase) e))
 
   newcomer-cell : (address asn : ℕ) → cell (used (newPeer address asn)) ≡ newcomer address asn
-  unfolding cell newcomer
+  unfolding cell
   newcomer-cell address asn = refl
 
   free-cell : cell free ≡ freeSlot
@@ -368,17 +364,6 @@ module _ (m : Model) (ok : Good m) where
   unfolding listingOutcome listingBuffer listingTurn
   listing-shown k buffer = rw (listing-answer m ok k buffer, entries-of m ok) (listing-by (listingAnswer buffer) buffer)
 
-  -- whatever its rows are marked with, a listing leaves the state
-  pub listing-keeps : (buffer : List ℕ) → (listingOutcome (stateOf m) (tableOf m) buffer) .state ≡ stateOf m
-  unfolding listingOutcome ifOk refusedOf
-  listing-keeps buffer = go (eqb (listingChecks (stateOf m) (tableOf m) buffer) 0)
-    where
-      go : (b : Bool)
-          → (cond b (record { answer = 0; first = length (listingText (entries (stateOf m) (tableOf m))); second = 0; state = stateOf m })
-          (refusedOf (stateOf m) (listingChecks (stateOf m) (tableOf m) buffer))) .state ≡ stateOf m
-      go true = refl
-      go false = refl
-
   -- ---- any call
 
   abbrev pub Simulates : Call → Type 0
@@ -411,7 +396,7 @@ module _ (m : Model) (ok : Good m) where
   leaves (remove address) = simulated (remove address) refl
   leaves (happen event a buffer) = simulated (happen event a buffer) refl
   leaves (receive a o home buffer) = simulated (receive a o home buffer) refl
-  leaves (listing buffer) = record { state = listing-keeps buffer; table = refl }
+  leaves (listing buffer) = record { state = well-formed-kept .listed (stateOf m) (tableOf m) buffer; table = refl }
 
   -- ---- the model after it is good
 
@@ -454,9 +439,9 @@ module _ (m : Model) (ok : Good m) where
   unfolding outcomeOf represent
   formed-step (add address asn) = well-formed-kept .add (stateOf m) address asn (state-ok m ok) .formed
   formed-step (remove address) = well-formed-kept .remove (stateOf m) address (state-ok m ok) .formed
-  formed-step (happen event a buffer) = well-formed-kept .events (asEvent event) (stateOf m) (tableOf m) buffer a (state-ok m ok) .formed
+  formed-step (happen event a buffer) = well-formed-kept .events event (stateOf m) (tableOf m) buffer a (state-ok m ok) .formed
   formed-step (receive a o home buffer) = well-formed-kept .messages (stateOf m) (tableOf m) buffer home a o (state-ok m ok) .formed
-  formed-step (listing buffer) = ap stateFormed (listing-keeps buffer) ∙ ok .formed
+  formed-step (listing buffer) = well-formed-kept .listings (stateOf m) (tableOf m) buffer (state-ok m ok) .formed
 
   pub good-step : (call : Call) → Good ((step call m) .model)
   good-step call =

@@ -26,7 +26,7 @@ use Rattle.state.specs.Formed.{stateFormed}
 use Rattle.state.specs.Outcomes.{refusedOf}
 use Rattle.slots.specs.Calls.{freshOf}
 use Rattle.calls.specs.Home.{goodHome}
-use Rattle.calls.specs.Calls.{tableFits}
+use Rattle.calls.specs.Calls.{tableFits, lentChecks}
 use Rattle.lines.specs.Listing.{entries, listable, listingChecks, listingOutcome}
 use Rattle.model.specs.Model.{Call, add, remove, happen, receive, listing, Slot, free, used, Model, slotIn, put, placeOf, isPresent, vacancy, Said, silent, spoken, addable, addAnswer, isIdleSlot, removeAnswer, addTurn, removeTurn, Move, noMove, moved, eventMove, bodyAnswer, isUpdate, kindAnswer, answerTo, messageMove, eventAnswer, messageAnswer, turnAt, eventTurn, messageTurn, listingAnswer, listingSaid, listingTurn, step, model, modelFrom, empty}
 use Rattle.model.specs.Theorem.{Gateway, outcomeOf, gatewayStep, run, stateOf, tableOf, carriesOctets, listsNothing, Steady, NeverOneOrTwo}
@@ -186,7 +186,7 @@ module _ (m : Model) (ok : Good m) where
       go false e = rw e
 
   listing-one : (buffer : List ℕ) → listingChecks (stateOf m) (tableOf m) buffer ≡ 1 → ⊥
-  unfolding listingChecks
+  unfolding listingChecks lentChecks
   listing-one buffer e =
       one-two (tableFits (tableOf m) && every listable (entries (stateOf m) (tableOf m))) (leb 65536 (length buffer))
       (sym (check-holds (stateFormed (stateOf m)) 1 _ (ok .formed)) ∙ e)
@@ -227,7 +227,7 @@ marked-from m k (call ∷ rest) e =
     marked-from ((step call m) .model) (marked-step m k call (and-left (carriesOctets call) (every carriesOctets rest) e)) rest
     (and-right (carriesOctets call) (every carriesOctets rest) e)
 
-module _ (g : Settings) (z : (freshOf (g .asn) (g .own) (g .capability) (g .net)) .answer ≡ 0) (calls : List Call) where
+module _ (g : Settings) (z : (freshOf g) .answer ≡ 0) (calls : List Call) where
   model-marked : every carriesOctets calls ≡ true → Marked (model g calls)
   unfolding model
   model-marked e = marked-from (empty g) (empty-marked g z) calls e

@@ -14,7 +14,7 @@ use Rattle.neighbour.specs.declared.Settings.{Settings}
 use Rattle.state.specs.declared.State.{State}
 use Rattle.state.specs.declared.Slot as Stored
 use Rattle.state.specs.Slots.{freeSlot, slotAt}
-use Rattle.calls.specs.Carried.{partAt}
+use Rattle.state.specs.Places.{partAt}
 use Rattle.state.specs.Formed.{goodSettings, stateFormed}
 use Rattle.state.specs.Outcomes.{silentOf}
 use Rattle.slots.specs.Calls.{freeSlots, emptyState, freshAnswer, freshOf}
@@ -22,7 +22,7 @@ use Rattle.claims.proofs.Formed.{well-formed-kept}
 use Rattle.model.specs.Model.{Call, Slot, free, used, Model, slotIn, empty, model, modelFrom, saidFrom, step}
 use Rattle.model.specs.Theorem.{Gateway, gatewayStep, gatewayFrom, Seen, seenOf, seenFrom, emptyTable, begun, run, seenBy, cell, stateOf, rowsHeld, part, tableOf, bufferOf, shownIn, shown, rowsAt, carriesOctets, listsNothing, ListOfCalls}
 use Rattle.model.specs.History.{lastAccepted, isElsewhere, takesNoSlot}
-use Rattle.model.proofs.Represent.{sound, Good, at-of, sound-at, part-of, read-back}
+use Rattle.model.proofs.Represent.{sound, Good, at-of, sound-at, part-of, read-of}
 use Rattle.model.proofs.Listed.{marked, Marked, marked-step}
 use Rattle.model.proofs.History.{model-append, last-is, others-slot, free-from, shown-free}
 use Rattle.model.proofs.Simulation.{represent, Heeds, simulates, leaves, good-step}
@@ -86,8 +86,8 @@ empty-table : (g : Settings) → tableOf (empty g) ≡ emptyTable
 unfolding tableOf empty emptyTable part rowsHeld padded flat join zeros
 empty-table g = refl
 
-module _ (g : Settings) (z : (freshOf (g .asn) (g .own) (g .capability) (g .net)) .answer ≡ 0) where
-  fresh-state : (freshOf (g .asn) (g .own) (g .capability) (g .net)) .state ≡ stateOf (empty g)
+module _ (g : Settings) (z : (freshOf g) .answer ≡ 0) where
+  fresh-state : (freshOf g) .state ≡ stateOf (empty g)
   unfolding freshOf silentOf ifOk
   fresh-state = rw z (sym (empty-state g))
 
@@ -98,7 +98,7 @@ module _ (g : Settings) (z : (freshOf (g .asn) (g .own) (g .capability) (g .net)
   pub empty-good : Good (empty g)
   unfolding empty every sound
   empty-good =
-      record { eight = refl; each = refl; formed = ap stateFormed (sym fresh-state) ∙ well-formed-kept .fresh (g .asn) (g .own) (g .capability) (g .net) z .formed }
+      record { eight = refl; each = refl; formed = ap stateFormed (sym fresh-state) ∙ well-formed-kept .fresh g z .formed }
 
   pub run-is : (calls : List Call) → run g calls ≡ represent (model g calls)
   unfolding run model
@@ -134,7 +134,7 @@ cell-count (used peer) = refl
 module _ (m : Model) (ok : Good m) (j : ℕ) (j8 : j < 8) where
   pub rows-read : rowsAt (represent m) j ≡ rowsHeld (slotIn m j)
   unfolding rowsAt represent
-  rows-read = rw (part-of m ok j j8, at-of m ok j) (read-back (slotIn m j))
+  rows-read = read-of m ok j j8
 
   count-read : (slotAt (stateOf m) j) .rows ≡ length (rowsHeld (slotIn m j))
   count-read = rw (at-of m ok j) (cell-count (slotIn m j))
@@ -143,7 +143,7 @@ module _ (m : Model) (ok : Good m) (j : ℕ) (j8 : j < 8) where
   unfolding part
   numbers-read = part-of m ok j j8
 
-module _ (g : Settings) (z : (freshOf (g .asn) (g .own) (g .capability) (g .net)) .answer ≡ 0) (calls : List Call) where
+module _ (g : Settings) (z : (freshOf g) .answer ≡ 0) (calls : List Call) where
   pub model-good : Good (model g calls)
   unfolding model
   model-good = good-from (empty g) (empty-good g z) calls
@@ -180,6 +180,7 @@ module _ (g : Settings) (z : (freshOf (g .asn) (g .own) (g .capability) (g .net)
       → every (isElsewhere ((slotAt ((run g calls) .state) j) .address)) more ≡ true
       → (slotAt ((run g (calls ++ more)) .state) j ≡ slotAt ((run g calls) .state) j)
       × (partAt ((run g (calls ++ more)) .table) j ≡ partAt ((run g calls) .table) j)
+      × (rowsAt (run g (calls ++ more)) j ≡ rowsAt (run g calls) j)
   run-others more j j8 p e =
       let same = more-slot more j p e in
       let after = more-good more in (
@@ -187,19 +188,25 @@ module _ (g : Settings) (z : (freshOf (g .asn) (g .own) (g .capability) (g .net)
             ∙ sym (ap (λ (s : State). slotAt s j) (run-state g z calls) ∙ at-of (model g calls) model-good j),
         ap (λ (t : List ℕ). partAt t j) (run-table g z (calls ++ more)) ∙ part-of (model g (calls ++ more)) after j j8 ∙ ap part same
             ∙ sym (ap (λ (t : List ℕ). partAt t j) (run-table g z calls) ∙ part-of (model g calls) model-good j j8),
+        ap (λ (b : Gateway). rowsAt b j) (run-is g z (calls ++ more)) ∙ rows-read (model g (calls ++ more)) after j j8 ∙ ap rowsHeld same
+            ∙ sym (ap (λ (b : Gateway). rowsAt b j) (run-is g z calls) ∙ rows-read (model g calls) model-good j j8),
       )
 
 free-part : part free ≡ zeros 384
 unfolding part rowsHeld padded flat
 free-part = refl
 
+free-rows : rowsHeld free ≡ []
+unfolding rowsHeld
+free-rows = refl
+
 free-cell : cell free ≡ freeSlot
 unfolding cell
 free-cell = refl
 
-module _ (g : Settings) (z : (freshOf (g .asn) (g .own) (g .capability) (g .net)) .answer ≡ 0) (calls more : List Call) (j : ℕ) (j8 : j < 8) where
+module _ (g : Settings) (z : (freshOf g) .answer ≡ 0) (calls more : List Call) (j : ℕ) (j8 : j < 8) where
   run-free : (slotAt ((run g calls) .state) j) .address ≡ 0 → every takesNoSlot more ≡ true
-      → (slotAt ((run g (calls ++ more)) .state) j ≡ freeSlot) × (partAt ((run g (calls ++ more)) .table) j ≡ zeros 384)
+      → (slotAt ((run g (calls ++ more)) .state) j ≡ freeSlot) × (partAt ((run g (calls ++ more)) .table) j ≡ zeros 384) × (rowsAt (run g (calls ++ more)) j ≡ [])
   run-free p e =
       let here : (cell (slotIn (model g calls) j)) .address ≡ 0 =
       sym (ap (λ (s : State). (slotAt s j) .address) (run-state g z calls) ∙ ap (λ (s : Stored.Slot). s .address) (at-of (model g calls) (model-good g z calls) j)) ∙ p in
@@ -209,6 +216,7 @@ module _ (g : Settings) (z : (freshOf (g .asn) (g .own) (g .capability) (g .net)
       (shown-free (slotIn (model g calls) j) (sound-at (model g calls) (model-good g z calls) j) here) more e in (
         ap (λ (s : State). slotAt s j) (run-state g z (calls ++ more)) ∙ at-of (model g (calls ++ more)) (more-good g z calls more) j ∙ ap cell after ∙ free-cell,
         ap (λ (t : List ℕ). partAt t j) (run-table g z (calls ++ more)) ∙ part-of (model g (calls ++ more)) (more-good g z calls more) j j8 ∙ ap part after ∙ free-part,
+        ap (λ (b : Gateway). rowsAt b j) (run-is g z (calls ++ more)) ∙ rows-read (model g (calls ++ more)) (more-good g z calls more) j j8 ∙ ap rowsHeld after ∙ free-rows,
       )
 
 pub list-of-calls : ListOfCalls
@@ -226,6 +234,6 @@ list-of-calls g z calls =
     }
 
 -- there are settings that fresh takes: AS 9 at 128.9.0.1 on 128.9.0.0
-pub some-settings : (freshOf 9 2148073473 0 2148073472) .answer ≡ 0
+pub some-settings : (freshOf (record { asn = 9; own = 2148073473; capability = 0; net = 2148073472 })) .answer ≡ 0
 unfolding freshOf silentOf freshAnswer check goodSettings goodNet onNet netWidth hostSpan
 some-settings = refl

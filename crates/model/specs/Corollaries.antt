@@ -15,14 +15,13 @@ use Rattle.message.specs.declared.Message.the-variants as M
 use Rattle.wire.specs.Reading.{headerAnswer, asnAt, decodeOf}
 use Rattle.wire.specs.declared.Decoded.the-variants as D
 use Rattle.walk.specs.Body.{accepted, updateOf}
-use Rattle.codec.specs.Reading.{most, mostNumbers}
 use Rattle.neighbour.specs.declared.Mode.the-variants.{Passive}
 use Rattle.neighbour.specs.declared.Settings.{Settings}
 use Rattle.neighbour.specs.Rules.{onesOf, goesDown}
 use Rattle.state.specs.declared.Slot.{Slot}
 use Rattle.state.specs.Slots.{slotAt}
+use Rattle.state.specs.Places.{slotNumbers, partAt}
 use Rattle.slots.specs.Calls.{freshOf}
-use Rattle.calls.specs.Carried.{partAt}
 use Rattle.calls.specs.Home.{goodHome}
 use Rattle.model.specs.Model.{Call, start, stop, tick, receive, model}
 use Rattle.model.specs.History.{accepts, lastAccepted, isAbout}
@@ -33,7 +32,7 @@ use Rattle.model.specs.Theorem.{Gateway, outcomeOf, gatewayStep, gateway
 
 -- settings that fresh takes
 abbrev pub Taken : Settings → Type 0
-Taken g = (freshOf (g .asn) (g .own) (g .capability) (g .net)) .answer ≡ 0
+Taken g = (freshOf g) .answer ≡ 0
 
 -- the record in slot j, and whether it is Up
 abbrev pub slotOn : Gateway → ℕ → Slot
@@ -56,7 +55,7 @@ pub record Unmoved (before now : Gateway) (j : ℕ) : Type 0 where
 pub record Bare (b : Gateway) (j : ℕ) : Type 0 where
   pub count : (slotOn b j) .rows ≡ 0
   pub rows : rowsAt b j ≡ []
-  pub numbers : partAt (b .table) j ≡ zeros mostNumbers
+  pub numbers : partAt (b .table) j ≡ zeros slotNumbers
 
 -- octets that pass 3 to 12 and say this message, from the neighbour in slot j
 pub record Says (b : Gateway) (j : ℕ) (o home buffer : List ℕ) (m : Message) : Type 0 where
@@ -191,14 +190,14 @@ pub record SaysRows (b : Gateway) (j number : ℕ) (o home buffer : List ℕ) (r
   pub status : ℕ
   pub net : ℕ
   pub says : Says b j o home buffer (M.Update asn number status net)
-  pub body : updateOf most (b .state .settings .net) o ≡ accepted rows
+  pub body : updateOf 128 (b .state .settings .net) o ≡ accepted rows
 
 -- the call is answered 0, and slot j has exactly these rows after it
 pub record Stands (b : Gateway) (call : Call) (j : ℕ) (rows : List Row) : Type 0 where
   pub answer : (outcomeOf call b) .answer ≡ 0
   pub is : rowsAt (gatewayStep call b) j ≡ rows
   pub count : (slotOn (gatewayStep call b) j) .rows ≡ length rows
-  pub numbers : partAt ((gatewayStep call b) .table) j ≡ padded mostNumbers (flat rows)
+  pub numbers : partAt ((gatewayStep call b) .table) j ≡ padded slotNumbers (flat rows)
 
 -- in Up, an Update that carries S replaces the rows
 abbrev pub UpdateCounts : Type 0

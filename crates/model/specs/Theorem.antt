@@ -1,24 +1,22 @@
 -- The theorem about lists of calls: the gateway's definitions and the model, run over any list, leave and answer the same.
-use Prim.Native.Nat.{ℕ, _*_, _-_, _<_}
+use Prim.Native.Nat.{ℕ, suc, _*_, _-_, _<_}
 use mathlib.Core.Path.{_≡_}
 use mathlib.Core.Bool.{Bool, true, false, cond}
 use mathlib.Core.List.{List, [], _∷_, _++_, map}
 use lib.Dec.{ltb, eqb}
-use lib.ListN.{length, take, drop}
+use lib.ListN.{length, drop}
 use Rattle.checks.specs.Lists.{every}
 use Rattle.checks.specs.Lists.{join}
 use Rattle.octets.specs.Buffer.{over}
-use Rattle.nets.specs.Rows.{Row, rowsOf, flat}
+use Rattle.nets.specs.Rows.{Row, flat}
 use Rattle.rows.specs.Storing.{zeros, padded}
-use Rattle.codec.specs.Reading.{mostNumbers}
 use Rattle.neighbour.specs.declared.Settings.{Settings}
-use Rattle.machine.specs.Intrinsics.{asEvent}
 use Rattle.state.specs.declared.State.{State}
 use Rattle.state.specs.declared.Slot as Stored
 use Rattle.state.specs.declared.Outcome.{Outcome}
 use Rattle.state.specs.Slots.{freeSlot, slotAt}
+use Rattle.state.specs.Places.{slotNumbers, rowCounts, partAt, readRows}
 use Rattle.state.specs.Formed.{stateFormed}
-use Rattle.calls.specs.Carried.{partAt}
 use Rattle.slots.specs.Calls.{freshOf, addOf, removeOf}
 use Rattle.calls.specs.Calls.{eventOutcome, eventTable, eventBuffer, messageOutcome, messageTable, messageBuffer}
 use Rattle.lines.specs.Listing.{markedRow, listingOutcome, listingBuffer}
@@ -35,7 +33,7 @@ pub record Gateway : Type 0 where
 unfoldable pub outcomeOf : Call → Gateway → Outcome
 outcomeOf (add address asn) b = addOf (b .state) address asn
 outcomeOf (remove address) b = removeOf (b .state) address
-outcomeOf (happen event a buffer) b = eventOutcome (asEvent event) (b .state) (b .table) buffer a
+outcomeOf (happen event a buffer) b = eventOutcome event (b .state) (b .table) buffer a
 outcomeOf (receive a o home buffer) b = messageOutcome (b .state) (b .table) buffer home a o
 outcomeOf (listing buffer) b = listingOutcome (b .state) (b .table) buffer
 
@@ -43,7 +41,7 @@ outcomeOf (listing buffer) b = listingOutcome (b .state) (b .table) buffer
 unfoldable pub tableAfter : Call → Gateway → List ℕ
 tableAfter (add address asn) b = b .table
 tableAfter (remove address) b = b .table
-tableAfter (happen event a buffer) b = eventTable (asEvent event) (b .state) (b .table) buffer a
+tableAfter (happen event a buffer) b = eventTable event (b .state) (b .table) buffer a
 tableAfter (receive a o home buffer) b = messageTable (b .state) (b .table) buffer home a o
 tableAfter (listing buffer) b = b .table
 
@@ -58,7 +56,7 @@ bufferOf (listing buffer) = buffer
 unfoldable pub bufferAfter : Call → Gateway → List ℕ
 bufferAfter (add address asn) b = []
 bufferAfter (remove address) b = []
-bufferAfter (happen event a buffer) b = eventBuffer (asEvent event) (b .state) (b .table) buffer a
+bufferAfter (happen event a buffer) b = eventBuffer event (b .state) (b .table) buffer a
 bufferAfter (receive a o home buffer) b = messageBuffer (b .state) (b .table) buffer home a o
 bufferAfter (listing buffer) b = listingBuffer (b .state) (b .table) buffer
 
@@ -95,7 +93,7 @@ emptyTable = zeros 3072
 
 -- from what fresh returns and an empty table
 unfoldable pub begun : Settings → Gateway
-begun g = record { state = (freshOf (g .asn) (g .own) (g .capability) (g .net)) .state; table = emptyTable }
+begun g = record { state = (freshOf g) .state; table = emptyTable }
 
 unfoldable pub run : Settings → List Call → Gateway
 run g calls = gatewayFrom (begun g) calls
@@ -119,7 +117,7 @@ rowsHeld (used p) = p .rows
 
 -- 01: "the table has them as under Numbers": "slot by slot, three a row .. Unused rows are zero"
 unfoldable pub part : Slot → List ℕ
-part slot = padded mostNumbers (flat (rowsHeld slot))
+part slot = padded slotNumbers (flat (rowsHeld slot))
 
 unfoldable pub tableOf : Model → List ℕ
 tableOf m = join (map part (m .slots))
@@ -143,7 +141,7 @@ shown (call ∷ rest) (s ∷ said) = shownIn (bufferOf call) s ∷ shown rest sa
 
 -- 01: "three a row": the rows of slot j, as many as its count says
 unfoldable pub rowsAt : Gateway → ℕ → List Row
-rowsAt b j = rowsOf (take (3 * (slotAt (b .state) j) .rows) (partAt (b .table) j))
+rowsAt b j = readRows (b .table) (rowCounts (b .state)) j
 
 -- ---- what a listing asks of the calls before it
 
@@ -181,23 +179,25 @@ pub record Agreement (g : Settings) (calls : List Call) : Type 0 where
   -- the rows read off the final table by the final count are those of the last Update accepted since the slot last entered Up; behind them all is zero
   pub rows : (j : ℕ) → j < 8 → rowsAt (run g calls) j ≡ lastAccepted g j calls
   pub count : (j : ℕ) → j < 8 → (slotAt ((run g calls) .state) j) .rows ≡ length (lastAccepted g j calls)
-  pub numbers : (j : ℕ) → j < 8 → partAt ((run g calls) .table) j ≡ padded mostNumbers (flat (lastAccepted g j calls))
-  -- however many calls about others follow, a used slot's record stays as it was, and its part of the table
+  pub numbers : (j : ℕ) → j < 8 → partAt ((run g calls) .table) j ≡ padded slotNumbers (flat (lastAccepted g j calls))
+  -- however many calls about others follow, a used slot's record stays as it was, its part of the table, and the rows read
   pub others :
       (more : List Call) (j : ℕ) → j < 8
       → ((slotAt ((run g calls) .state) j) .address ≡ 0 → ⊥) → every (isElsewhere ((slotAt ((run g calls) .state) j) .address)) more ≡ true
       → (slotAt ((run g (calls ++ more)) .state) j ≡ slotAt ((run g calls) .state) j)
       × (partAt ((run g (calls ++ more)) .table) j ≡ partAt ((run g calls) .table) j)
-  -- and a free slot stays free, its part zero, until a neighbour is added
+      × (rowsAt (run g (calls ++ more)) j ≡ rowsAt (run g calls) j)
+  -- and a free slot stays free, its part zero and without a row, until a neighbour is added
   pub free-slots :
       (more : List Call) (j : ℕ) → j < 8
       → (slotAt ((run g calls) .state) j) .address ≡ 0 → every takesNoSlot more ≡ true
       → (slotAt ((run g (calls ++ more)) .state) j ≡ freeSlot)
-      × (partAt ((run g (calls ++ more)) .table) j ≡ zeros mostNumbers)
+      × (partAt ((run g (calls ++ more)) .table) j ≡ zeros slotNumbers)
+      × (rowsAt (run g (calls ++ more)) j ≡ [])
 
 -- 01: "one claim about the whole list, not one for each call": all settings that fresh takes, and all lists
 abbrev pub ListOfCalls : Type 0
-ListOfCalls = (g : Settings) → (freshOf (g .asn) (g .own) (g .capability) (g .net)) .answer ≡ 0 → (calls : List Call) → Agreement g calls
+ListOfCalls = (g : Settings) → (freshOf g) .answer ≡ 0 → (calls : List Call) → Agreement g calls
 
 -- ---- what no call after them can be answered, and what leaves all as it was
 
@@ -213,7 +213,7 @@ pub record Steady (g : Settings) (calls : List Call) : Type 0 where
   pub listings-gateway : (buffer : List ℕ) → gatewayStep (listing buffer) (run g calls) ≡ run g calls
 
 abbrev pub NeverOneOrTwo : Type 0
-NeverOneOrTwo = (g : Settings) → (freshOf (g .asn) (g .own) (g .capability) (g .net)) .answer ≡ 0 → (calls : List Call) → Steady g calls
+NeverOneOrTwo = (g : Settings) → (freshOf g) .answer ≡ 0 → (calls : List Call) → Steady g calls
 
 -- ---- from any state that passes check 1, with any rows it counts
 
@@ -225,7 +225,7 @@ pub record Sensible (b : Gateway) : Type 0 where
   pub formed : stateFormed (b .state) ≡ true
   pub eight : length (b .state .slots) ≡ 8
   pub long : length (b .table) ≡ 3072
-  pub zero-unused : (j : ℕ) → j < 8 → unused b j ≡ zeros (mostNumbers - 3 * (slotAt (b .state) j) .rows)
+  pub zero-unused : (j : ℕ) → j < 8 → unused b j ≡ zeros (slotNumbers - 3 * (slotAt (b .state) j) .rows)
 
 -- 2 in a listing: no "used row's third number above 511"
 abbrev pub Listable : Gateway → Type 0
@@ -235,16 +235,17 @@ Listable b = (j : ℕ) → j < 8 → every markedRow (rowsAt b j) ≡ true
 abbrev pub peerFrom : Stored.Slot → List Row → Peer
 peerFrom slot rows = record { address = slot .address; asn = slot .asn; neighbour = slot .neighbour; rows = rows }
 
--- one slot of the model, from its record and its part of the table
-unfoldable pub slotFrom : Stored.Slot → List ℕ → Slot
-slotFrom slot numbers = cond (eqb (slot .address) 0) free (used (peerFrom slot (rowsOf (take (3 * slot .rows) numbers))))
+-- one slot of the model, from its record and the rows read off the table
+unfoldable pub slotFrom : Stored.Slot → List Row → Slot
+slotFrom slot rows = cond (eqb (slot .address) 0) free (used (peerFrom slot rows))
 
-unfoldable pub slotsFrom : List Stored.Slot → List ℕ → List Slot
-slotsFrom [] table = []
-slotsFrom (slot ∷ rest) table = slotFrom slot (take mostNumbers table) ∷ slotsFrom rest (drop mostNumbers table)
+-- these are the slots from index i on
+unfoldable pub slotsFrom : ℕ → List Stored.Slot → List ℕ → List ℕ → List Slot
+slotsFrom i [] table counts = []
+slotsFrom i (slot ∷ rest) table counts = slotFrom slot (readRows table counts i) ∷ slotsFrom (suc i) rest table counts
 
 unfoldable pub modelOf : Gateway → Model
-modelOf b = record { settings = b .state .settings; slots = slotsFrom (b .state .slots) (b .table) }
+modelOf b = record { settings = b .state .settings; slots = slotsFrom 0 (b .state .slots) (b .table) (rowCounts (b .state)) }
 
 -- such a state and table are those of a model, and every list of calls goes on as in the model
 pub record FromAnyState : Type 0 where

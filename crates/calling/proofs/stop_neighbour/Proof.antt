@@ -1,5 +1,6 @@
 -- `calling::stop_neighbour` meets its contract: the call, and its replies as lines. Assumes nothing.
-use Rattle.calling.proofs.Laws.{lent-is, stop-made, made-done}
+use Rattle.calling.proofs.Laws.{lent-is, event-made, made-done}
+use Rattle.machine.specs.Intrinsics.{Stop}
 use Rattle.calling.specs.Told.{addressOf}
 use borrow.Author.Needs.{needs}
 use Rattle.calling.proofs.stop_neighbour.Statement.{statement}
@@ -16,7 +17,7 @@ slice-aggregate-put-replies c = search needs
 
 put-replies-requires : tie.Need-put-replies-requires
 put-replies-requires c κs =
-    let m = stop-made (c .before .before .before .before .before .before .before .before .before .before .args .st) (c .before .before .before .before .before .before .before .before .before .before .args .table .now) (c .before .before .before .before .before .before .before .before .before .before .args .address) lent-is (c .before .before .before .before .before .stop .ensures .0) (c .before .before .before .before .before .stop .ensures .1 .0) (c .before .before .before .before .before .stop .ensures .1 .1) in
+    let m = event-made Stop (c .before .before .before .before .before .before .before .before .before .before .args .st) (c .before .before .before .before .before .before .before .before .before .before .args .table .now) (c .before .before .before .before .before .before .before .before .before .before .args .address) lent-is (c .before .before .before .before .before .stop .ensures .0) (c .before .before .before .before .before .stop .ensures .1 .0) (c .before .before .before .before .before .stop .ensures .1 .1) in
     (m .few, m .long, c .before .before .before .before .before .before .before .before .before .before .pre)
 
 told-requires : tie.Need-told-requires
@@ -30,7 +31,7 @@ same-length-2 c = search needs
 
 returns : tie.Need-returns
 unfolding addressOf
-returns c = made-done (stop-made (c .before .before .before .before .before .before .before .before .before .before .before .before .before .before .args .st) (c .before .before .before .before .before .before .before .before .before .before .before .before .before .before .args .table .now) (c .before .before .before .before .before .before .before .before .before .before .before .before .before .before .args .address) lent-is (c .before .before .before .before .before .before .before .before .before .stop .ensures .0) (c .before .before .before .before .before .before .before .before .before .stop .ensures .1 .0) (c .before .before .before .before .before .before .before .before .before .stop .ensures .1 .1)) (c .before .before .before .before .before .before .before .before .before .before .before .before .before .before .args .out .now) (c .before .before .before .put-replies .ensures .0) (c .before .before .before .put-replies .ensures .1) (c .told .ensures)
+returns c = made-done (event-made Stop (c .before .before .before .before .before .before .before .before .before .before .before .before .before .before .args .st) (c .before .before .before .before .before .before .before .before .before .before .before .before .before .before .args .table .now) (c .before .before .before .before .before .before .before .before .before .before .before .before .before .before .args .address) lent-is (c .before .before .before .before .before .before .before .before .before .stop .ensures .0) (c .before .before .before .before .before .before .before .before .before .stop .ensures .1 .0) (c .before .before .before .before .before .before .before .before .before .stop .ensures .1 .1)) (c .before .before .before .before .before .before .before .before .before .before .before .before .before .before .args .out .now) (c .before .before .before .put-replies .ensures .0) (c .before .before .before .put-replies .ensures .1) (c .told .ensures)
 
 pub stop-neighbour-spec : {M : Type 1} → statement M
 stop-neighbour-spec =

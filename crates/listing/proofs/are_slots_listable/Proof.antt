@@ -2,10 +2,7 @@
 use Rattle.checks.specs.Lists.{every}
 use Rattle.listing.proofs.Laws.{left, listable-not, listable-more, listable-end}
 use Rattle.lines.specs.Listing.{entries, listable}
-use Rattle.state.proofs.Theorems.{formed-slot}
 use Rattle.state.proofs.ListLaws.{unmapped}
-use Rattle.state.specs.Slots.{freeSlot, slotAt}
-use Rattle.neighbour.specs.Record.{idle}
 use lib.ListN.{length}
 use mathlib.Core.Path.{_≡_, refl, sym, _∙_}
 use Prim.Native.Nat.{_-_, _≤_}
@@ -16,27 +13,20 @@ use Rattle.listing.proofs.are_slots_listable.Statement.{statement}
 use Rattle.listing.proofs.are_slots_listable.Tie as tie
 
 abbrev Inv-loop : tie.InvT-loop
-Inv-loop table st i₀ i = (i ≤ 8) × (every listable (left (st .slots) table 0) ≡ every listable (left (st .slots) table i))
+Inv-loop st table i₀ i = (i ≤ 8) × (every listable (left st table 0) ≡ every listable (left st table i))
 
 abbrev μ-loop : tie.MeasureT-loop
-μ-loop table st i₀ i = 8 - i
+μ-loop st table i₀ i = 8 - i
 
 loop-holds : tie.Need-loop-holds Inv-loop μ-loop
 loop-holds c = (omega arith, refl)
 
-mul-slot : tie.Need-mul-slot Inv-loop μ-loop
-mul-slot c = omega arith
-
-element-copy-out-slot : tie.Need-element-copy-out-slot Inv-loop μ-loop
-element-copy-out-slot c = search needs
-
 is-slot-listable-requires : tie.Need-is-slot-listable-requires Inv-loop μ-loop
-unfolding slotAt freeSlot idle
-is-slot-listable-requires c κs = (c .before .loop-test .taken, formed-slot (c .before .before .before .before .args .t1) (c .before .before .loop .i) (c .before .before .before .before .pre .0) .1 .few, c .before .before .before .before .pre .1)
+is-slot-listable-requires c κs = (c .before .before .before .pre .0, c .loop-test .taken, c .before .before .before .pre .1)
 
 returns : tie.Need-returns Inv-loop μ-loop
-unfolding entries left freeSlot idle
-returns c = let eight : length (c .before .before .before .before .before .before .args .t1 .slots) ≡ 8 = search (needs, unmapped) in sym (c .before .before .before .before .loop .inv .1 ∙ listable-not (c .before .before .before .before .before .before .args .t1 .slots) (c .before .before .before .before .before .before .args .table .now) (c .before .before .before .before .loop .i) (omega arith) (sym (c .before .is-slot-listable .ensures) ∙ not-true _ (c .if1 .taken)))
+unfolding entries left
+returns c = let eight : length (c .before .before .before .before .before .args .st .slots) ≡ 8 = search (needs, unmapped) in sym (c .before .before .before .loop .inv .1 ∙ listable-not (c .before .before .before .before .before .args .st) (c .before .before .before .before .before .args .table .now) (c .before .before .before .loop .i) (omega arith) (sym (c .before .is-slot-listable .ensures) ∙ not-true _ (c .if1 .taken)))
 
 add-i : tie.Need-add-i Inv-loop μ-loop
 add-i c = omega arith
@@ -45,12 +35,11 @@ loop-less : tie.Need-loop-less Inv-loop μ-loop
 loop-less c = omega arith
 
 loop-again : tie.Need-loop-again Inv-loop μ-loop
-unfolding freeSlot idle
-loop-again c = let eight : length (c .before .before .before .before .before .before .args .t1 .slots) ≡ 8 = search (needs, unmapped) in (omega arith, c .before .before .before .before .loop .inv .1 ∙ listable-more (c .before .before .before .before .before .before .args .t1 .slots) (c .before .before .before .before .before .before .args .table .now) (c .before .before .before .before .loop .i) (omega arith) (sym (c .before .is-slot-listable .ensures) ∙ not-false _ (c .if1 .left)))
+loop-again c = let eight : length (c .before .before .before .before .before .args .st .slots) ≡ 8 = search (needs, unmapped) in (omega arith, c .before .before .before .loop .inv .1 ∙ listable-more (c .before .before .before .before .before .args .st) (c .before .before .before .before .before .args .table .now) (c .before .before .before .loop .i) (omega arith) (sym (c .before .is-slot-listable .ensures) ∙ not-false _ (c .if1 .left)))
 
 returns-2 : tie.Need-returns-2 Inv-loop μ-loop
 unfolding entries left
-returns-2 c = let eight : length (c .before .before .before .args .t1 .slots) ≡ 8 = search (needs, unmapped) in sym (c .before .loop .inv .1 ∙ listable-end (c .before .before .before .args .t1 .slots) (c .before .before .before .args .table .now) (c .before .loop .i) (omega arith))
+returns-2 c = let eight : length (c .before .before .before .args .st .slots) ≡ 8 = search (needs, unmapped) in sym (c .before .loop .inv .1 ∙ listable-end (c .before .before .before .args .st) (c .before .before .before .args .table .now) (c .before .loop .i) (omega arith))
 
 pub are-slots-listable-spec : {M : Type 1} → statement M
 are-slots-listable-spec =
@@ -59,8 +48,6 @@ are-slots-listable-spec =
     Inv-loop
     μ-loop
     loop-holds
-    mul-slot
-    element-copy-out-slot
     is-slot-listable-requires
     returns
     add-i

@@ -2,12 +2,9 @@
 use Rattle.listing.proofs.Laws.{left, textLeft, text-turn, text-end}
 use Rattle.listing.specs.Steps.{slotText, slotsText}
 use Rattle.lines.specs.Listing.{entries}
-use Rattle.state.proofs.Theorems.{formed-slot}
 use Rattle.state.proofs.ListLaws.{unmapped}
-use Rattle.state.specs.Slots.{freeSlot, slotAt}
-use Rattle.neighbour.specs.Record.{idle}
 use Rattle.storing.proofs.Storing.{Writing, start, room, turn, done}
-use lib.ListN.{length, getD}
+use lib.ListN.{length}
 use mathlib.Core.Path.{_≡_}
 use Prim.Native.Nat.{_+_, _-_, _≤_}
 use borrow.Author.Needs.{needs}
@@ -16,24 +13,17 @@ use Rattle.listing.proofs.put_slots.Statement.{statement}
 use Rattle.listing.proofs.put_slots.Tie as tie
 
 abbrev Inv-loop : tie.InvT-loop
-Inv-loop out₀ at table st end₀ i₀ out end i = (i ≤ 8) × Writing (slotsText st table) at out₀ (textLeft (st .slots) table i) end out
+Inv-loop out₀ at st table end₀ i₀ out end i = (i ≤ 8) × Writing (slotsText st table) at out₀ (textLeft st table i) end out
 
 abbrev μ-loop : tie.MeasureT-loop
-μ-loop out₀ at table st end₀ i₀ out end i = 8 - i
+μ-loop out₀ at st table end₀ i₀ out end i = 8 - i
 
 loop-holds : tie.Need-loop-holds Inv-loop μ-loop
 unfolding slotsText textLeft left entries
 loop-holds c = (omega arith, start _ _ _ (c .before .before .pre .1))
 
-mul-slot : tie.Need-mul-slot Inv-loop μ-loop
-mul-slot c = omega arith
-
-element-copy-out-slot : tie.Need-element-copy-out-slot Inv-loop μ-loop
-element-copy-out-slot c = search needs
-
 put-slot-requires : tie.Need-put-slot-requires Inv-loop μ-loop
-unfolding slotAt freeSlot idle
-put-slot-requires c κs = let eight : length (c .before .before .before .before .before .before .args .t3 .slots) ≡ 8 = search (needs, unmapped) in ((c .before .before .loop-test .taken, formed-slot (c .before .before .before .before .before .before .args .t3) (c .before .before .before .loop .i) (c .before .before .before .before .before .before .pre .0 .0) .1 .few, c .before .before .before .before .before .before .pre .0 .1), room (c .before .before .before .loop .inv .1) (slotText (c .before .before .before .loop .i) (getD (c .before .before .before .before .before .before .args .t3 .slots) (c .before .before .before .loop .i) freeSlot) (c .before .before .before .before .before .before .args .table .now)) (textLeft (c .before .before .before .before .before .before .args .t3 .slots) (c .before .before .before .before .before .before .args .table .now) (c .before .before .before .loop .i + 1)) (text-turn (c .before .before .before .before .before .before .args .t3 .slots) (c .before .before .before .before .before .before .args .table .now) (c .before .before .before .loop .i) (omega arith)))
+put-slot-requires c κs = let eight : length (c .before .before .before .before .before .args .st .slots) ≡ 8 = search (needs, unmapped) in ((c .before .before .before .before .before .pre .0 .0, c .before .loop-test .taken, c .before .before .before .before .before .pre .0 .1), room (c .before .before .loop .inv .1) (slotText (c .before .before .before .before .before .args .st) (c .before .before .loop .i) (c .before .before .before .before .before .args .table .now)) (textLeft (c .before .before .before .before .before .args .st) (c .before .before .before .before .before .args .table .now) (c .before .before .loop .i + 1)) (text-turn (c .before .before .before .before .before .args .st) (c .before .before .before .before .before .args .table .now) (c .before .before .loop .i) (omega arith)))
 
 add-i : tie.Need-add-i Inv-loop μ-loop
 add-i c = omega arith
@@ -42,14 +32,13 @@ loop-less : tie.Need-loop-less Inv-loop μ-loop
 loop-less c = omega arith
 
 loop-again : tie.Need-loop-again Inv-loop μ-loop
-unfolding freeSlot idle
-loop-again c = let eight : length (c .before .before .before .before .before .before .before .before .before .args .t3 .slots) ≡ 8 = search (needs, unmapped) in (omega arith, turn (c .before .before .before .before .before .before .loop .inv .1) (slotText (c .before .before .before .before .before .before .loop .i) (getD (c .before .before .before .before .before .before .before .before .before .args .t3 .slots) (c .before .before .before .before .before .before .loop .i) freeSlot) (c .before .before .before .before .before .before .before .before .before .args .table .now)) (textLeft (c .before .before .before .before .before .before .before .before .before .args .t3 .slots) (c .before .before .before .before .before .before .before .before .before .args .table .now) (c .before .before .before .before .before .before .loop .i + 1)) (text-turn (c .before .before .before .before .before .before .before .before .before .args .t3 .slots) (c .before .before .before .before .before .before .before .before .before .args .table .now) (c .before .before .before .before .before .before .loop .i) (omega arith)) (c .before .before .put-slot .ensures))
+loop-again c = let eight : length (c .before .before .before .before .before .before .before .before .args .st .slots) ≡ 8 = search (needs, unmapped) in (omega arith, turn (c .before .before .before .before .before .loop .inv .1) (slotText (c .before .before .before .before .before .before .before .before .args .st) (c .before .before .before .before .before .loop .i) (c .before .before .before .before .before .before .before .before .args .table .now)) (textLeft (c .before .before .before .before .before .before .before .before .args .st) (c .before .before .before .before .before .before .before .before .args .table .now) (c .before .before .before .before .before .loop .i + 1)) (text-turn (c .before .before .before .before .before .before .before .before .args .st) (c .before .before .before .before .before .before .before .before .args .table .now) (c .before .before .before .before .before .loop .i) (omega arith)) (c .before .before .put-slot .ensures))
 
 same-length : tie.Need-same-length Inv-loop μ-loop
 same-length c = c .before .loop .inv .1 .long
 
 returns : tie.Need-returns Inv-loop μ-loop
-returns c = let eight : length (c .before .before .before .before .args .t3 .slots) ≡ 8 = search (needs, unmapped) in done (c .before .loop .inv .1) (text-end (c .before .before .before .before .args .t3 .slots) (c .before .before .before .before .args .table .now) (c .before .loop .i) (omega arith))
+returns c = let eight : length (c .before .before .before .before .args .st .slots) ≡ 8 = search (needs, unmapped) in done (c .before .loop .inv .1) (text-end (c .before .before .before .before .args .st) (c .before .before .before .before .args .table .now) (c .before .loop .i) (omega arith))
 
 pub put-slots-spec : {M : Type 1} → statement M
 put-slots-spec =
@@ -58,8 +47,6 @@ put-slots-spec =
     Inv-loop
     μ-loop
     loop-holds
-    mul-slot
-    element-copy-out-slot
     put-slot-requires
     add-i
     loop-less

@@ -12,10 +12,9 @@ use Rattle.octets.specs.Buffer.{over}
 use Rattle.state.specs.declared.State.{State}
 use Rattle.state.specs.declared.Outcome.{Outcome}
 use Rattle.state.specs.Outcomes.{refusedOf}
 use Rattle.claims.specs.Claims.{Silent, Within, FormedState}
 use Rattle.lines.specs.Lines.{listingText}
 use Rattle.lines.specs.Listing.{entries, listingChecks, listingOutcome, listingBuffer}
-use Rattle.listing.specs.Claims.{ListingKeeps}
 
 module _ (st : State) (table buffer : List ℕ) where
   abbrev checks : ℕ
@@ -37,9 +36,9 @@ module _ (st : State) (table buffer : List ℕ) where
       go true e = done
       go false e = refused e
 
-  refused-silent : ((listingOutcome st table buffer) .answer ≡ 0 → ⊥) → Silent st table buffer (listingOutcome st table buffer) table (listingBuffer st table buffer)
+  pub listing-refused : ((listingOutcome st table buffer) .answer ≡ 0 → ⊥) → Silent st table buffer (listingOutcome st table buffer) table (listingBuffer st table buffer)
   unfolding refusedOf
-  refused-silent =
+  listing-refused =
       by-answer (λ r b. (r .answer ≡ 0 → ⊥) → Silent st table buffer r table b) (λ h. absurd (h refl))
       (λ _ _. record { outcome = refl; table = refl; buffer = refl })
 
@@ -47,22 +46,16 @@ module _ (st : State) (table buffer : List ℕ) where
   unfolding over
   over-rest = rw (add-zero (length octets)) (drop-at octets (drop (length octets) buffer) (length octets) refl)
 
-  writes-within : Within (listingOutcome st table buffer) buffer (listingBuffer st table buffer)
+  pub listing-within : Within (listingOutcome st table buffer) buffer (listingBuffer st table buffer)
   unfolding refusedOf over
-  writes-within =
+  listing-within =
       by-answer (λ r b. Within r buffer b)
       (record { octets = octets; is = refl; long = sym (add-zero (length octets)); rest = over-rest })
       (λ _. record { octets = []; is = refl; long = refl; rest = refl })
 
-  keeps-state : (listingOutcome st table buffer) .state ≡ st
+  pub listing-state : (listingOutcome st table buffer) .state ≡ st
   unfolding refusedOf
-  keeps-state = by-answer (λ r _. r .state ≡ st) refl (λ _. refl)
+  listing-state = by-answer (λ r _. r .state ≡ st) refl (λ _. refl)
 
-pub listing-keeps : ListingKeeps
-listing-keeps =
-    record {
-      refused = refused-silent;
-      within = writes-within;
-      state = keeps-state;
-      formed = λ st table buffer f. subst FormedState (sym (keeps-state st table buffer)) f;
-    }
+  pub listing-formed : FormedState st → FormedState ((listingOutcome st table buffer) .state)
+  listing-formed f = subst FormedState (sym listing-state) f

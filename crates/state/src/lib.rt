@@ -74,11 +74,10 @@ pub fn slot_at(st: State, i: usize) -> Slot
 pub fn with_slot(st: State, i: usize, slot: Slot) -> State
     ensures { λ r. ⌜ r ≡ withSlot st i slot ⌝ }
 {
-    if SLOTS <= i {
-        return st;
-    }
     let mut next = st;
-    next.slots[i] = slot;
+    if i < SLOTS {
+        next.slots[i] = slot;
+    }
     next
 }
 

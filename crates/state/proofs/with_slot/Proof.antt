@@ -1,4 +1,4 @@
-use mathlib.Core.Path.{_≡_, refl, _∙_}
+use mathlib.Core.Path.{_≡_, refl}
 use lib.ListN.{length}
 use Rattle.state.specs.Slots.{withSlot}
 use Rattle.state.proofs.ListLaws.{unmapped}
@@ -9,24 +9,24 @@ use Rattle.state.proofs.with_slot.Tie as tie
 use Rattle.state.proofs.with_slot.Reads as reads
 use Rattle.state.proofs.with_slot.Lts as lts
 
--- src/lib.rt:78:9
-returns : tie.Need-returns
-returns c =
-    let eight : length (c .before .args .st .slots) ≡ 8 = search (needs, unmapped) in
-    with-past (c .before .args .st) (c .before .args .i) (c .before .args .slot) eight (c .if1 .taken)
-
--- src/lib.rt:81:5
+-- src/lib.rt:79:9
 mul-slot : tie.Need-mul-slot
 mul-slot c = search needs
 
--- src/lib.rt:81:5
+-- src/lib.rt:79:9
 element-set-from-slot : tie.Need-element-set-from-slot
 element-set-from-slot c = search needs
 
 -- src/lib.rt:74:1
-returns-2 : tie.Need-returns-2
+returns : tie.Need-returns
 unfolding withSlot
-returns-2 c = refl
+returns c = refl
+
+-- src/lib.rt:74:1
+returns-2 : tie.Need-returns-2
+returns-2 c =
+    let eight : length (c .before .args .st .slots) ≡ 8 = search (needs, unmapped) in
+    with-past (c .before .args .st) (c .before .args .i) (c .before .args .slot) eight (c .if1 .left)
 
 pub with-slot-spec : {M : Type 1} → statement M
-with-slot-spec = tie.close (tie.spec returns mul-slot element-set-from-slot returns-2)
+with-slot-spec = tie.close (tie.spec mul-slot element-set-from-slot returns returns-2)

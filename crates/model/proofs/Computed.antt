@@ -5,45 +5,22 @@ use mathlib.Core.Bool.{Bool, true, false, _&&_}
 use mathlib.Core.List.{List, [], _∷_, _++_}
 use lib.Dec.{eqb}
 use lib.ListN.{length}
-use Rattle.checks.specs.Checks.{check, ifOk}
-use Rattle.octets.specs.Checksum as Checksum
-use Rattle.nets.specs.Classes as Classes
-use Rattle.nets.specs.Rows as Rows
-use Rattle.rows.specs.Storing as Storing
-use Rattle.message.specs.Kinds as Kinds
-use Rattle.wire.specs.Reading as Wire
-use Rattle.fixed.specs.Writing as Writing
-use Rattle.walk.specs.Body as Body
-use Rattle.blocks.specs.Blocks as Blocks
 use Rattle.neighbour.specs.declared.Phase.the-variants.{Up}
 use Rattle.neighbour.specs.declared.Mode.the-variants.{Passive}
 use Rattle.neighbour.specs.declared.Neighbour.{Neighbour}
-use Rattle.neighbour.specs.Record as Record
 use Rattle.neighbour.specs.Record.{isUp, withNumbers, withTimers, withReach, initialised}
-use Rattle.neighbour.specs.Rules as Rules
 use Rattle.neighbour.specs.Rules.{onesOf, goesDown}
-use Rattle.machine.specs.Table as Table
-use Rattle.machine.specs.Tick as Tick
-use Rattle.machine.specs.Step as Step
-use Rattle.checks.specs.Lists as Lists
 use Rattle.checks.specs.Lists.{every}
-use Rattle.wellformed.specs.Formed.{allZero, idleFormed, timersBelow, timersRun, t2Formed, registerFormed, agreed, intervalsFormed, causeFormed, wellFormed}
-use Rattle.state.specs.Slots.{addresses, clash}
-use Rattle.state.specs.Formed.{goodSettings, goodPeer, rowsFormed, freeFormed, usedFormed, slotFormed, stateFormed}
-use Rattle.writing.specs.Octets as Octets
+use Rattle.state.specs.Formed.{stateFormed}
 use Rattle.writing.specs.Octets.{octetsOf}
 use Rattle.message.specs.declared.Message.the-variants.{Update}
-use Rattle.calls.specs.Home as Home
-use Rattle.model.specs.Model as Calls
 use Rattle.model.specs.Model.{Call, tick, receive, peerWith, newPeer, Slot, free, used, Model, slotIn, step, modelFrom, empty}
-use Rattle.model.specs.History as History
 use Rattle.model.specs.History.{isUpSlot, accepts}
-use Rattle.model.specs.Theorem as Theorem
 use Rattle.model.specs.Theorem.{cell, stateOf, rowsHeld}
-use Rattle.model.specs.Windows as Windows
 use Rattle.model.specs.Windows.{recordIn, restartsNone, windows, latest}
 use Rattle.model.specs.Corollaries.{reports}
-use Rattle.model.specs.Example.{someSettings, lent, classA, ticks, saysHello, reporting, eight, polled, almostUp, slow, late, lateFirst}
+use Rattle.model.specs.Example.{someSettings, lent, classA, ticks, saysHello, reporting, eight, polled, almostUp, slow, lateFirst}
+use Rattle.model.proofs.Unfolded.{opened}
 
 -- ---- what is claimed of a model: single fields, so that others may be added to a record
 
@@ -116,7 +93,7 @@ pub record Computed : Type 0 where
   pub taken : accepts (modelFrom (empty someSettings) entered) 0 (receive 1 (octetsOf (Update 7 1 129 2148073472) (classA 10 1)) [] lent) ≡ true
 
 pub computed : Computed
-unfolding someSettings lent classA ticks saysHello reporting eight polled almostUp slow late lateFirst entered isFull allReport fallsSilent eightFacts silentFacts reports rowsHeld stateOf stateFormed goodSettings goodPeer rowsFormed freeFormed usedFormed slotFormed addresses clash allZero idleFormed timersBelow timersRun t2Formed registerFormed agreed intervalsFormed causeFormed wellFormed History.isUpSlot History.saysUpdate History.accepts History.rowsSaid Theorem.cell Windows.isIndication Windows.isEvaluation Windows.isRestart Windows.recordIn Windows.saidEvent Windows.doneFor Windows.eventFor Windows.holdsOf Windows.brings restartsNone windows latest atRest alone Calls.empty Calls.slotIn Calls.put Calls.isFree Calls.hasAddress Calls.placeOf Calls.isPresent Calls.vacancy Calls.silent Calls.spoken Calls.addable Calls.addAnswer Calls.addTurn Calls.noMove Calls.rowsIn Calls.moved Calls.noOctets Calls.eventMove Calls.bodyAnswer Calls.isUpdate Calls.kindAnswer Calls.answerTo Calls.firstTwelve Calls.errorReply Calls.refuseReply Calls.refusalReply Calls.afterMessage Calls.rowsAfter Calls.messageMove Calls.eventAnswer Calls.messageAnswer Calls.turnAt Calls.eventTurn Calls.messageTurn Calls.step Calls.modelFrom Calls.model check ifOk Wire.headerAnswer Wire.meaningOf Wire.decodeAs Wire.decodeOf Wire.numberOf Writing.headOf Octets.plainOctets Body.digits Body.many Body.leftJustified Body.rowOfWidth Body.netRow Body.groupRows Body.hostWidth Body.gatewayOf Body.blockRows Body.groupAt Body.blockAt Body.sidesAt Body.groupsHold Body.blocksHold Body.sidesHold Body.readAs Body.bothSides Body.nothingLeft Body.bodyOf Body.further Body.netAt Body.blocksOf Body.judged Body.updateOf Body.numberOf Body.rowsRead Blocks.sideRows Blocks.joined Blocks.runs Blocks.each Blocks.addressOctets Blocks.netOctets Blocks.hostOctets Blocks.netsOctets Blocks.groupOctets Blocks.groupsOctets Blocks.blockOctets Blocks.sideOctets Blocks.blocksOf Blocks.internalBlocks Blocks.externalBlocks Record.under Record.withNumbers Record.withTimers Record.withReach Record.idle Record.leftIdle Record.waiting Record.initialised Record.heardFrom Record.shifted Record.enterUp Record.leaveUp Record.polled Rules.inSequence Rules.commanded Rules.indicates Rules.noted Rules.helloInterval Rules.pollInterval Rules.unacceptable Rules.modeOf Rules.offerOf Rules.onesOf Rules.goesUp Rules.goesDown Rules.judged Table.followed Table.quiet Table.answers Table.says Table.helloIf Table.doesA Table.doesB Table.ceases Table.repeatsCease Table.acquires Table.stray Table.onRequest Table.settles Table.onConfirm Table.onRefuse Table.onCease Table.onCeaseAck Table.onHello Table.onIHeardYou Table.answersPoll Table.onPoll Table.onUpdate Table.onStart Table.onStop Tick.expired Tick.repeats Tick.listens Tick.polls Tick.pollsOnEntry Tick.takesT2 Tick.pollsInUp Tick.runs Tick.onTick Step.onMessage Step.stepOf Kinds.kindAt Kinds.plainStatus Kinds.refusalStatus Kinds.markedStatus Checksum.onesAdd Checksum.onesSum Checksum.checksumOf Checksum.sealed Checksum.wordTotal Checksum.folded Classes.netWidth Classes.hostSpan Classes.goodNet Classes.onNet Home.homeRow Home.ownFirst Home.goodHome Octets.octetsOf Rows.flat Rows.rowsOf Storing.zeros Storing.padded Storing.isWhole Storing.rowsIn Storing.isGot Storing.gotRows Storing.gotRest Lists.first Lists.every Lists.distinct Lists.join
+unfolding opened entered isFull allReport fallsSilent eightFacts silentFacts atRest alone
 computed =
     record {
       all-up = refl;

@@ -15,5 +15,6 @@ pub mod Corollaries
 pub mod Reach
 pub mod Windows
 pub mod Quiet
+pub mod Unfolded
 pub mod Computed
 pub mod Example

@@ -16,7 +16,7 @@ pub struct Head {
 }
 
 // The status that says our state, on Hello, I-H-U, Poll, Update and Error.
-pub fn status_in(phase: Phase) -> u8
+fn status_in(phase: Phase) -> u8
     ensures { λ r. ⌜ r ≡ statusIn phase ⌝ }
 {
     match phase {

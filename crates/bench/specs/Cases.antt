@@ -34,8 +34,8 @@ pub data Case : Type 0 where
   reads : ℕ → List ℕ → Message → List Row → Case
   -- octets read alone on a common net are refused with this number
   refused : ℕ → List ℕ → ℕ → Case
-  -- octets from the neighbour with this AS and record, at a gateway with these settings and with room for 128 rows: answer, reply, record after
-  -- it, and whether the rows stay, go or are so many others
+  -- octets from the neighbour with this AS and record, at a gateway with these settings and with room for 128 rows:
+  -- answer, reply, record after it, and whether the rows stay, go or are so many others
   received : Settings → ℕ → Neighbour → List ℕ → Verdict → Case
   -- the same for an event that is already a meaning
   happens : Settings → ℕ → Neighbour → Event → Verdict → Case

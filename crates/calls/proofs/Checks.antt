@@ -53,6 +53,6 @@ module _ (st : State) (table buffer : List ℕ) (a : ℕ) where
   pub message-passed : (home : List ℕ) → messageChecks st table buffer home a ≡ 0 → Passed st table buffer a × (goodHome (st .settings) home ≡ true)
   unfolding messageChecks
   message-passed home e =
-      let p = lent-passed st (tableFits table) (bufferFits buffer) _ e in
-      let four = check-passed (goodHome (st .settings) home) 4 _ refl (p .then) in
-      (found _ p (check-passed (present st a) 5 0 refl (four .1) .0), four .0)
+      let lent = lent-passed st (tableFits table) (bufferFits buffer) _ e in
+      let four = check-passed (goodHome (st .settings) home) 4 _ refl (lent .then) in
+      (found _ lent (check-passed (present st a) 5 0 refl (four .1) .0), four .0)

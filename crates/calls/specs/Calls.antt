@@ -43,7 +43,8 @@ messageChecks st table buffer home a =
 unfoldable pub noHead : Head
 noHead = record { first = 0; second = 0; third = 0 }
 
--- 15 "more than 128 rows": how many rows may be accepted from the neighbour in slot i, given the row counts of all slots
+-- 15 "more than 128 rows": how many rows may be accepted from the neighbour in slot i, given the row counts of all
+-- slots
 unfoldable pub updateRoom : List ℕ → ℕ → ℕ
 updateRoom counts i = 128
 

@@ -37,7 +37,8 @@ bringsRows phase (Is kind) = same kind K.Update && isUp phase
 unfoldable pub bodyNumber : ℕ → ℕ → List ℕ → ℕ
 bodyNumber room net o = Body.numberOf (updateOf room net o)
 
--- 01: "Checks go in this order; the first that fails answers": those of a message from the neighbour with this AS and record
+-- 01: "Checks go in this order; the first that fails answers": those of a message from the neighbour with this AS and
+-- record
 unfoldable pub messageNumber : ℕ → Settings → ℕ → Neighbour → List ℕ → ℕ
 messageNumber room g asn n o =
     check (sizeAllowed o) 6

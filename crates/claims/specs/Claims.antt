@@ -102,7 +102,8 @@ pub record PlaceLaws (table counts : List ℕ) (i : ℕ) (rows : List Row) : Typ
   pub same : readRows (writeRows table counts i rows) (set counts i (length rows)) i ≡ rows
   pub others : (j : ℕ) → (j ≡ i → ⊥) → readRows (writeRows table counts i rows) (set counts i (length rows)) j ≡ readRows table counts j
 
--- every slot but i, its rows and its numbers; and in every slot the settings, address and AS, and where each address is found
+-- every slot but i, its rows and its numbers; and in every slot the settings, address and AS, and where each address
+-- is found
 pub record Untouched (st : State) (table₀ : List ℕ) (i : ℕ) (result : State) (table₁ : List ℕ) : Type 0 where
   pub slots : (j : ℕ) → (j ≡ i → ⊥) → slotAt result j ≡ slotAt st j
   pub rows : (j : ℕ) → (j ≡ i → ⊥) → readRows table₁ (rowCounts result) j ≡ readRows table₀ (rowCounts st) j

@@ -1,5 +1,5 @@
--- The theorem about a recording's course: after each step the turns so far are turns on the recording, and the rest of it
--- is what is left of the piece and the pieces to come. Assumes nothing.
+-- The theorem about a recording's course: after each step the turns so far are turns on the recording, and the rest
+-- of it is what is left of the piece and the pieces to come. Assumes nothing.
 use Prim.Native.Nat.{ℕ, zero, suc, _+_, _-_, _≤_, _<_, min}
 use native.Mathlib.Omega.{arith}
 use mathlib.Core.Path.{_≡_, refl, sym, ap, subst, _∙_}

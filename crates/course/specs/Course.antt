@@ -1,5 +1,6 @@
 -- What is done around the player's turns: when a piece is read, how many turns are made on it, and how the recording
--- ends. 02: "Playing a recording must equal making the calls of its good lines one by one", "and the listing at the end".
+-- ends. 02: "Playing a recording must equal making the calls of its good lines one by one", "and the listing at the
+-- end".
 use Prim.Native.Nat.{ℕ, _+_, _-_, min}
 use mathlib.Core.Bool.{Bool, true, false, cond, _&&_, _||_}
 use mathlib.Core.List.{List, []}

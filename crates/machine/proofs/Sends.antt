@@ -1,4 +1,5 @@
--- What a step may send, row by row: `StepSends` and `NoThird` of specs/Laws.antt, and an eliminator for those who cite it. Assumes nothing.
+-- What a step may send, row by row: `StepSends` and `NoThird` of specs/Laws.antt, and an eliminator for those who
+-- cite it. Assumes nothing.
 use Prim.Native.Nat.{ℕ, _-_}
 use mathlib.Core.Path.{_≡_, refl, subst, sym}
 use mathlib.Core.Bool.{Bool, true, false, _&&_, _||_, false≢true}

@@ -1,5 +1,5 @@
 -- from specs/Sheet.antt MachineSheet
--- Made by ./unfoldings from the line above: every definition that it rests on. To unfold `opened` is to unfold them all.
+-- Made by ./unfoldings from the line above: all definitions that it rests on. To unfold `opened` is to unfold them all.
 use Prim.Native.Nat.{ℕ}
 use Rattle.neighbour.specs.Record as Record
 use Rattle.neighbour.specs.Rules as Rules

@@ -1,4 +1,5 @@
--- The events that no message brings. RFC 904, 4.2: "The Start and Stop events are intrinsic to the system environment of the gateway".
+-- The events that no message brings. RFC 904, 4.2: "The Start and Stop events are intrinsic to the system environment
+-- of the gateway".
 use Rattle.machine.specs.declared.Event.{Event}
 use Rattle.machine.specs.declared.Event.the-variants as E
 

@@ -19,7 +19,8 @@ use Rattle.machine.specs.declared.Reply.{Reply}
 use Rattle.machine.specs.declared.Reply.the-variants.{Nothing, One, Two}
 use Rattle.machine.specs.declared.After.{After}
 
--- what a third message would make of a reply, so that none is dropped unseen: no step leaves it (`NoThird` in Laws.antt)
+-- what a third message would make of a reply, so that none is dropped unseen: no step leaves it (`NoThird` in
+-- Laws.antt)
 abbrev pub overfull : Reply
 overfull = Two (M.Update 0 0 0 0) (M.Update 0 0 0 0)
 

@@ -23,7 +23,8 @@ takesT1 n due = cond (eqb (n .t1 - 1) 0) due (quiet (withTimers n (n .t1 - 1) (n
 unfoldable pub repeats : Neighbour → Message → After
 repeats n m = takesT1 n (answers (withTimers n P3 (n .t2) (n .t3)) m)
 
--- 01: "at 0, .. Down and Up shift heard into the register ..  With n ones, ..  Active then sends Hello with the new state."
+-- 01: "at 0, .. Down and Up shift heard into the register ..  With n ones, ..  Active then sends Hello with the new
+-- state."
 unfoldable pub listens : Settings → Neighbour → After
 listens g n = takesT1 n (thenHello g (quiet (judged (shifted n))))
 

@@ -161,7 +161,8 @@ module _ (peer : Peer) (good : SlotGood (cell (used peer))) where
         rw (← (number-same g (peer .asn) (peer .neighbour) o), e, ne-eqb k 0 z)
         (agrees peer (refuses (peer .neighbour) k (namedReply g (peer .neighbour) o k)) (refusedMove g o peer k) refl (reply-same g (peer .neighbour) o k) refl)
 
-    -- the rows of an accepted Update, which finds and leaves its neighbour Up, or what the step leaves of those there were
+    -- the rows of an accepted Update, which finds and leaves its neighbour Up, or what the step leaves of those there
+    -- were
     carried-rows : NumberPassed 128 g (peer .asn) (peer .neighbour) o
         → rowsIn (after .neighbour .phase) (rowsAfter g (peer .neighbour) o (decodeOf o) (peer .rows)) ≡ rowsFrom (changeBy 128 g (peer .neighbour) o after) (peer .rows)
     unfolding changeBy afterMessage rowsAfter isUpdate rowsIn rowsFrom headAt firstTwelve

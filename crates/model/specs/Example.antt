@@ -1,5 +1,6 @@
 -- An example, so that no corollary's premise is one that nothing meets: neighbours that come Up, report 128 nets each,
--- fall silent, poll 65,535 times, and are heard of by their Updates alone; and one that no run comes to, its t3 run out.
+-- fall silent, poll 65,535 times, and are heard of by their Updates alone; and one that no run comes to, its t3 run
+-- out.
 use Prim.Native.Nat.{ℕ, zero, suc, _+_, _*_, _%_, _<_}
 use mathlib.Core.Path.{_≡_}
 use mathlib.Core.Bool.{true, false}

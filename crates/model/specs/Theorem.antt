@@ -180,7 +180,8 @@ pub record Agreement (g : Settings) (calls : List Call) : Type 0 where
   pub rows : (j : ℕ) → j < 8 → rowsAt (run g calls) j ≡ lastAccepted g j calls
   pub count : (j : ℕ) → j < 8 → (slotAt ((run g calls) .state) j) .rows ≡ length (lastAccepted g j calls)
   pub numbers : (j : ℕ) → j < 8 → partAt ((run g calls) .table) j ≡ padded slotNumbers (flat (lastAccepted g j calls))
-  -- however many calls about others follow, a used slot's record stays as it was, its part of the table, and the rows read
+  -- however many calls about others follow, a used slot's record stays as it was, its part of the table, and the rows
+  -- read
   pub others :
       (more : List Call) (j : ℕ) → j < 8
       → ((slotAt ((run g calls) .state) j) .address ≡ 0 → ⊥) → every (isElsewhere ((slotAt ((run g calls) .state) j) .address)) more ≡ true

@@ -71,7 +71,8 @@ withNumbers n s r =
       cause = n .cause;
     }
 
--- the same record but for its state and what goes with a state: M, T1, T2, t1, t2, t3, register, heard and cause. S and R stay.
+-- the same record but for its state and what goes with a state: M, T1, T2, t1, t2, t3, register, heard and cause. S
+-- and R stay.
 abbrev pub withState : Neighbour → Phase → Mode → ℕ → ℕ → ℕ → ℕ → ℕ → ℕ → ℕ → ℕ → Neighbour
 withState n phase mode hello poll t1 t2 t3 register heard cause =
     record {

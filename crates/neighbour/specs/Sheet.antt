@@ -1,5 +1,6 @@
--- The sheet of indications: whether a message of each kind, carried out in Down or Up, is one, in each mode and with each status.
--- The lines are written from 01 and 02's L3 and name no rule: a changed rule fails here, before anything is built on it.
+-- The sheet of indications: whether a message of each kind, carried out in Down or Up, is one, in each mode and with
+-- each status. The lines are written from 01 and 02's L3 and name no rule: a changed rule fails here, before anything
+-- is built on it.
 use Prim.Native.Nat.{ℕ}
 use mathlib.Core.Path.{_≡_}
 use mathlib.Core.Bool.{Bool, true, false}

@@ -1,5 +1,5 @@
--- Where the rows of a slot stand in the lent table. Nothing else knows the layout; it is said of the row counts of all slots, of which today's
--- asks only the slot's own.
+-- Where the rows of a slot stand in the lent table. Nothing else knows the layout; it is said of the row counts of
+-- all slots, of which today's asks only the slot's own.
 use Prim.Native.Nat.{ℕ, _+_, _*_}
 use mathlib.Core.List.{List, map, _++_}
 use lib.ListN.{getD, take, drop}

@@ -1,4 +1,5 @@
-// What becomes of one neighbour: the machine's step, or for a message from it the checks 6 to 15 stage by stage, then the machine's step.
+// What becomes of one neighbour: the machine's step, or for a message from it the checks 6 to 15 stage by stage, then
+// the machine's step.
 use calls::Effect;
 use calls::Verdict;
 use machine::After;

@@ -1,4 +1,5 @@
--- `playback::play_all` is safe and ends: the sizes of what is lent stay, and the measure is the number of steps that are left. Assumes nothing.
+-- `playback::play_all` is safe and ends: the sizes of what is lent stay, and the measure is the number of steps that
+-- are left. Assumes nothing.
 use native.Mathlib.Omega.{arith}
 use mathlib.Core.Path.{_≡_, refl, sym, _∙_}
 use lib.ListN.{length}

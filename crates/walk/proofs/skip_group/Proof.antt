@@ -1,8 +1,7 @@
 -- `walk::skip_group` meets its contract: a walk of its MIR, by hand. The struct that `group_nets` returns is held in a
 -- local and passed to `reach`. All that the proof knows of both is that each meets its contract.
--- In a local of a body MIR erases the lifetime of the struct's type, so the value is shown to have the type at `erased`:
--- what the struct owns does not say the lifetime's name.
--- Assumes nothing.
+-- In a local of a body MIR erases the lifetime of the struct's type, so the value is shown to have the type at
+-- `erased`: what the struct owns does not say the lifetime's name. Assumes nothing.
 use mathlib.Core.Path.{_≡_, refl, _∙_}
 use Prim.Native.Nat.{ℕ}
 use mathlib.Core.List.{List, [], _∷_}

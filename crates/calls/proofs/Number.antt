@@ -16,7 +16,6 @@ use Rattle.message.specs.declared.Known.{Known}
 use Rattle.message.specs.declared.Known.the-variants.{Is, Unknown}
 use Rattle.message.specs.declared.Message.{Message}
 use Rattle.wire.specs.Reading.{sizeAllowed, versionIs2, checksumHolds, headerAnswer, asnAt, statusAt, kindIn, isKnown, statusFits, lengthFits, meaningOf, decodeAs, decodeOf}
-use Rattle.wire.specs.Reading as Wire
 use Rattle.wire.specs.declared.Decoded.{Decoded}
 use Rattle.wire.specs.declared.Decoded.the-variants as D
 use Rattle.walk.specs.Body.{UpdateRead, accepted, brokenAt, tooMany, updateOf, rowsRead}

@@ -9,9 +9,7 @@ use Rattle.checks.proofs.Laws.{cond-elim}
 use Rattle.neighbour.specs.Record.{isUp}
 use Rattle.nets.specs.Rows.{Row, rowsOf}
 use Rattle.message.specs.Kinds.{kindOf}
-use Rattle.message.specs.declared.Kind.the-variants as K
 use Rattle.message.specs.declared.Message.{Message}
-use Rattle.message.specs.declared.Message.the-variants as M
 use Rattle.wire.specs.Reading.{kindIn, decodeOf}
 use Rattle.wire.specs.declared.Decoded.{Decoded}
 use Rattle.wire.specs.declared.Decoded.the-variants as D

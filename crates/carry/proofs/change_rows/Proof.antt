@@ -4,88 +4,64 @@ use Rattle.carry.proofs.Rows.{place-room, change-keep, change-clear, ch
 use borrow.Author.Needs.{needs}
 use Rattle.carry.proofs.change_rows.Statement.{statement}
 use Rattle.carry.proofs.change_rows.Tie as tie
-use Rattle.carry.proofs.change_rows.Reads as reads
-use Rattle.carry.proofs.change_rows.Lts as lts
-use Rattle.rows.proofs.clear.Reads as clear-reads
-use Rattle.rows.proofs.store_rows.Reads as store-rows-reads
-use Rattle.state.proofs.place.Reads as place-reads
 
--- src/lib.rt:61:9
 place-requires : tie.Need-place-requires
 place-requires c κs = search needs
 
--- src/lib.rt:62:15
 add-end : tie.Need-add-end
 add-end c = omega (arith, place-room _ _ (c .before .before .before .pre .0 .0) (c .place .ensures), c .before .before .before .pre .0 .1)
 
 enum-told : tie.Need-enum-told
 enum-told c = search needs
 
--- src/lib.rt:65:38
 enum-told-2 : tie.Need-enum-told-2
 enum-told-2 c = search needs
 
--- src/lib.rt:65:38
 mul-clear : tie.Need-mul-clear
 mul-clear c = omega (arith, place-room _ _ (c .before .before .before .before .before .pre .0 .0) (c .before .before .place .ensures), c .before .before .before .before .before .pre .0 .1)
 
--- src/lib.rt:65:38
 sub-clear : tie.Need-sub-clear
 sub-clear c = search needs
 
--- src/lib.rt:65:38
 part-clear-start : tie.Need-part-clear-start
 part-clear-start c = search needs
 
--- src/lib.rt:65:38
 part-clear-end : tie.Need-part-clear-end
 part-clear-end c = omega (arith, place-room _ _ (c .before .before .before .before .before .pre .0 .0) (c .before .before .place .ensures), c .before .before .before .before .before .pre .0 .1)
 
--- src/lib.rt:65:26
 clear-requires : tie.Need-clear-requires
 clear-requires c κs = search needs
 
--- src/lib.rt:66:48
 enum-told-3 : tie.Need-enum-told-3
 enum-told-3 c = search needs
 
--- src/lib.rt:66:48
 mul-store-rows : tie.Need-mul-store-rows
 mul-store-rows c = omega (arith, place-room _ _ (c .before .before .before .before .before .pre .0 .0) (c .before .before .place .ensures), c .before .before .before .before .before .pre .0 .1)
 
--- src/lib.rt:66:48
 sub-store-rows : tie.Need-sub-store-rows
 sub-store-rows c = search needs
 
--- src/lib.rt:66:48
 part-store-rows-start : tie.Need-part-store-rows-start
 part-store-rows-start c = search needs
 
--- src/lib.rt:66:48
 part-store-rows-end : tie.Need-part-store-rows-end
 part-store-rows-end c = omega (arith, place-room _ _ (c .before .before .before .before .before .pre .0 .0) (c .before .before .place .ensures), c .before .before .before .before .before .pre .0 .1)
 
--- src/lib.rt:66:31
 store-rows-requires : tie.Need-store-rows-requires
 store-rows-requires c κs = change-asked _ _ (c .before .before .before .before .before .before .pre .0 .0) (c .before .before .before .before .before .before .pre .0 .1) _ (c .before .before .before .place .ensures) _ _ _ _ (c .before .enum-told3 .given .1) (c .before .before .before .before .before .before .pre .1)
 
--- src/lib.rt:56:1
 returns : tie.Need-returns
 returns c = change-keep _ _ (c .before .before .before .before .before .pre .0 .0) (c .before .before .before .before .before .pre .0 .1) _ (c .before .before .place .ensures) _ _ (c .enum-told .given .1)
 
--- src/lib.rt:56:1
 same-length : tie.Need-same-length
 same-length c = search needs
 
--- src/lib.rt:56:1
 returns-2 : tie.Need-returns-2
 returns-2 c = change-clear _ _ (c .before .before .before .before .before .before .before .before .before .pre .0 .0) (c .before .before .before .before .before .before .before .before .before .pre .0 .1) _ (c .before .before .before .before .before .before .place .ensures) _ _ (c .before .before .before .before .enum-told2 .given .1) _ (c .before .before .clear .ensures)
 
--- src/lib.rt:56:1
 same-length-2 : tie.Need-same-length-2
 same-length-2 c = search needs
 
--- src/lib.rt:56:1
 returns-3 : tie.Need-returns-3
 returns-3 c = change-replace _ _ (c .before .before .before .before .before .before .before .before .before .pre .0 .0) (c .before .before .before .before .before .before .before .before .before .pre .0 .1) _ (c .before .before .before .before .before .before .place .ensures) _ _ _ _ (c .before .before .before .before .enum-told3 .given .1) (c .before .before .before .before .before .before .before .before .before .pre .1) _ (c .before .before .store-rows .ensures)
 

@@ -3,30 +3,22 @@ use Rattle.carry.proofs.Rows.{count-keep, count-clear, count-replace}
 use borrow.Author.Needs.{needs}
 use Rattle.carry.proofs.count_after.Statement.{statement}
 use Rattle.carry.proofs.count_after.Tie as tie
-use Rattle.carry.proofs.count_after.Reads as reads
-use Rattle.carry.proofs.count_after.Lts as lts
 
--- src/lib.rt:75:25
 enum-told : tie.Need-enum-told
 enum-told c = search needs
 
--- src/lib.rt:76:26
 enum-told-2 : tie.Need-enum-told-2
 enum-told-2 c = search needs
 
--- src/lib.rt:77:25
 enum-known-effect : tie.Need-enum-known-effect
 enum-known-effect c = search needs
 
--- src/lib.rt:71:1
 returns : tie.Need-returns
 returns c = count-keep _ _ (c .enum-told .given .1)
 
--- src/lib.rt:71:1
 returns-2 : tie.Need-returns-2
 returns-2 c = count-clear _ _ (c .enum-told2 .given .1)
 
--- src/lib.rt:71:1
 returns-3 : tie.Need-returns-3
 returns-3 c = count-replace _ _ _ (c .before .effect .given .1)
 

@@ -4,75 +4,55 @@ use native.Mathlib.Omega.{arith}
 use borrow.Author.Needs.{needs}
 use Rattle.carry.proofs.send.Statement.{statement}
 use Rattle.carry.proofs.send.Tie as tie
-use Rattle.carry.proofs.send.Reads as reads
-use Rattle.carry.proofs.send.Lts as lts
-use Rattle.writing.proofs.write_message.Reads as write-message-reads
 
--- src/lib.rt:32:27
 enum-told : tie.Need-enum-told
 enum-told c = search needs
 
--- src/lib.rt:36:20
 enum-known-reply : tie.Need-enum-known-reply
 enum-known-reply c = search needs
 
--- src/lib.rt:37:17
 write-message-requires : tie.Need-write-message-requires
 write-message-requires c κs = one-asked _ (c .before .before .before .before .before .before .args .home .now) (c .before .before .before .before .before .before .args .buffer .now) (c .before .before .before .before .before .before .pre .0) (c .before .before .before .before .before .before .pre .1) (c .before .before .reply .given .0 .0) (c .before .before .reply .given .1)
 
--- src/lib.rt:39:24
 cast-t13 : tie.Need-cast-t13
 cast-t13 c = omega (arith, one-short _ (c .before .before .before .before .before .before .before .before .before .args .home .now) (c .before .before .before .before .before .before .before .before .before .args .buffer .now) (c .before .before .before .before .before .before .before .before .before .pre .0) (c .before .before .before .before .before .before .before .before .before .pre .1) (c .before .before .before .before .before .reply .given .0 .0) (c .before .before .before .before .before .reply .given .1) _ (c .before .before .write-message .ensures .0))
 
--- src/lib.rt:43:20
 enum-known-reply-2 : tie.Need-enum-known-reply-2
 enum-known-reply-2 c = search needs
 
--- src/lib.rt:44:17
 write-message-requires-2 : tie.Need-write-message-requires-2
 write-message-requires-2 c κs = first-asked _ (c .before .before .before .before .before .before .args .home .now) (c .before .before .before .before .before .before .args .buffer .now) (c .before .before .before .before .before .before .pre .0) (c .before .before .before .before .before .before .pre .1) (c .before .before .reply2 .given .0 .0) (c .before .before .reply2 .given .0 .1 .0) (c .before .before .reply2 .given .1)
 
--- src/lib.rt:45:47
 sub-write-message : tie.Need-sub-write-message
 sub-write-message c = first-within _ (c .before .before .before .before .before .before .before .before .before .args .home .now) (c .before .before .before .before .before .before .before .before .before .args .buffer .now) (c .before .before .before .before .before .before .before .before .before .pre .0) (c .before .before .before .before .before .before .before .before .before .pre .1) (c .before .before .before .before .before .reply2 .given .0 .0) (c .before .before .before .before .before .reply2 .given .0 .1 .0) (c .before .before .before .before .before .reply2 .given .1) _ (c .before .before .write-message2 .last .0) (c .before .before .write-message2 .ensures .0) (c .before .before .write-message2 .ensures .1)
 
--- src/lib.rt:45:47
 part-write-message-start : tie.Need-part-write-message-start
 part-write-message-start c = first-within _ (c .before .before .before .before .before .before .before .before .before .args .home .now) (c .before .before .before .before .before .before .before .before .before .args .buffer .now) (c .before .before .before .before .before .before .before .before .before .pre .0) (c .before .before .before .before .before .before .before .before .before .pre .1) (c .before .before .before .before .before .reply2 .given .0 .0) (c .before .before .before .before .before .reply2 .given .0 .1 .0) (c .before .before .before .before .before .reply2 .given .1) _ (c .before .before .write-message2 .last .0) (c .before .before .write-message2 .ensures .0) (c .before .before .write-message2 .ensures .1)
 
--- src/lib.rt:45:47
 part-write-message-end : tie.Need-part-write-message-end
 part-write-message-end c = search needs
 
--- src/lib.rt:45:17
 write-message-requires-3 : tie.Need-write-message-requires-3
 write-message-requires-3 c κs = second-asked _ (c .before .before .before .before .before .before .before .before .before .before .args .home .now) (c .before .before .before .before .before .before .before .before .before .before .args .buffer .now) (c .before .before .before .before .before .before .before .before .before .before .pre .0) (c .before .before .before .before .before .before .before .before .before .before .pre .1) (c .before .before .before .before .before .before .reply2 .given .0 .0) (c .before .before .before .before .before .before .reply2 .given .0 .1 .0) (c .before .before .before .before .before .before .reply2 .given .1) _ (c .before .before .before .write-message2 .last .0) (c .before .before .before .write-message2 .ensures .0) (c .before .before .before .write-message2 .ensures .1)
 
--- src/lib.rt:47:24
 cast-t20 : tie.Need-cast-t20
 cast-t20 c = omega (arith, first-short _ (c .before .before .before .before .before .before .before .before .before .before .before .before .before .args .home .now) (c .before .before .before .before .before .before .before .before .before .before .before .before .before .args .buffer .now) (c .before .before .before .before .before .before .before .before .before .before .before .before .before .pre .0) (c .before .before .before .before .before .before .before .before .before .before .before .before .before .pre .1) (c .before .before .before .before .before .before .before .before .before .reply2 .given .0 .0) (c .before .before .before .before .before .before .before .before .before .reply2 .given .0 .1 .0) (c .before .before .before .before .before .before .before .before .before .reply2 .given .1) _ (c .before .before .before .before .before .before .write-message2 .last .0) (c .before .before .before .before .before .before .write-message2 .ensures .0) (c .before .before .before .before .before .before .write-message2 .ensures .1))
 
--- src/lib.rt:48:25
 cast-t21 : tie.Need-cast-t21
 cast-t21 c = omega (arith, second-short _ (c .before .before .before .before .before .before .before .before .before .before .before .before .before .args .home .now) (c .before .before .before .before .before .before .before .before .before .before .before .before .before .args .buffer .now) (c .before .before .before .before .before .before .before .before .before .before .before .before .before .pre .0) (c .before .before .before .before .before .before .before .before .before .before .before .before .before .pre .1) (c .before .before .before .before .before .before .before .before .before .reply2 .given .0 .0) (c .before .before .before .before .before .before .before .before .before .reply2 .given .0 .1 .0) (c .before .before .before .before .before .before .before .before .before .reply2 .given .1) _ (c .before .before .before .before .before .before .write-message2 .last .0) (c .before .before .before .before .before .before .write-message2 .ensures .0) (c .before .before .before .before .before .before .write-message2 .ensures .1) _ _ (c .before .before .write-message3 .ensures .0) (c .before .before .write-message3 .ensures .1))
 
--- src/lib.rt:26:1
 returns : tie.Need-returns
 returns c = send-nothing _ _ _ (c .before .before .before .before .pre .0) (c .before .before .before .before .pre .1) (c .enum-told .given .1)
 
--- src/lib.rt:26:1
 same-length : tie.Need-same-length
 same-length c = search needs
 
--- src/lib.rt:26:1
 returns-2 : tie.Need-returns-2
 returns-2 c = send-one _ (c .before .before .before .before .before .before .before .before .before .args .home .now) (c .before .before .before .before .before .before .before .before .before .args .buffer .now) (c .before .before .before .before .before .before .before .before .before .pre .0) (c .before .before .before .before .before .before .before .before .before .pre .1) (c .before .before .before .before .before .reply .given .0 .0) (c .before .before .before .before .before .reply .given .1) _ _ (c .before .before .write-message .ensures .0) (c .before .before .write-message .ensures .1)
 
--- src/lib.rt:26:1
 same-length-2 : tie.Need-same-length-2
 same-length-2 c = search needs
 
--- src/lib.rt:26:1
 returns-3 : tie.Need-returns-3
 returns-3 c = send-two _ (c .before .before .before .before .before .before .before .before .before .before .before .before .before .args .home .now) (c .before .before .before .before .before .before .before .before .before .before .before .before .before .args .buffer .now) (c .before .before .before .before .before .before .before .before .before .before .before .before .before .pre .0) (c .before .before .before .before .before .before .before .before .before .before .before .before .before .pre .1) (c .before .before .before .before .before .before .before .before .before .reply2 .given .0 .0) (c .before .before .before .before .before .before .before .before .before .reply2 .given .0 .1 .0) (c .before .before .before .before .before .before .before .before .before .reply2 .given .1) _ (c .before .before .before .before .before .before .write-message2 .last .0) (c .before .before .before .before .before .before .write-message2 .ensures .0) (c .before .before .before .before .before .before .write-message2 .ensures .1) _ _ (c .before .before .write-message3 .ensures .0) (c .before .before .write-message3 .ensures .1)
 

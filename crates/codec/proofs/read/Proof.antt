@@ -4,51 +4,34 @@ use Rattle.codec.specs.Reading.{refusal}
 use borrow.Author.Needs.{needs}
 use Rattle.codec.proofs.read.Statement.{statement}
 use Rattle.codec.proofs.read.Tie as tie
-use Rattle.codec.proofs.read.Reads as reads
-use Rattle.codec.proofs.read.Lts as lts
-use Rattle.codec.proofs.read_rows.Reads as read-rows-reads
-use Rattle.codec.proofs.refuse.Reads as refuse-reads
-use Rattle.wire.proofs.decode.Reads as decode-reads
-use Rattle.wire.proofs.number_of.Reads as number-of-reads
-use Rattle.wire.proofs.read_header.Reads as read-header-reads
 
--- src/lib.rt:200:9
 read-header-requires : tie.Need-read-header-requires
 read-header-requires c κs = search needs
 
--- src/lib.rt:202:9
 refuse-requires : tie.Need-refuse-requires
 refuse-requires c κs = search needs
 
--- src/lib.rt:202:9
 returns : tie.Need-returns
 returns c = c .refuse .ensures ∙ read-header-bad _ _ _ (c .before .before .read-header .ensures) (c .before .if1 .taken)
 
--- src/lib.rt:204:9
 decode-requires : tie.Need-decode-requires
 decode-requires c κs = search needs
 
--- src/lib.rt:205:23
 enum-known-decoded : tie.Need-enum-known-decoded
 enum-known-decoded c = search needs
 
--- src/lib.rt:206:23
 number-of-requires : tie.Need-number-of-requires
 number-of-requires c κs = search needs
 
--- src/lib.rt:206:9
 refuse-requires-2 : tie.Need-refuse-requires-2
 refuse-requires-2 c κs = search needs
 
--- src/lib.rt:206:9
 returns-2 : tie.Need-returns-2
 returns-2 c = c .refuse2 .ensures ∙ ap refusal (c .before .number-of .ensures) ∙ read-kind-bad _ _ _ (c .before .before .before .before .before .read-header .ensures) (c .before .before .before .before .if1 .left) _ (c .before .before .before .decode .ensures) (c .before .before .match .keys2)
 
--- src/lib.rt:208:5
 read-rows-requires : tie.Need-read-rows-requires
 read-rows-requires c κs = search needs
 
--- src/lib.rt:197:1
 returns-3 : tie.Need-returns-3
 returns-3 c = read-kind-good _ _ _ (c .before .before .before .before .before .before .read-header .ensures) (c .before .before .before .before .before .if1 .left) _ (c .before .before .before .before .decode .ensures) _ _ (c .before .before .decoded .given .1) (c .read-rows .ensures)
 

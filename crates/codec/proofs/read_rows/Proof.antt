@@ -4,24 +4,17 @@ use Rattle.codec.specs.Reading.{rowless, meaningReading}
 use borrow.Author.Needs.{needs}
 use Rattle.codec.proofs.read_rows.Statement.{statement}
 use Rattle.codec.proofs.read_rows.Tie as tie
-use Rattle.codec.proofs.read_rows.Reads as reads
-use Rattle.codec.proofs.read_rows.Lts as lts
-use Rattle.codec.proofs.read_update.Reads as read-update-reads
 
--- src/lib.rt:187:9
 enum-told : tie.Need-enum-told
 enum-told c = search needs
 
--- src/lib.rt:187:9
 read-update-requires : tie.Need-read-update-requires
 read-update-requires c κs = search needs
 
--- src/lib.rt:187:9
 returns : tie.Need-returns
 unfolding meaningReading
 returns c = rw (c .before .enum-told .given .1) (rw (c .before .enum-told .given .1) at (c .read-update .ensures))
 
--- src/lib.rt:178:1
 returns-2 : tie.Need-returns-2
 unfolding rowless zeros
 returns-2 c = rowless-read _ _ _ (c .match .keys2)

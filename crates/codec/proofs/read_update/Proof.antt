@@ -5,45 +5,31 @@ use native.Mathlib.Omega.{arith}
 use borrow.Author.Needs.{needs}
 use Rattle.codec.proofs.read_update.Statement.{statement}
 use Rattle.codec.proofs.read_update.Tie as tie
-use Rattle.codec.proofs.read_update.Reads as reads
-use Rattle.codec.proofs.read_update.Lts as lts
-use Rattle.codec.proofs.refuse.Reads as refuse-reads
-use Rattle.rows.proofs.store_rows.Reads as store-rows-reads
-use Rattle.walk.proofs.walk.Reads as walk-reads
 
--- src/lib.rt:164:9
 walk-requires : tie.Need-walk-requires
 walk-requires c κs = search needs
 
--- src/lib.rt:165:22
 enum-known-walked : tie.Need-enum-known-walked
 enum-known-walked c = search needs
 
--- src/lib.rt:166:23
 number-of-requires : tie.Need-number-of-requires
 number-of-requires c κs = search needs
 
--- src/lib.rt:166:9
 refuse-requires : tie.Need-refuse-requires
 refuse-requires c κs = search needs
 
--- src/lib.rt:166:9
 returns : tie.Need-returns
 returns c = c .refuse .ensures ∙ ap refusal (c .before .number-of .ensures) ∙ update-refused _ _ _ _ (c .before .before .before .walk .ensures) (c .before .before .match .keys2)
 
--- src/lib.rt:169:22
 slice-aggregate-store-rows : tie.Need-slice-aggregate-store-rows
 slice-aggregate-store-rows c = search needs
 
--- src/lib.rt:169:5
 store-rows-requires : tie.Need-store-rows-requires
 store-rows-requires c κs = accepted-room (rows-accepted _ _ _ (sym (c .before .before .before .before .walk .ensures) ∙ c .before .before .walked .given .1)) _ refl
 
--- src/lib.rt:172:16
 cast-t12 : tie.Need-cast-t12
 cast-t12 c = omega (arith, (rows-accepted _ _ _ (sym (c .before .before .before .before .before .before .walk .ensures) ∙ c .before .before .before .before .walked .given .1)) .few)
 
--- src/lib.rt:161:1
 returns-2 : tie.Need-returns-2
 returns-2 c = update-read _ _ _ _ _ (rows-accepted _ _ _ (sym (c .before .before .before .before .before .before .walk .ensures) ∙ c .before .before .before .before .walked .given .1)) (c .before .store-rows .ensures)
 

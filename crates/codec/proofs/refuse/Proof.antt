@@ -3,10 +3,7 @@ use Rattle.rows.specs.Storing.{zeros}
 use Rattle.codec.specs.Reading.{refusal}
 use Rattle.codec.proofs.refuse.Statement.{statement}
 use Rattle.codec.proofs.refuse.Tie as tie
-use Rattle.codec.proofs.refuse.Reads as reads
-use Rattle.codec.proofs.refuse.Lts as lts
 
--- src/lib.rt:139:1
 returns : tie.Need-returns
 unfolding refusal zeros
 returns c = refl

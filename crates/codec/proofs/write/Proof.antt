@@ -7,36 +7,25 @@ use native.Mathlib.Omega.{arith}
 use borrow.Author.Needs.{needs}
 use Rattle.codec.proofs.write.Statement.{statement}
 use Rattle.codec.proofs.write.Tie as tie
-use Rattle.codec.proofs.write.Reads as reads
-use Rattle.codec.proofs.write.Lts as lts
-use Rattle.codec.proofs.is_writable.Reads as is-writable-reads
-use Rattle.writing.proofs.write_message.Reads as write-message-reads
 
--- src/lib.rt:102:9
 returns : tie.Need-returns
 returns c = write-3 _ _ _ (c .if1 .taken)
 
--- src/lib.rt:107:9
 is-writable-requires : tie.Need-is-writable-requires
 is-writable-requires c κs = search needs
 
--- src/lib.rt:108:9
 returns-2 : tie.Need-returns-2
 returns-2 c = write-16 _ _ _ (c .before .before .if1 .left) (sym (c .before .is-writable .ensures) ∙ not-true (c .before .is-writable .result) (c .if2 .taken))
 
--- src/lib.rt:113:9
 write-message-requires : tie.Need-write-message-requires
 write-message-requires c κs = (allowed-fits _ _ (write-rows _ _ (c .before .before .before .before .before .before .args .rows .now) (sym (c .before .before .is-writable .ensures) ∙ not-false (c .before .before .is-writable .result) (c .before .if2 .left))), omega (arith, room-most (c .before .before .before .before .before .before .args .message)))
 
--- src/lib.rt:116:17
 cast-t10 : tie.Need-cast-t10
 cast-t10 c = omega (arith, c .before .before .write-message .ensures .0, octets-short (c .before .before .before .before .before .before .before .before .before .args .message) (c .before .before .before .before .before .before .before .before .before .args .rows .now) (write-rows _ _ (c .before .before .before .before .before .before .before .before .before .args .rows .now) (sym (c .before .before .before .before .before .is-writable .ensures) ∙ not-false (c .before .before .before .before .before .is-writable .result) (c .before .before .before .before .if2 .left))))
 
--- src/lib.rt:97:1
 same-length : tie.Need-same-length
 same-length c = search needs
 
--- src/lib.rt:97:1
 returns-3 : tie.Need-returns-3
 returns-3 c = write-0 _ _ _ (c .before .before .before .before .before .before .if1 .left) (sym (c .before .before .before .before .before .is-writable .ensures) ∙ not-false (c .before .before .before .before .before .is-writable .result) (c .before .before .before .before .if2 .left)) _ _ (c .before .before .write-message .ensures .0) (c .before .before .write-message .ensures .1)
 

@@ -1,5 +1,4 @@
 -- `course::close_on` meets its contract. Assumes nothing.
-use Rattle.course.specs.declared.Stage.the-variants.{List as Listing}
 use Rattle.course.proofs.Laws.{ended-by}
 use Rattle.course.specs.Course.{closeOn, endedBy}
 use borrow.Author.Needs.{needs}

@@ -4,12 +4,6 @@ use Prim.Native.Nat.{_≤_}
 use borrow.Author.Tests.{not-false}
 use Rattle.driver.proofs.play.Statement.{statement}
 use Rattle.driver.proofs.play.Tie as tie
-use Rattle.driver.proofs.play.Reads as reads
-use Rattle.driver.proofs.play.Lts as lts
-use Rattle.driver.proofs.is_within.Reads as is-within-reads
-use Rattle.driver.proofs.next_head.Reads as next-head-reads
-use Rattle.driver.proofs.serve.Reads as serve-reads
-use Rattle.state_block.proofs.read_state.Reads as read-state-reads
 
 abbrev Inv-loop : tie.InvT-loop
 Inv-loop table₀ buffer₀ st₀ count₀ turns₀ table buffer st count turns = count ≤ 4096

@@ -2,12 +2,6 @@ use native.Mathlib.Omega.{arith}
 use borrow.Author.Needs.{needs}
 use Rattle.driver.proofs.serve.Statement.{statement}
 use Rattle.driver.proofs.serve.Tie as tie
-use Rattle.driver.proofs.serve.Reads as reads
-use Rattle.driver.proofs.serve.Lts as lts
-use Rattle.driver.proofs.hand_in.Reads as hand-in-reads
-use Rattle.driver.proofs.make.Reads as make-reads
-use Rattle.driver.proofs.show.Reads as show-reads
-use Rattle.driver.proofs.take_rest.Reads as take-rest-reads
 
 hand-in-requires : tie.Need-hand-in-requires
 hand-in-requires c κs = search needs

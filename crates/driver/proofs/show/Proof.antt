@@ -6,11 +6,6 @@ use native.Mathlib.Omega.{arith}
 use borrow.Author.Needs.{needs}
 use Rattle.driver.proofs.show.Statement.{statement}
 use Rattle.driver.proofs.show.Tie as tie
-use Rattle.driver.proofs.show.Reads as reads
-use Rattle.driver.proofs.show.Lts as lts
-use Rattle.driver.proofs.show_front.Reads as show-front-reads
-use Rattle.driver.proofs.show_outcome.Reads as show-outcome-reads
-use Rattle.driver.proofs.show_table.Reads as show-table-reads
 
 cast-show-outcome : tie.Need-cast-show-outcome
 cast-show-outcome c = search needs

@@ -6,10 +6,6 @@ use native.Mathlib.Omega.{arith}
 use borrow.Author.Needs.{needs}
 use Rattle.driver.proofs.take_numbers.Statement.{statement}
 use Rattle.driver.proofs.take_numbers.Tie as tie
-use Rattle.driver.proofs.take_numbers.Reads as reads
-use Rattle.driver.proofs.take_numbers.Lts as lts
-use Rattle.driver.proofs.take_octets.Reads as take-octets-reads
-use Rattle.record.proofs.read_numbers.Reads as read-numbers-reads
 
 slice-aggregate-take-octets : tie.Need-slice-aggregate-take-octets
 slice-aggregate-take-octets c = search needs

@@ -3,28 +3,19 @@ use Rattle.gateway.proofs.Checks.{event-lent, event-5, event-0}
 use borrow.Author.Needs.{needs}
 use Rattle.gateway.proofs.event_answer.Statement.{statement}
 use Rattle.gateway.proofs.event_answer.Tie as tie
-use Rattle.gateway.proofs.event_answer.Reads as reads
-use Rattle.gateway.proofs.event_answer.Lts as lts
-use Rattle.gateway.proofs.lent_answer.Reads as lent-answer-reads
-use Rattle.state.proofs.slot_of.Reads as slot-of-reads
 
--- src/lib.rt:37:9
 lent-answer-requires : tie.Need-lent-answer-requires
 lent-answer-requires c κs = search needs
 
--- src/lib.rt:39:9
 returns : tie.Need-returns
 returns c = event-lent _ _ _ _ _ (c .before .lent-answer .ensures) (c .if1 .taken)
 
--- src/lib.rt:41:24
 slot-of-requires : tie.Need-slot-of-requires
 slot-of-requires c κs = search needs
 
--- src/lib.rt:42:9
 returns-2 : tie.Need-returns-2
 returns-2 c = event-5 _ _ _ _ _ (c .before .before .before .lent-answer .ensures) (c .before .before .if1 .left) _ (c .before .slot-of .ensures) (c .if2 .taken)
 
--- src/lib.rt:34:1
 returns-3 : tie.Need-returns-3
 returns-3 c = event-0 _ _ _ _ _ (c .before .before .before .lent-answer .ensures) (c .before .before .if1 .left) _ (c .before .slot-of .ensures) (c .if2 .left)
 

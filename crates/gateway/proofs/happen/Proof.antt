@@ -5,65 +5,43 @@ use Rattle.gateway.proofs.Calls.{Happened, event-refused, event-asked, 
 use borrow.Author.Needs.{needs}
 use Rattle.gateway.proofs.happen.Statement.{statement}
 use Rattle.gateway.proofs.happen.Tie as tie
-use Rattle.gateway.proofs.happen.Reads as reads
-use Rattle.gateway.proofs.happen.Lts as lts
-use Rattle.carry.proofs.apply.Reads as apply-reads
-use Rattle.gateway.proofs.event_answer.Reads as event-answer-reads
-use Rattle.machine_step.proofs.step.Reads as step-reads
-use Rattle.state.proofs.refused.Reads as refused-reads
-use Rattle.state.proofs.slot_at.Reads as slot-at-reads
-use Rattle.state.proofs.slot_of.Reads as slot-of-reads
-use Rattle.verdict.proofs.step_verdict.Reads as step-verdict-reads
 
--- src/lib.rt:71:9
 event-answer-requires : tie.Need-event-answer-requires
 event-answer-requires c κs = search needs
 
--- src/lib.rt:73:9
 refused-requires : tie.Need-refused-requires
 refused-requires c κs = search needs
 
--- src/lib.rt:73:9
 returns : tie.Need-returns
 returns c = let h = event-refused (c .before .before .before .before .before .args .event) _ (c .before .before .before .before .before .args .table .now) (c .before .before .before .before .before .args .reply .now) _ _ (λ e. c .before .before .event-answer .ensures e _ _ refl refl) (c .before .if1 .taken) _ (c .refused .ensures) in (h .outcome, (h .rows, h .octets))
 
--- src/lib.rt:75:9
 slot-of-requires : tie.Need-slot-of-requires
 slot-of-requires c κs = search needs
 
--- src/lib.rt:76:9
 slot-at-requires : tie.Need-slot-at-requires
 slot-at-requires c κs = search needs
 
--- src/lib.rt:84:9
 step-requires : tie.Need-step-requires
 step-requires c κs = search needs
 
--- src/lib.rt:85:9
 step-verdict-requires : tie.Need-step-verdict-requires
 step-verdict-requires c κs = search needs
 
--- src/lib.rt:88:42
 slice-aggregate-apply : tie.Need-slice-aggregate-apply
 slice-aggregate-apply c = search needs
 
--- src/lib.rt:88:49
 slice-aggregate-apply-2 : tie.Need-slice-aggregate-apply-2
 slice-aggregate-apply-2 c = search needs
 
--- src/lib.rt:88:5
 apply-requires : tie.Need-apply-requires
 apply-requires c κs = event-asked (c .before .before .before .before .before .before .before .before .before .before .before .before .before .before .args .event) _ (c .before .before .before .before .before .before .before .before .before .before .before .before .before .before .args .table .now) (c .before .before .before .before .before .before .before .before .before .before .before .before .before .before .args .reply .now) _ _ (λ e. c .before .before .before .before .before .before .before .before .before .before .before .event-answer .ensures e _ _ refl refl) (c .before .before .before .before .before .before .before .before .before .before .if1 .left) _ _ _ _ (c .before .before .before .before .before .before .before .before .before .slot-of .ensures) (c .before .before .before .before .before .before .before .before .slot-at .ensures) (c .before .before .before .before .before .step .ensures) (c .before .before .before .before .step-verdict .ensures) []
 
--- src/lib.rt:66:1
 same-length : tie.Need-same-length
 same-length c = search needs
 
--- src/lib.rt:66:1
 same-length-2 : tie.Need-same-length-2
 same-length-2 c = search needs
 
--- src/lib.rt:66:1
 returns-2 : tie.Need-returns-2
 returns-2 c = let h = event-done (c .before .before .before .before .before .before .before .before .before .before .before .before .before .before .before .before .before .before .before .args .event) _ (c .before .before .before .before .before .before .before .before .before .before .before .before .before .before .before .before .before .before .before .args .table .now) (c .before .before .before .before .before .before .before .before .before .before .before .before .before .before .before .before .before .before .before .args .reply .now) _ _ (λ e. c .before .before .before .before .before .before .before .before .before .before .before .before .before .before .before .before .event-answer .ensures e _ _ refl refl) (c .before .before .before .before .before .before .before .before .before .before .before .before .before .before .before .if1 .left) _ _ _ _ (c .before .before .before .before .before .before .before .before .before .before .before .before .before .before .slot-of .ensures) (c .before .before .before .before .before .before .before .before .before .before .before .before .before .slot-at .ensures) (c .before .before .before .before .before .before .before .before .before .before .step .ensures) (c .before .before .before .before .before .before .before .before .before .step-verdict .ensures) [] _ _ _ (c .before .before .before .before .apply .ensures .0) (c .before .before .before .before .apply .ensures .1 .0) (c .before .before .before .before .apply .ensures .1 .1) in (h .outcome, (h .rows, h .octets))
 

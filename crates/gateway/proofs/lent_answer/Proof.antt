@@ -5,27 +5,19 @@ use Rattle.gateway.proofs.Checks.{lent-1, lent-2, lent-3, lent-0}
 use borrow.Author.Needs.{needs}
 use Rattle.gateway.proofs.lent_answer.Statement.{statement}
 use Rattle.gateway.proofs.lent_answer.Tie as tie
-use Rattle.gateway.proofs.lent_answer.Reads as reads
-use Rattle.gateway.proofs.lent_answer.Lts as lts
-use Rattle.state.proofs.well_formed.Reads as well-formed-reads
 
--- src/lib.rt:21:9
 well-formed-requires : tie.Need-well-formed-requires
 well-formed-requires c κs = search needs
 
--- src/lib.rt:22:9
 returns : tie.Need-returns
 returns c = lent-1 _ _ _ (sym (c .before .well-formed .ensures) ∙ not-true (c .before .well-formed .result) (c .if1 .taken))
 
--- src/lib.rt:25:9
 returns-2 : tie.Need-returns-2
 returns-2 c = lent-2 _ _ _ (sym (c .before .before .well-formed .ensures) ∙ not-false (c .before .before .well-formed .result) (c .before .if1 .left)) (c .if2 .taken)
 
--- src/lib.rt:28:9
 returns-3 : tie.Need-returns-3
 returns-3 c = lent-3 _ _ _ (sym (c .before .before .before .well-formed .ensures) ∙ not-false (c .before .before .before .well-formed .result) (c .before .before .if1 .left)) (c .before .if2 .left) (c .if3 .taken)
 
--- src/lib.rt:18:1
 returns-4 : tie.Need-returns-4
 returns-4 c = lent-0 _ _ _ (sym (c .before .before .before .well-formed .ensures) ∙ not-false (c .before .before .before .well-formed .result) (c .before .before .if1 .left)) (c .before .if2 .left) (c .if3 .left)
 

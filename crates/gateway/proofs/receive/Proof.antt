@@ -5,105 +5,70 @@ use Rattle.gateway.proofs.Calls.{message-refused, number-asked, number-
 use borrow.Author.Needs.{needs}
 use Rattle.gateway.proofs.receive.Statement.{statement}
 use Rattle.gateway.proofs.receive.Tie as tie
-use Rattle.gateway.proofs.receive.Reads as reads
-use Rattle.gateway.proofs.receive.Lts as lts
-use Rattle.carry.proofs.apply.Reads as apply-reads
-use Rattle.carry.proofs.refuse.Reads as refuse-reads
-use Rattle.gateway.proofs.message_answer.Reads as message-answer-reads
-use Rattle.state.proofs.refused.Reads as refused-reads
-use Rattle.state.proofs.slot_at.Reads as slot-at-reads
-use Rattle.state.proofs.slot_of.Reads as slot-of-reads
-use Rattle.verdict.proofs.head_number.Reads as head-number-reads
-use Rattle.verdict.proofs.reply_to.Reads as reply-to-reads
-use Rattle.verdict.proofs.take.Reads as take-reads
-use Rattle.wire.proofs.decode.Reads as decode-reads
-use Rattle.wire.proofs.number_of.Reads as number-of-reads
 
--- src/lib.rt:131:9
 message-answer-requires : tie.Need-message-answer-requires
 message-answer-requires c κs = search needs
 
--- src/lib.rt:133:9
 refused-requires : tie.Need-refused-requires
 refused-requires c κs = search needs
 
--- src/lib.rt:133:9
 returns : tie.Need-returns
 returns c = message-refused _ (c .before .before .before .before .before .before .before .args .table .now) (c .before .before .before .before .before .before .before .args .reply .now) (c .before .before .before .before .before .before .before .args .home .now) _ (c .before .before .before .before .before .before .before .args .message .now) _ (c .before .before .message-answer .ensures _ _ refl refl) (c .before .if1 .taken) _ (c .refused .ensures)
 
--- src/lib.rt:135:9
 slot-of-requires : tie.Need-slot-of-requires
 slot-of-requires c κs = search needs
 
--- src/lib.rt:136:9
 slot-at-requires : tie.Need-slot-at-requires
 slot-at-requires c κs = search needs
 
--- src/lib.rt:139:9
 head-number-requires : tie.Need-head-number-requires
 head-number-requires c κs = search needs
 
--- src/lib.rt:141:13
 reply-to-requires : tie.Need-reply-to-requires
 reply-to-requires c κs = search needs
 
--- src/lib.rt:142:9
 refuse-requires : tie.Need-refuse-requires
 refuse-requires c κs = number-asked _ (c .before .before .before .before .before .before .before .before .before .before .before .before .before .before .args .table .now) (c .before .before .before .before .before .before .before .before .before .before .before .before .before .before .args .reply .now) (c .before .before .before .before .before .before .before .before .before .before .before .before .before .before .args .home .now) _ (c .before .before .before .before .before .before .before .before .before .before .before .before .before .before .args .message .now) _ (c .before .before .before .before .before .before .before .before .before .message-answer .ensures _ _ refl refl) (c .before .before .before .before .before .before .before .before .if1 .left) _ _ (c .before .before .before .before .before .before .before .slot-of .ensures) (c .before .before .before .before .before .before .slot-at .ensures) _ (c .before .before .if2 .taken) (head-is _ (c .before .before .before .before .before .before .before .before .before .before .before .before .before .before .args .table .now) (c .before .before .before .before .before .before .before .before .before .before .before .before .before .before .args .reply .now) (c .before .before .before .before .before .before .before .before .before .before .before .before .before .before .args .home .now) _ (c .before .before .before .before .before .before .before .before .before .before .before .before .before .before .args .message .now) _ (c .before .before .before .before .before .before .before .before .before .message-answer .ensures _ _ refl refl) (c .before .before .before .before .before .before .before .before .if1 .left) _ _ (c .before .before .before .before .before .before .before .slot-of .ensures) (c .before .before .before .before .before .before .slot-at .ensures) _ (c .before .before .before .head-number .ensures) (c .before .before .if2 .taken)) _ (c .before .reply-to .ensures)
 
--- src/lib.rt:142:9
 same-length : tie.Need-same-length
 same-length c = search needs
 
--- src/lib.rt:142:9
 returns-2 : tie.Need-returns-2
 returns-2 c = number-done _ (c .before .before .before .before .before .before .before .before .before .before .before .before .before .before .before .before .before .args .table .now) (c .before .before .before .before .before .before .before .before .before .before .before .before .before .before .before .before .before .args .reply .now) (c .before .before .before .before .before .before .before .before .before .before .before .before .before .before .before .before .before .args .home .now) _ (c .before .before .before .before .before .before .before .before .before .before .before .before .before .before .before .before .before .args .message .now) _ (c .before .before .before .before .before .before .before .before .before .before .before .before .message-answer .ensures _ _ refl refl) (c .before .before .before .before .before .before .before .before .before .before .before .if1 .left) _ _ (c .before .before .before .before .before .before .before .before .before .before .slot-of .ensures) (c .before .before .before .before .before .before .before .before .before .slot-at .ensures) _ (c .before .before .before .before .before .if2 .taken) (head-is _ (c .before .before .before .before .before .before .before .before .before .before .before .before .before .before .before .before .before .args .table .now) (c .before .before .before .before .before .before .before .before .before .before .before .before .before .before .before .before .before .args .reply .now) (c .before .before .before .before .before .before .before .before .before .before .before .before .before .before .before .before .before .args .home .now) _ (c .before .before .before .before .before .before .before .before .before .before .before .before .before .before .before .before .before .args .message .now) _ (c .before .before .before .before .before .before .before .before .before .before .before .before .message-answer .ensures _ _ refl refl) (c .before .before .before .before .before .before .before .before .before .before .before .if1 .left) _ _ (c .before .before .before .before .before .before .before .before .before .before .slot-of .ensures) (c .before .before .before .before .before .before .before .before .before .slot-at .ensures) _ (c .before .before .before .before .before .before .head-number .ensures) (c .before .before .before .before .before .if2 .taken)) _ (c .before .before .before .before .reply-to .ensures) _ _ (c .before .before .refuse .ensures .0) (c .before .before .refuse .ensures .1)
 
--- src/lib.rt:144:9
 decode-requires : tie.Need-decode-requires
 decode-requires c κs = search needs
 
--- src/lib.rt:145:23
 enum-known-decoded : tie.Need-enum-known-decoded
 enum-known-decoded c = search needs
 
--- src/lib.rt:146:13
 number-of-requires : tie.Need-number-of-requires
 number-of-requires c κs = search needs
 
--- src/lib.rt:147:13
 reply-to-requires-2 : tie.Need-reply-to-requires-2
 reply-to-requires-2 c κs = search needs
 
--- src/lib.rt:148:9
 refuse-requires-2 : tie.Need-refuse-requires-2
 refuse-requires-2 c κs = let k = kind-is _ (c .before .before .before .before .before .before .before .before .before .before .before .before .before .before .before .before .before .args .table .now) (c .before .before .before .before .before .before .before .before .before .before .before .before .before .before .before .before .before .args .reply .now) (c .before .before .before .before .before .before .before .before .before .before .before .before .before .before .before .before .before .args .home .now) _ (c .before .before .before .before .before .before .before .before .before .before .before .before .before .before .before .before .before .args .message .now) _ (c .before .before .before .before .before .before .before .before .before .before .before .before .message-answer .ensures _ _ refl refl) (c .before .before .before .before .before .before .before .before .before .before .before .if1 .left) _ _ (c .before .before .before .before .before .before .before .before .before .before .slot-of .ensures) (c .before .before .before .before .before .before .before .before .before .slot-at .ensures) (sym (c .before .before .before .before .before .before .head-number .ensures) ∙ c .before .before .before .before .before .if2 .left) _ (c .before .before .number-of .ensures ∙ ap numberOf (c .before .before .before .before .decode .ensures)) (rw (c .before .before .before .before .decode .ensures) at (c .before .before .before .match .keys2)) in number-asked _ (c .before .before .before .before .before .before .before .before .before .before .before .before .before .before .before .before .before .args .table .now) (c .before .before .before .before .before .before .before .before .before .before .before .before .before .before .before .before .before .args .reply .now) (c .before .before .before .before .before .before .before .before .before .before .before .before .before .before .before .before .before .args .home .now) _ (c .before .before .before .before .before .before .before .before .before .before .before .before .before .before .before .before .before .args .message .now) _ (c .before .before .before .before .before .before .before .before .before .before .before .before .message-answer .ensures _ _ refl refl) (c .before .before .before .before .before .before .before .before .before .before .before .if1 .left) _ _ (c .before .before .before .before .before .before .before .before .before .before .slot-of .ensures) (c .before .before .before .before .before .before .before .before .before .slot-at .ensures) _ (k .0) (k .1) _ (c .before .reply-to2 .ensures)
 
--- src/lib.rt:148:9
 same-length-2 : tie.Need-same-length-2
 same-length-2 c = search needs
 
--- src/lib.rt:148:9
 returns-3 : tie.Need-returns-3
 returns-3 c = let k = kind-is _ (c .before .before .before .before .before .before .before .before .before .before .before .before .before .before .before .before .before .before .before .before .args .table .now) (c .before .before .before .before .before .before .before .before .before .before .before .before .before .before .before .before .before .before .before .before .args .reply .now) (c .before .before .before .before .before .before .before .before .before .before .before .before .before .before .before .before .before .before .before .before .args .home .now) _ (c .before .before .before .before .before .before .before .before .before .before .before .before .before .before .before .before .before .before .before .before .args .message .now) _ (c .before .before .before .before .before .before .before .before .before .before .before .before .before .before .before .message-answer .ensures _ _ refl refl) (c .before .before .before .before .before .before .before .before .before .before .before .before .before .before .if1 .left) _ _ (c .before .before .before .before .before .before .before .before .before .before .before .before .before .slot-of .ensures) (c .before .before .before .before .before .before .before .before .before .before .before .before .slot-at .ensures) (sym (c .before .before .before .before .before .before .before .before .before .head-number .ensures) ∙ c .before .before .before .before .before .before .before .before .if2 .left) _ (c .before .before .before .before .before .number-of .ensures ∙ ap numberOf (c .before .before .before .before .before .before .before .decode .ensures)) (rw (c .before .before .before .before .before .before .before .decode .ensures) at (c .before .before .before .before .before .before .match .keys2)) in number-done _ (c .before .before .before .before .before .before .before .before .before .before .before .before .before .before .before .before .before .before .before .before .args .table .now) (c .before .before .before .before .before .before .before .before .before .before .before .before .before .before .before .before .before .before .before .before .args .reply .now) (c .before .before .before .before .before .before .before .before .before .before .before .before .before .before .before .before .before .before .before .before .args .home .now) _ (c .before .before .before .before .before .before .before .before .before .before .before .before .before .before .before .before .before .before .before .before .args .message .now) _ (c .before .before .before .before .before .before .before .before .before .before .before .before .before .before .before .message-answer .ensures _ _ refl refl) (c .before .before .before .before .before .before .before .before .before .before .before .before .before .before .if1 .left) _ _ (c .before .before .before .before .before .before .before .before .before .before .before .before .before .slot-of .ensures) (c .before .before .before .before .before .before .before .before .before .before .before .before .slot-at .ensures) _ (k .0) (k .1) _ (c .before .before .before .before .reply-to2 .ensures) _ _ (c .before .before .refuse2 .ensures .0) (c .before .before .refuse2 .ensures .1)
 
--- src/lib.rt:150:9
 take-requires : tie.Need-take-requires
 take-requires c κs = record { head = sym (c .before .before .before .before .before .head-number .ensures) ∙ c .before .before .before .before .if2 .left; meaning = sym (c .before .before .before .decode .ensures) ∙ c .before .decoded .given .1 }
 
--- src/lib.rt:151:5
 apply-requires : tie.Need-apply-requires
 apply-requires c κs = message-asked _ (c .before .before .before .before .before .before .before .before .before .before .before .before .before .before .before .before .before .before .before .args .table .now) (c .before .before .before .before .before .before .before .before .before .before .before .before .before .before .before .before .before .before .before .args .reply .now) (c .before .before .before .before .before .before .before .before .before .before .before .before .before .before .before .before .before .before .before .args .home .now) _ (c .before .before .before .before .before .before .before .before .before .before .before .before .before .before .before .before .before .before .before .args .message .now) _ (c .before .before .before .before .before .before .before .before .before .before .before .before .before .before .message-answer .ensures _ _ refl refl) (c .before .before .before .before .before .before .before .before .before .before .before .before .before .if1 .left) _ _ (c .before .before .before .before .before .before .before .before .before .before .before .before .slot-of .ensures) (c .before .before .before .before .before .before .before .before .before .before .before .slot-at .ensures) _ (c .before .before .take .ensures)
 
--- src/lib.rt:119:1
 same-length-3 : tie.Need-same-length-3
 same-length-3 c = search needs
 
--- src/lib.rt:119:1
 same-length-4 : tie.Need-same-length-4
 same-length-4 c = search needs
 
--- src/lib.rt:119:1
 returns-4 : tie.Need-returns-4
 returns-4 c = message-done _ (c .before .before .before .before .before .before .before .before .before .before .before .before .before .before .before .before .before .before .before .before .before .before .before .before .args .table .now) (c .before .before .before .before .before .before .before .before .before .before .before .before .before .before .before .before .before .before .before .before .before .before .before .before .args .reply .now) (c .before .before .before .before .before .before .before .before .before .before .before .before .before .before .before .before .before .before .before .before .before .before .before .before .args .home .now) _ (c .before .before .before .before .before .before .before .before .before .before .before .before .before .before .before .before .before .before .before .before .before .before .before .before .args .message .now) _ (c .before .before .before .before .before .before .before .before .before .before .before .before .before .before .before .before .before .before .before .message-answer .ensures _ _ refl refl) (c .before .before .before .before .before .before .before .before .before .before .before .before .before .before .before .before .before .before .if1 .left) _ _ (c .before .before .before .before .before .before .before .before .before .before .before .before .before .before .before .before .before .slot-of .ensures) (c .before .before .before .before .before .before .before .before .before .before .before .before .before .before .before .before .slot-at .ensures) _ (c .before .before .before .before .before .before .before .take .ensures) _ _ _ (c .before .before .before .before .apply .ensures .0) (c .before .before .before .before .apply .ensures .1 .0) (c .before .before .before .before .apply .ensures .1 .1)
 

@@ -4,23 +4,16 @@ use Rattle.machine.specs.Intrinsics.{Start}
 use borrow.Author.Needs.{needs}
 use Rattle.gateway.proofs.start.Statement.{statement}
 use Rattle.gateway.proofs.start.Tie as tie
-use Rattle.gateway.proofs.start.Reads as reads
-use Rattle.gateway.proofs.start.Lts as lts
-use Rattle.gateway.proofs.happen.Reads as happen-reads
 
--- src/lib.rt:97:5
 happen-requires : tie.Need-happen-requires
 happen-requires c κs = search needs
 
--- src/lib.rt:92:1
 same-length : tie.Need-same-length
 same-length c = search needs
 
--- src/lib.rt:92:1
 same-length-2 : tie.Need-same-length-2
 same-length-2 c = search needs
 
--- src/lib.rt:92:1
 returns : tie.Need-returns
 returns c = (c .before .before .before .before .happen .ensures .0 Start refl, (c .before .before .before .before .happen .ensures .1 .0 Start refl, c .before .before .before .before .happen .ensures .1 .1 Start refl))
 

@@ -9,10 +9,6 @@ use Rattle.calls.specs.Home.{goodHome}
 use Rattle.home.proofs.Laws.{left, ragged, long, tested, bad-row, good-row, no-row}
 use Rattle.home.proofs.good_home.Statement.{statement}
 use Rattle.home.proofs.good_home.Tie as tie
-use Rattle.home.proofs.good_home.Reads as reads
-use Rattle.home.proofs.good_home.Lts as lts
-use Rattle.home.proofs.is_home_row.Reads as is-home-row-reads
-use Rattle.home.proofs.is_own_first.Reads as is-own-first-reads
 
 abbrev Inv-loop : tie.InvT-loop
 Inv-loop settings home rest₀ rest = goodHome settings home ≡ left settings home rest
@@ -20,63 +16,48 @@ Inv-loop settings home rest₀ rest = goodHome settings home ≡ left settings h
 abbrev μ-loop : tie.MeasureT-loop
 μ-loop settings home rest₀ rest = length rest
 
--- src/lib.rt:38:9
 returns : tie.Need-returns Inv-loop μ-loop
 returns c = ragged _ _ (c .if1 .taken)
 
--- src/lib.rt:41:9
 returns-2 : tie.Need-returns-2 Inv-loop μ-loop
 returns-2 c = long _ _ (c .before .if1 .left) (c .if2 .taken)
 
--- src/lib.rt:44:5
 loop-holds : tie.Need-loop-holds Inv-loop μ-loop
 loop-holds c = tested _ _ (c .before .if1 .left) (c .if2 .left)
 
--- src/lib.rt:45:39
 shared-slice-read-is-home-row : tie.Need-shared-slice-read-is-home-row Inv-loop μ-loop
 shared-slice-read-is-home-row c = omega arith
 
--- src/lib.rt:45:48
 shared-slice-read-is-home-row-2 : tie.Need-shared-slice-read-is-home-row-2 Inv-loop μ-loop
 shared-slice-read-is-home-row-2 c = omega arith
 
--- src/lib.rt:45:57
 shared-slice-read-is-home-row-3 : tie.Need-shared-slice-read-is-home-row-3 Inv-loop μ-loop
 shared-slice-read-is-home-row-3 c = omega arith
 
--- src/lib.rt:45:13
 is-home-row-requires : tie.Need-is-home-row-requires Inv-loop μ-loop
 is-home-row-requires c κs = search needs
 
--- src/lib.rt:46:13
 returns-3 : tie.Need-returns-3 Inv-loop μ-loop
 returns-3 c = sym (c .before .before .before .before .before .before .loop .inv ∙ bad-row _ _ _ (c .before .before .before .before .before .loop-test .taken) (sym (not-true (c .before .is-home-row .result) (c .if3 .taken)) ∙ c .before .is-home-row .ensures))
 
--- src/lib.rt:48:16
 sub-rest : tie.Need-sub-rest Inv-loop μ-loop
 sub-rest c = omega arith
 
--- src/lib.rt:48:16
 part-rest-start : tie.Need-part-rest-start Inv-loop μ-loop
 part-rest-start c = omega arith
 
--- src/lib.rt:48:16
 part-rest-end : tie.Need-part-rest-end Inv-loop μ-loop
 part-rest-end c = omega arith
 
--- src/lib.rt:44:5
 loop-less : tie.Need-loop-less Inv-loop μ-loop
 loop-less c = rw (part-from 3 (c .before .before .before .before .before .before .before .loop .rest .now)) (simp length-drop (omega arith))
 
--- src/lib.rt:44:5
 loop-again : tie.Need-loop-again Inv-loop μ-loop
 loop-again c = rw (part-from 3 (c .before .before .before .before .before .before .before .loop .rest .now)) (c .before .before .before .before .before .before .before .loop .inv ∙ good-row _ _ _ (c .before .before .before .before .before .before .loop-test .taken) (sym (not-false (c .before .before .is-home-row .result) (c .before .if3 .left)) ∙ c .before .before .is-home-row .ensures))
 
--- src/lib.rt:50:5
 is-own-first-requires : tie.Need-is-own-first-requires Inv-loop μ-loop
 is-own-first-requires c κs = search needs
 
--- src/lib.rt:34:1
 returns-4 : tie.Need-returns-4 Inv-loop μ-loop
 returns-4 c = c .is-own-first .ensures ∙ sym (c .before .before .loop .inv ∙ no-row _ _ _ (c .before .loop-test .left))
 

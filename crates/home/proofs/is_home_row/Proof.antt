@@ -4,35 +4,25 @@ use Rattle.calls.specs.Home.{homeRow}
 use borrow.Author.Needs.{needs}
 use Rattle.home.proofs.is_home_row.Statement.{statement}
 use Rattle.home.proofs.is_home_row.Tie as tie
-use Rattle.home.proofs.is_home_row.Reads as reads
-use Rattle.home.proofs.is_home_row.Lts as lts
-use Rattle.nets.proofs.good_net.Reads as good-net-reads
-use Rattle.nets.proofs.on_net.Reads as on-net-reads
 
--- src/lib.rt:11:9
 good-net-requires : tie.Need-good-net-requires
 good-net-requires c κs = search needs
 
--- src/lib.rt:12:9
 returns : tie.Need-returns
 unfolding homeRow
 returns c = rw (← c .before .good-net .ensures, not-true (c .before .good-net .result) (c .if1 .taken))
 
--- src/lib.rt:14:9
 on-net-requires : tie.Need-on-net-requires
 on-net-requires c κs = search needs
 
--- src/lib.rt:15:9
 returns-2 : tie.Need-returns-2
 unfolding homeRow
 returns-2 c = rw (← c .before .before .before .good-net .ensures, ← c .before .on-net .ensures, not-false (c .before .before .before .good-net .result) (c .before .before .if1 .left), not-true (c .before .on-net .result) (c .if2 .taken))
 
--- src/lib.rt:18:9
 returns-3 : tie.Need-returns-3
 unfolding homeRow
 returns-3 c = rw (← c .before .before .before .before .good-net .ensures, ← c .before .before .on-net .ensures, not-false (c .before .before .before .before .good-net .result) (c .before .before .before .if1 .left), not-false (c .before .before .on-net .result) (c .before .if2 .left), lt-leb _ _ (c .if3 .taken))
 
--- src/lib.rt:8:1
 returns-4 : tie.Need-returns-4
 unfolding homeRow
 returns-4 c = rw (← c .before .before .before .before .good-net .ensures, ← c .before .before .on-net .ensures, not-false (c .before .before .before .before .good-net .result) (c .before .before .before .if1 .left), not-false (c .before .before .on-net .result) (c .before .if2 .left), le-leb _ _ (c .if3 .left))

@@ -3,18 +3,13 @@ use Rattle.home.proofs.Laws.{own-none, own-tested}
 use borrow.Author.Needs.{needs}
 use Rattle.home.proofs.is_own_first.Statement.{statement}
 use Rattle.home.proofs.is_own_first.Tie as tie
-use Rattle.home.proofs.is_own_first.Reads as reads
-use Rattle.home.proofs.is_own_first.Lts as lts
 
--- src/lib.rt:28:9
 returns : tie.Need-returns
 returns c = own-none _ _ (c .if1 .taken)
 
--- src/lib.rt:30:5
 shared-slice-read-result : tie.Need-shared-slice-read-result
 shared-slice-read-result c = search needs
 
--- src/lib.rt:24:1
 returns-2 : tie.Need-returns-2
 returns-2 c = own-tested _ _ (c .before .if1 .left)
 

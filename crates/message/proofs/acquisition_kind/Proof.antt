@@ -2,35 +2,27 @@ use Rattle.message.specs.Kinds.{kindAt}
 use borrow.Author.Tests.{ne-eqb}
 use Rattle.message.proofs.acquisition_kind.Statement.{statement}
 use Rattle.message.proofs.acquisition_kind.Tie as tie
-use Rattle.message.proofs.acquisition_kind.Reads as reads
-use Rattle.message.proofs.acquisition_kind.Lts as lts
 
--- src/lib.rt:153:9
 returns : tie.Need-returns
 unfolding kindAt
 returns c = rw (c .if1 .taken)
 
--- src/lib.rt:156:9
 returns-2 : tie.Need-returns-2
 unfolding kindAt
 returns-2 c = rw (c .if2 .taken)
 
--- src/lib.rt:159:9
 returns-3 : tie.Need-returns-3
 unfolding kindAt
 returns-3 c = rw (c .if3 .taken)
 
--- src/lib.rt:162:9
 returns-4 : tie.Need-returns-4
 unfolding kindAt
 returns-4 c = rw (c .if4 .taken)
 
--- src/lib.rt:165:9
 returns-5 : tie.Need-returns-5
 unfolding kindAt
 returns-5 c = rw (c .if5 .taken)
 
--- src/lib.rt:149:1
 returns-6 : tie.Need-returns-6
 unfolding kindAt
 returns-6 c = simp (ne-eqb _ _ (c .before .before .before .before .if1 .left), ne-eqb _ _ (c .before .before .before .if2 .left), ne-eqb _ _ (c .before .before .if3 .left), ne-eqb _ _ (c .before .if4 .left), ne-eqb _ _ (c .if5 .left))

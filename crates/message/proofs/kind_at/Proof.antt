@@ -4,48 +4,35 @@ use borrow.Author.Tests.{ne-eqb}
 use borrow.Author.Needs.{needs}
 use Rattle.message.proofs.kind_at.Statement.{statement}
 use Rattle.message.proofs.kind_at.Tie as tie
-use Rattle.message.proofs.kind_at.Reads as reads
-use Rattle.message.proofs.kind_at.Lts as lts
-use Rattle.message.proofs.acquisition_kind.Reads as acquisition-kind-reads
-use Rattle.message.proofs.reachability_kind.Reads as reachability-kind-reads
 
--- src/lib.rt:128:9
 acquisition-kind-requires : tie.Need-acquisition-kind-requires
 acquisition-kind-requires c κs = search needs
 
--- src/lib.rt:128:9
 returns : tie.Need-returns
 returns c = rw (c .before .if1 .taken) (c .acquisition-kind .ensures)
 
--- src/lib.rt:131:9
 reachability-kind-requires : tie.Need-reachability-kind-requires
 reachability-kind-requires c κs = search needs
 
--- src/lib.rt:131:9
 returns-2 : tie.Need-returns-2
 returns-2 c = rw (c .before .if2 .taken) (c .reachability-kind .ensures)
 
--- src/lib.rt:134:9
 returns-3 : tie.Need-returns-3
 unfolding kindAt
 returns-3 c = simp (ne-eqb _ _ (c .before .before .if1 .left), ne-eqb _ _ (c .before .if2 .left), ne-eqb _ _ (c .if3 .taken), and-false)
 
--- src/lib.rt:137:9
 returns-4 : tie.Need-returns-4
 unfolding kindAt
 returns-4 c = rw (c .if4 .taken, c .before .if3 .left)
 
--- src/lib.rt:140:9
 returns-5 : tie.Need-returns-5
 unfolding kindAt
 returns-5 c = rw (c .if5 .taken, c .before .before .if3 .left)
 
--- src/lib.rt:143:9
 returns-6 : tie.Need-returns-6
 unfolding kindAt
 returns-6 c = rw (c .if6 .taken, c .before .before .before .if3 .left)
 
--- src/lib.rt:124:1
 returns-7 : tie.Need-returns-7
 unfolding kindAt
 returns-7 c = simp (ne-eqb _ _ (c .before .before .before .before .before .if1 .left), ne-eqb _ _ (c .before .before .before .before .if2 .left), ne-eqb _ _ (c .before .before .if4 .left), ne-eqb _ _ (c .before .if5 .left), ne-eqb _ _ (c .if6 .left))

@@ -2,20 +2,15 @@ use Rattle.message.specs.Kinds.{markedStatus}
 use borrow.Author.Tests.{le-leb, lt-leb}
 use Rattle.message.proofs.marked_status.Statement.{statement}
 use Rattle.message.proofs.marked_status.Tie as tie
-use Rattle.message.proofs.marked_status.Reads as reads
-use Rattle.message.proofs.marked_status.Lts as lts
 
--- src/lib.rt:208:9
 returns : tie.Need-returns
 unfolding markedStatus
 returns c = simp (le-leb _ _ (c .if1 .taken))
 
--- src/lib.rt:211:9
 returns-2 : tie.Need-returns-2
 unfolding markedStatus
 returns-2 c = simp (lt-leb _ _ (c .before .if1 .left), lt-leb _ _ (c .if2 .taken))
 
--- src/lib.rt:204:1
 returns-3 : tie.Need-returns-3
 unfolding markedStatus
 returns-3 c = simp (lt-leb _ _ (c .before .if1 .left), le-leb _ _ (c .if2 .left))

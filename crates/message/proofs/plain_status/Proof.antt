@@ -2,10 +2,7 @@ use mathlib.Core.Path.{refl}
 use Rattle.message.specs.Kinds.{plainStatus}
 use Rattle.message.proofs.plain_status.Statement.{statement}
 use Rattle.message.proofs.plain_status.Tie as tie
-use Rattle.message.proofs.plain_status.Reads as reads
-use Rattle.message.proofs.plain_status.Lts as lts
 
--- src/lib.rt:184:1
 returns : tie.Need-returns
 unfolding plainStatus
 returns c = refl

@@ -2,20 +2,15 @@ use Rattle.message.specs.Kinds.{kindAt}
 use borrow.Author.Tests.{ne-eqb}
 use Rattle.message.proofs.reachability_kind.Statement.{statement}
 use Rattle.message.proofs.reachability_kind.Tie as tie
-use Rattle.message.proofs.reachability_kind.Reads as reads
-use Rattle.message.proofs.reachability_kind.Lts as lts
 
--- src/lib.rt:175:9
 returns : tie.Need-returns
 unfolding kindAt
 returns c = rw (c .if1 .taken)
 
--- src/lib.rt:178:9
 returns-2 : tie.Need-returns-2
 unfolding kindAt
 returns-2 c = rw (c .if2 .taken)
 
--- src/lib.rt:171:1
 returns-3 : tie.Need-returns-3
 unfolding kindAt
 returns-3 c = simp (ne-eqb _ _ (c .before .if1 .left), ne-eqb _ _ (c .if2 .left))

@@ -2,20 +2,15 @@ use Rattle.message.specs.Kinds.{refusalStatus}
 use borrow.Author.Tests.{le-leb, lt-leb, ne-eqb}
 use Rattle.message.proofs.refusal_status.Statement.{statement}
 use Rattle.message.proofs.refusal_status.Tie as tie
-use Rattle.message.proofs.refusal_status.Reads as reads
-use Rattle.message.proofs.refusal_status.Lts as lts
 
--- src/lib.rt:195:9
 returns : tie.Need-returns
 unfolding refusalStatus
 returns c = rw (c .if1 .taken)
 
--- src/lib.rt:198:9
 returns-2 : tie.Need-returns-2
 unfolding refusalStatus
 returns-2 c = simp (ne-eqb _ _ (c .before .if1 .left), lt-leb _ _ (c .if2 .taken))
 
--- src/lib.rt:191:1
 returns-3 : tie.Need-returns-3
 unfolding refusalStatus
 returns-3 c = simp (ne-eqb _ _ (c .before .if1 .left), le-leb _ _ (c .if2 .left))

@@ -1,129 +1,94 @@
 use borrow.Author.Needs.{needs}
 use Rattle.message.proofs.status_allowed.Statement.{statement}
 use Rattle.message.proofs.status_allowed.Tie as tie
-use Rattle.message.proofs.status_allowed.Reads as reads
-use Rattle.message.proofs.status_allowed.Lts as lts
-use Rattle.message.proofs.marked_status.Reads as marked-status-reads
-use Rattle.message.proofs.plain_status.Reads as plain-status-reads
-use Rattle.message.proofs.refusal_status.Reads as refusal-status-reads
 
--- src/lib.rt:221:26
 enum-told : tie.Need-enum-told
 enum-told c = search needs
 
--- src/lib.rt:221:26
 plain-status-requires : tie.Need-plain-status-requires
 plain-status-requires c κs = search needs
 
--- src/lib.rt:222:26
 enum-told-2 : tie.Need-enum-told-2
 enum-told-2 c = search needs
 
--- src/lib.rt:222:26
 plain-status-requires-2 : tie.Need-plain-status-requires-2
 plain-status-requires-2 c κs = search needs
 
--- src/lib.rt:223:25
 enum-told-3 : tie.Need-enum-told-3
 enum-told-3 c = search needs
 
--- src/lib.rt:223:25
 refusal-status-requires : tie.Need-refusal-status-requires
 refusal-status-requires c κs = search needs
 
--- src/lib.rt:224:24
 enum-told-4 : tie.Need-enum-told-4
 enum-told-4 c = search needs
 
--- src/lib.rt:224:24
 refusal-status-requires-2 : tie.Need-refusal-status-requires-2
 refusal-status-requires-2 c κs = search needs
 
--- src/lib.rt:225:27
 enum-told-5 : tie.Need-enum-told-5
 enum-told-5 c = search needs
 
--- src/lib.rt:225:27
 refusal-status-requires-3 : tie.Need-refusal-status-requires-3
 refusal-status-requires-3 c κs = search needs
 
--- src/lib.rt:226:24
 enum-told-6 : tie.Need-enum-told-6
 enum-told-6 c = search needs
 
--- src/lib.rt:226:24
 plain-status-requires-3 : tie.Need-plain-status-requires-3
 plain-status-requires-3 c κs = search needs
 
--- src/lib.rt:227:28
 enum-told-7 : tie.Need-enum-told-7
 enum-told-7 c = search needs
 
--- src/lib.rt:227:28
 plain-status-requires-4 : tie.Need-plain-status-requires-4
 plain-status-requires-4 c κs = search needs
 
--- src/lib.rt:228:23
 enum-told-8 : tie.Need-enum-told-8
 enum-told-8 c = search needs
 
--- src/lib.rt:228:23
 plain-status-requires-5 : tie.Need-plain-status-requires-5
 plain-status-requires-5 c κs = search needs
 
--- src/lib.rt:229:25
 enum-told-9 : tie.Need-enum-told-9
 enum-told-9 c = search needs
 
--- src/lib.rt:229:25
 marked-status-requires : tie.Need-marked-status-requires
 marked-status-requires c κs = search needs
 
--- src/lib.rt:230:24
 enum-told-10 : tie.Need-enum-told-10
 enum-told-10 c = search needs
 
--- src/lib.rt:230:24
 marked-status-requires-2 : tie.Need-marked-status-requires-2
 marked-status-requires-2 c κs = search needs
 
--- src/lib.rt:217:1
 returns : tie.Need-returns
 returns c = rw (c .before .enum-told .given .1) (c .plain-status .ensures)
 
--- src/lib.rt:217:1
 returns-2 : tie.Need-returns-2
 returns-2 c = rw (c .before .enum-told2 .given .1) (c .plain-status2 .ensures)
 
--- src/lib.rt:217:1
 returns-3 : tie.Need-returns-3
 returns-3 c = rw (c .before .enum-told3 .given .1) (c .refusal-status .ensures)
 
--- src/lib.rt:217:1
 returns-4 : tie.Need-returns-4
 returns-4 c = rw (c .before .enum-told4 .given .1) (c .refusal-status2 .ensures)
 
--- src/lib.rt:217:1
 returns-5 : tie.Need-returns-5
 returns-5 c = rw (c .before .enum-told5 .given .1) (c .refusal-status3 .ensures)
 
--- src/lib.rt:217:1
 returns-6 : tie.Need-returns-6
 returns-6 c = rw (c .before .enum-told6 .given .1) (c .plain-status3 .ensures)
 
--- src/lib.rt:217:1
 returns-7 : tie.Need-returns-7
 returns-7 c = rw (c .before .enum-told7 .given .1) (c .plain-status4 .ensures)
 
--- src/lib.rt:217:1
 returns-8 : tie.Need-returns-8
 returns-8 c = rw (c .before .enum-told8 .given .1) (c .plain-status5 .ensures)
 
--- src/lib.rt:217:1
 returns-9 : tie.Need-returns-9
 returns-9 c = rw (c .before .enum-told9 .given .1) (c .marked-status .ensures)
 
--- src/lib.rt:217:1
 returns-10 : tie.Need-returns-10
 returns-10 c = rw (c .before .enum-told10 .given .1) (c .marked-status2 .ensures)
 

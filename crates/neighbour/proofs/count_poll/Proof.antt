@@ -3,22 +3,16 @@ use mathlib.Core.Path.{refl}
 use borrow.Author.Needs.{needs}
 use Rattle.neighbour.proofs.count_poll.Statement.{statement}
 use Rattle.neighbour.proofs.count_poll.Tie as tie
-use Rattle.neighbour.proofs.count_poll.Reads as reads
-use Rattle.neighbour.proofs.count_poll.Lts as lts
 
--- src/lib.rt:223:14
 cast-m : tie.Need-cast-m
 cast-m c = search needs
 
--- src/lib.rt:223:13
 add-m : tie.Need-add-m
 add-m c = search needs
 
--- src/lib.rt:223:11
 cast-m-2 : tie.Need-cast-m-2
 cast-m-2 c = search needs
 
--- src/lib.rt:219:1
 returns : tie.Need-returns
 unfolding polled withNumbers withTimers
 returns c = refl

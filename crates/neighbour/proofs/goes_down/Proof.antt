@@ -2,32 +2,24 @@ use Rattle.neighbour.specs.Rules.{goesDown}
 use borrow.Author.Needs.{needs}
 use Rattle.neighbour.proofs.goes_down.Statement.{statement}
 use Rattle.neighbour.proofs.goes_down.Tie as tie
-use Rattle.neighbour.proofs.goes_down.Reads as reads
-use Rattle.neighbour.proofs.goes_down.Lts as lts
 
--- src/lib.rt:388:24
 enum-told : tie.Need-enum-told
 enum-told c = search needs
 
--- src/lib.rt:389:25
 enum-told-2 : tie.Need-enum-told-2
 enum-told-2 c = search needs
 
--- src/lib.rt:390:26
 enum-told-3 : tie.Need-enum-told-3
 enum-told-3 c = search needs
 
--- src/lib.rt:384:1
 returns : tie.Need-returns
 unfolding goesDown
 returns c = rw (c .enum-told .given .1)
 
--- src/lib.rt:384:1
 returns-2 : tie.Need-returns-2
 unfolding goesDown
 returns-2 c = rw (c .enum-told2 .given .1)
 
--- src/lib.rt:384:1
 returns-3 : tie.Need-returns-3
 unfolding goesDown
 returns-3 c = rw (c .enum-told3 .given .1)

@@ -2,32 +2,24 @@ use Rattle.neighbour.specs.Rules.{goesUp}
 use borrow.Author.Needs.{needs}
 use Rattle.neighbour.proofs.goes_up.Statement.{statement}
 use Rattle.neighbour.proofs.goes_up.Tie as tie
-use Rattle.neighbour.proofs.goes_up.Reads as reads
-use Rattle.neighbour.proofs.goes_up.Lts as lts
 
--- src/lib.rt:377:24
 enum-told : tie.Need-enum-told
 enum-told c = search needs
 
--- src/lib.rt:378:25
 enum-told-2 : tie.Need-enum-told-2
 enum-told-2 c = search needs
 
--- src/lib.rt:379:26
 enum-told-3 : tie.Need-enum-told-3
 enum-told-3 c = search needs
 
--- src/lib.rt:373:1
 returns : tie.Need-returns
 unfolding goesUp
 returns c = rw (c .enum-told .given .1)
 
--- src/lib.rt:373:1
 returns-2 : tie.Need-returns-2
 unfolding goesUp
 returns-2 c = rw (c .enum-told2 .given .1)
 
--- src/lib.rt:373:1
 returns-3 : tie.Need-returns-3
 unfolding goesUp
 returns-3 c = rw (c .enum-told3 .given .1)

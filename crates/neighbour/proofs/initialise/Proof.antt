@@ -2,10 +2,7 @@ use Rattle.neighbour.specs.Record.{initialised}
 use mathlib.Core.Path.{refl}
 use Rattle.neighbour.proofs.initialise.Statement.{statement}
 use Rattle.neighbour.proofs.initialise.Tie as tie
-use Rattle.neighbour.proofs.initialise.Reads as reads
-use Rattle.neighbour.proofs.initialise.Lts as lts
 
--- src/lib.rt:167:1
 returns : tie.Need-returns
 unfolding initialised
 returns c = refl

@@ -2,42 +2,30 @@ use Rattle.neighbour.specs.Rules.{indicates}
 use borrow.Author.Needs.{needs}
 use Rattle.neighbour.proofs.is_indication.Statement.{statement}
 use Rattle.neighbour.proofs.is_indication.Tie as tie
-use Rattle.neighbour.proofs.is_indication.Reads as reads
-use Rattle.neighbour.proofs.is_indication.Lts as lts
-use Rattle.neighbour.proofs.is_active_indication.Reads as is-active-indication-reads
-use Rattle.neighbour.proofs.is_passive_indication.Reads as is-passive-indication-reads
 
--- src/lib.rt:303:24
 enum-told : tie.Need-enum-told
 enum-told c = search needs
 
--- src/lib.rt:304:25
 enum-told-2 : tie.Need-enum-told-2
 enum-told-2 c = search needs
 
--- src/lib.rt:304:25
 is-active-indication-requires : tie.Need-is-active-indication-requires
 is-active-indication-requires c κs = search needs
 
--- src/lib.rt:305:26
 enum-told-3 : tie.Need-enum-told-3
 enum-told-3 c = search needs
 
--- src/lib.rt:305:26
 is-passive-indication-requires : tie.Need-is-passive-indication-requires
 is-passive-indication-requires c κs = search needs
 
--- src/lib.rt:299:1
 returns : tie.Need-returns
 unfolding indicates
 returns c = rw (c .enum-told .given .1)
 
--- src/lib.rt:299:1
 returns-2 : tie.Need-returns-2
 unfolding indicates
 returns-2 c = rw (c .before .enum-told2 .given .1) (c .is-active-indication .ensures)
 
--- src/lib.rt:299:1
 returns-3 : tie.Need-returns-3
 unfolding indicates
 returns-3 c = rw (c .before .enum-told3 .given .1) (c .is-passive-indication .ensures)

@@ -2,25 +2,19 @@ use Rattle.neighbour.specs.Rules.{unacceptable}
 use borrow.Author.Tests.{lt-ltb, le-ltb, eq-eqb, ne-eqb}
 use Rattle.neighbour.proofs.is_unacceptable.Statement.{statement}
 use Rattle.neighbour.proofs.is_unacceptable.Tie as tie
-use Rattle.neighbour.proofs.is_unacceptable.Reads as reads
-use Rattle.neighbour.proofs.is_unacceptable.Lts as lts
 
--- src/lib.rt:437:9
 returns : tie.Need-returns
 unfolding unacceptable
 returns c = simp (lt-ltb _ _ (c .if1 .taken))
 
--- src/lib.rt:440:9
 returns-2 : tie.Need-returns-2
 unfolding unacceptable
 returns-2 c = simp (le-ltb _ _ (c .before .if1 .left), lt-ltb _ _ (c .if2 .taken))
 
--- src/lib.rt:443:9
 returns-3 : tie.Need-returns-3
 unfolding unacceptable
 returns-3 c = simp (le-ltb _ _ (c .before .before .if1 .left), le-ltb _ _ (c .before .if2 .left), ne-eqb _ _ (c .if3 .taken))
 
--- src/lib.rt:433:1
 returns-4 : tie.Need-returns-4
 unfolding unacceptable
 returns-4 c = simp (le-ltb _ _ (c .before .before .if1 .left), le-ltb _ _ (c .before .if2 .left), eq-eqb _ _ (c .if3 .left))

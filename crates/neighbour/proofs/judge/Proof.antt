@@ -4,84 +4,61 @@ use mathlib.Core.Path.{sym, _∙_}
 use borrow.Author.Needs.{needs}
 use Rattle.neighbour.proofs.judge.Statement.{statement}
 use Rattle.neighbour.proofs.judge.Tie as tie
-use Rattle.neighbour.proofs.judge.Reads as reads
-use Rattle.neighbour.proofs.judge.Lts as lts
-use Rattle.neighbour.proofs.goes_down.Reads as goes-down-reads
-use Rattle.neighbour.proofs.goes_up.Reads as goes-up-reads
-use Rattle.neighbour.proofs.move_to.Reads as move-to-reads
-use Rattle.neighbour.proofs.ones.Reads as ones-reads
 
--- src/lib.rt:400:9
 ones-requires : tie.Need-ones-requires
 ones-requires c κs = search needs
 
--- src/lib.rt:402:24
 enum-told : tie.Need-enum-told
 enum-told c = search needs
 
--- src/lib.rt:403:31
 enum-told-2 : tie.Need-enum-told-2
 enum-told-2 c = search needs
 
--- src/lib.rt:405:16
 enum-told-3 : tie.Need-enum-told-3
 enum-told-3 c = search needs
 
--- src/lib.rt:405:16
 goes-up-requires : tie.Need-goes-up-requires
 goes-up-requires c κs = search needs
 
--- src/lib.rt:406:17
 move-to-requires : tie.Need-move-to-requires
 move-to-requires c κs = search needs
 
--- src/lib.rt:412:16
 enum-told-4 : tie.Need-enum-told-4
 enum-told-4 c = search needs
 
--- src/lib.rt:412:16
 goes-down-requires : tie.Need-goes-down-requires
 goes-down-requires c κs = search needs
 
--- src/lib.rt:413:17
 move-to-requires-2 : tie.Need-move-to-requires-2
 move-to-requires-2 c κs = search needs
 
--- src/lib.rt:418:25
 enum-told-5 : tie.Need-enum-told-5
 enum-told-5 c = search needs
 
--- src/lib.rt:395:1
 returns : tie.Need-returns
 unfolding judged under enterUp leaveUp withReach withTimers
 returns c = simp (c .enum-told .given .1)
 
--- src/lib.rt:395:1
 returns-2 : tie.Need-returns-2
 unfolding judged under enterUp leaveUp withReach withTimers
 returns-2 c = simp (c .enum-told2 .given .1)
 
--- src/lib.rt:395:1
 returns-3 : tie.Need-returns-3
 unfolding judged under enterUp leaveUp withReach withTimers
 returns-3 c = simp (c .before .before .before .enum-told3 .given .1, sym (rw (c .before .before .before .before .before .ones .ensures) at (c .before .before .goes-up .ensures)) ∙ c .before .if1 .taken) (c .move-to .ensures)
 
--- src/lib.rt:395:1
 returns-4 : tie.Need-returns-4
 unfolding judged under enterUp leaveUp withReach withTimers
 returns-4 c = simp (c .before .before .enum-told3 .given .1, sym (rw (c .before .before .before .before .ones .ensures) at (c .before .goes-up .ensures)) ∙ c .if1 .left)
 
--- src/lib.rt:395:1
 returns-5 : tie.Need-returns-5
 unfolding judged under enterUp leaveUp withReach withTimers
 returns-5 c = simp (c .before .before .before .enum-told4 .given .1, sym (rw (c .before .before .before .before .before .ones .ensures) at (c .before .before .goes-down .ensures)) ∙ c .before .if2 .taken) (c .move-to2 .ensures)
 
--- src/lib.rt:395:1
 returns-6 : tie.Need-returns-6
 unfolding judged under enterUp leaveUp withReach withTimers
 returns-6 c = simp (c .before .before .enum-told4 .given .1, sym (rw (c .before .before .before .before .ones .ensures) at (c .before .goes-down .ensures)) ∙ c .if2 .left)
 
--- src/lib.rt:395:1
 returns-7 : tie.Need-returns-7
 unfolding judged under enterUp leaveUp withReach withTimers
 returns-7 c = simp (c .enum-told5 .given .1)

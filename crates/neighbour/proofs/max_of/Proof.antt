@@ -1,14 +1,10 @@
 use borrow.Author.Tests.{le-leb, lt-leb}
 use Rattle.neighbour.proofs.max_of.Statement.{statement}
 use Rattle.neighbour.proofs.max_of.Tie as tie
-use Rattle.neighbour.proofs.max_of.Reads as reads
-use Rattle.neighbour.proofs.max_of.Lts as lts
 
--- src/lib.rt:428:9
 returns : tie.Need-returns
 returns c = simp (le-leb _ _ (c .if1 .taken))
 
--- src/lib.rt:424:1
 returns-2 : tie.Need-returns-2
 returns-2 c = simp (lt-leb _ _ (c .if1 .left))
 

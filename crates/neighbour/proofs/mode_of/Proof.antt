@@ -2,35 +2,27 @@ use Rattle.neighbour.specs.Rules.{modeOf}
 use borrow.Author.Tests.{lt-ltb, le-ltb, eq-eqb, ne-eqb}
 use Rattle.neighbour.proofs.mode_of.Statement.{statement}
 use Rattle.neighbour.proofs.mode_of.Tie as tie
-use Rattle.neighbour.proofs.mode_of.Reads as reads
-use Rattle.neighbour.proofs.mode_of.Lts as lts
 
--- src/lib.rt:453:9
 returns : tie.Need-returns
 unfolding modeOf
 returns c = simp (eq-eqb _ _ (c .if1 .taken))
 
--- src/lib.rt:456:9
 returns-2 : tie.Need-returns-2
 unfolding modeOf
 returns-2 c = simp (ne-eqb _ _ (c .before .if1 .left), eq-eqb _ _ (c .if2 .taken))
 
--- src/lib.rt:459:9
 returns-3 : tie.Need-returns-3
 unfolding modeOf
 returns-3 c = simp (ne-eqb _ _ (c .before .before .if1 .left), ne-eqb _ _ (c .before .if2 .left), eq-eqb _ _ (c .if3 .taken))
 
--- src/lib.rt:462:9
 returns-4 : tie.Need-returns-4
 unfolding modeOf
 returns-4 c = simp (ne-eqb _ _ (c .before .before .before .if1 .left), ne-eqb _ _ (c .before .before .if2 .left), ne-eqb _ _ (c .before .if3 .left), eq-eqb _ _ (c .if4 .taken))
 
--- src/lib.rt:465:9
 returns-5 : tie.Need-returns-5
 unfolding modeOf
 returns-5 c = simp (ne-eqb _ _ (c .before .before .before .before .if1 .left), ne-eqb _ _ (c .before .before .before .if2 .left), ne-eqb _ _ (c .before .before .if3 .left), ne-eqb _ _ (c .before .if4 .left), lt-ltb _ _ (c .if5 .taken))
 
--- src/lib.rt:449:1
 returns-6 : tie.Need-returns-6
 unfolding modeOf
 returns-6 c = simp (ne-eqb _ _ (c .before .before .before .before .if1 .left), ne-eqb _ _ (c .before .before .before .if2 .left), ne-eqb _ _ (c .before .before .if3 .left), ne-eqb _ _ (c .before .if4 .left), le-ltb _ _ (c .if5 .left))

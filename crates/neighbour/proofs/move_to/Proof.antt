@@ -2,10 +2,7 @@ use Rattle.neighbour.specs.Record.{withTimers, withReach}
 use mathlib.Core.Path.{refl}
 use Rattle.neighbour.proofs.move_to.Statement.{statement}
 use Rattle.neighbour.proofs.move_to.Tie as tie
-use Rattle.neighbour.proofs.move_to.Reads as reads
-use Rattle.neighbour.proofs.move_to.Lts as lts
 
--- src/lib.rt:198:1
 returns : tie.Need-returns
 unfolding withReach withTimers
 returns c = refl

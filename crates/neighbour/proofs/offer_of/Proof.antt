@@ -5,42 +5,29 @@ use Rattle.neighbour.proofs.Laws.{larger-fits, hello-fits, poll-fits, o
 use borrow.Author.Needs.{needs}
 use Rattle.neighbour.proofs.offer_of.Statement.{statement}
 use Rattle.neighbour.proofs.offer_of.Tie as tie
-use Rattle.neighbour.proofs.offer_of.Reads as reads
-use Rattle.neighbour.proofs.offer_of.Lts as lts
-use Rattle.neighbour.proofs.is_unacceptable.Reads as is-unacceptable-reads
-use Rattle.neighbour.proofs.max_of.Reads as max-of-reads
-use Rattle.neighbour.proofs.mode_of.Reads as mode-of-reads
 
--- src/lib.rt:474:8
 is-unacceptable-requires : tie.Need-is-unacceptable-requires
 is-unacceptable-requires c κs = search needs
 
--- src/lib.rt:475:9
 returns : tie.Need-returns
 unfolding offerOf
 returns c = simp (sym (c .before .is-unacceptable .ensures) ∙ c .if1 .taken)
 
--- src/lib.rt:478:16
 max-of-requires : tie.Need-max-of-requires
 max-of-requires c κs = search needs
 
--- src/lib.rt:478:16
 add-t8 : tie.Need-add-t8
 add-t8 c = omega (arith, c .max-of .ensures, larger-fits 30 (c .before .before .before .args .hello) 120 (omega arith) (hello-fits (c .before .before .before .args .settings) 0 _ _ _ (sym (c .before .before .is-unacceptable .ensures) ∙ c .before .if1 .left)))
 
--- src/lib.rt:479:15
 max-of-requires-2 : tie.Need-max-of-requires-2
 max-of-requires-2 c κs = search needs
 
--- src/lib.rt:479:15
 add-t10 : tie.Need-add-t10
 add-t10 c = omega (arith, c .max-of2 .ensures, larger-fits 120 (c .before .before .before .before .args .poll) 480 (omega arith) (poll-fits (c .before .before .before .before .args .settings) 0 _ _ _ (sym (c .before .before .before .is-unacceptable .ensures) ∙ c .before .before .if1 .left)))
 
--- src/lib.rt:480:15
 mode-of-requires : tie.Need-mode-of-requires
 mode-of-requires c κs = search needs
 
--- src/lib.rt:471:1
 returns-2 : tie.Need-returns-2
 returns-2 c = offered _ _ _ _ _ (sym (c .before .before .before .before .is-unacceptable .ensures) ∙ c .before .before .before .if1 .left) _ _ _ (c .before .before .max-of .ensures) (c .before .max-of2 .ensures) (c .mode-of .ensures)
 

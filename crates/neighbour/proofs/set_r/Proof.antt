@@ -5,40 +5,27 @@ use borrow.Author.Tests.{not-true, not-false}
 use borrow.Author.Needs.{needs}
 use Rattle.neighbour.proofs.set_r.Statement.{statement}
 use Rattle.neighbour.proofs.set_r.Tie as tie
-use Rattle.neighbour.proofs.set_r.Reads as reads
-use Rattle.neighbour.proofs.set_r.Lts as lts
-use Rattle.message.proofs.kind_of.Reads as kind-of-reads
-use Rattle.message.proofs.sequence_of.Reads as sequence-of-reads
-use Rattle.neighbour.proofs.is_command.Reads as is-command-reads
-use Rattle.neighbour.proofs.is_idle.Reads as is-idle-reads
 
--- src/lib.rt:284:8
 is-idle-requires : tie.Need-is-idle-requires
 is-idle-requires c κs = search needs
 
--- src/lib.rt:285:9
 returns : tie.Need-returns
 unfolding commanded withNumbers
 returns c = simp (sym (c .before .is-idle .ensures) ∙ c .if1 .taken)
 
--- src/lib.rt:287:9
 kind-of-requires : tie.Need-kind-of-requires
 kind-of-requires c κs = search needs
 
--- src/lib.rt:288:9
 is-command-requires : tie.Need-is-command-requires
 is-command-requires c κs = search needs
 
--- src/lib.rt:289:9
 returns-2 : tie.Need-returns-2
 unfolding commanded withNumbers
 returns-2 c = simp (sym (c .before .before .before .before .is-idle .ensures) ∙ c .before .before .before .if1 .left, sym (c .before .is-command .ensures ∙ ap isCommand (c .before .before .kind-of .ensures)) ∙ not-true _ (c .if2 .taken))
 
--- src/lib.rt:292:5
 sequence-of-requires : tie.Need-sequence-of-requires
 sequence-of-requires c κs = search needs
 
--- src/lib.rt:280:1
 returns-3 : tie.Need-returns-3
 unfolding commanded withNumbers
 returns-3 c = simp (sym (c .before .before .before .before .before .is-idle .ensures) ∙ c .before .before .before .before .if1 .left, sym (c .before .before .is-command .ensures ∙ ap isCommand (c .before .before .before .kind-of .ensures)) ∙ not-false _ (c .before .if2 .left), c .sequence-of .ensures)

@@ -3,30 +3,22 @@ use mathlib.Core.Path.{refl}
 use borrow.Author.Needs.{needs}
 use Rattle.neighbour.proofs.shift.Statement.{statement}
 use Rattle.neighbour.proofs.shift.Tie as tie
-use Rattle.neighbour.proofs.shift.Reads as reads
-use Rattle.neighbour.proofs.shift.Lts as lts
 
--- src/lib.rt:191:21
 cast-m : tie.Need-cast-m
 cast-m c = search needs
 
--- src/lib.rt:191:20
 mul-m : tie.Need-mul-m
 mul-m c = search needs
 
--- src/lib.rt:191:47
 cast-m-2 : tie.Need-cast-m-2
 cast-m-2 c = search needs
 
--- src/lib.rt:191:20
 add-m : tie.Need-add-m
 add-m c = search needs
 
--- src/lib.rt:191:18
 cast-m-3 : tie.Need-cast-m-3
 cast-m-3 c = search needs
 
--- src/lib.rt:187:1
 returns : tie.Need-returns
 unfolding shifted withReach withTimers
 returns c = refl

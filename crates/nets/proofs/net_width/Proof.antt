@@ -2,25 +2,19 @@ use Rattle.nets.specs.Classes.{netWidth}
 use borrow.Author.Tests.{lt-ltb, le-ltb}
 use Rattle.nets.proofs.net_width.Statement.{statement}
 use Rattle.nets.proofs.net_width.Tie as tie
-use Rattle.nets.proofs.net_width.Reads as reads
-use Rattle.nets.proofs.net_width.Lts as lts
 
--- src/lib.rt:10:9
 returns : tie.Need-returns
 unfolding netWidth
 returns c = simp (lt-ltb _ _ (c .if1 .taken))
 
--- src/lib.rt:13:9
 returns-2 : tie.Need-returns-2
 unfolding netWidth
 returns-2 c = simp (le-ltb _ _ (c .before .if1 .left), lt-ltb _ _ (c .if2 .taken))
 
--- src/lib.rt:16:9
 returns-3 : tie.Need-returns-3
 unfolding netWidth
 returns-3 c = simp (le-ltb _ _ (c .before .before .if1 .left), le-ltb _ _ (c .before .if2 .left), lt-ltb _ _ (c .if3 .taken))
 
--- src/lib.rt:6:1
 returns-4 : tie.Need-returns-4
 unfolding netWidth
 returns-4 c = simp (le-ltb _ _ (c .before .before .if1 .left), le-ltb _ _ (c .before .if2 .left), le-ltb _ _ (c .if3 .left))

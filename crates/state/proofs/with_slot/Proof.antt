@@ -6,23 +6,17 @@ use Rattle.state.proofs.SlotLaws.{with-past}
 use borrow.Author.Needs.{needs}
 use Rattle.state.proofs.with_slot.Statement.{statement}
 use Rattle.state.proofs.with_slot.Tie as tie
-use Rattle.state.proofs.with_slot.Reads as reads
-use Rattle.state.proofs.with_slot.Lts as lts
 
--- src/lib.rt:79:9
 mul-slot : tie.Need-mul-slot
 mul-slot c = search needs
 
--- src/lib.rt:79:9
 element-set-from-slot : tie.Need-element-set-from-slot
 element-set-from-slot c = search needs
 
--- src/lib.rt:74:1
 returns : tie.Need-returns
 unfolding withSlot
 returns c = refl
 
--- src/lib.rt:74:1
 returns-2 : tie.Need-returns-2
 returns-2 c =
     let eight : length (c .before .args .st .slots) ≡ 8 = search (needs, unmapped) in

@@ -4,23 +4,16 @@ use Rattle.verdict.proofs.Laws.{other-kind, update-kind}
 use borrow.Author.Needs.{needs}
 use Rattle.verdict.proofs.brings_rows.Statement.{statement}
 use Rattle.verdict.proofs.brings_rows.Tie as tie
-use Rattle.verdict.proofs.brings_rows.Reads as reads
-use Rattle.verdict.proofs.brings_rows.Lts as lts
-use Rattle.state.proofs.is_up.Reads as is-up-reads
 
--- src/lib.rt:161:9
 enum-told : tie.Need-enum-told
 enum-told c = search needs
 
--- src/lib.rt:161:9
 is-up-requires : tie.Need-is-up-requires
 is-up-requires c κs = search needs
 
--- src/lib.rt:161:9
 returns : tie.Need-returns
 returns c = c .is-up .ensures ∙ update-kind _ _ _ _ _ _ (c .before .enum-told .given .1)
 
--- src/lib.rt:152:1
 returns-2 : tie.Need-returns-2
 returns-2 c = other-kind (c .before .args .m) (isUp (c .before .args .phase)) (c .match .keys2)
 

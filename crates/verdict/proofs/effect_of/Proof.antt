@@ -3,29 +3,21 @@ use Rattle.calls.specs.Ruling.{leaving, effectOf}
 use borrow.Author.Needs.{needs}
 use Rattle.verdict.proofs.effect_of.Statement.{statement}
 use Rattle.verdict.proofs.effect_of.Tie as tie
-use Rattle.verdict.proofs.effect_of.Reads as reads
-use Rattle.verdict.proofs.effect_of.Lts as lts
-use Rattle.state.proofs.is_up.Reads as is-up-reads
 
--- src/lib.rt:24:8
 is-up-requires : tie.Need-is-up-requires
 is-up-requires c κs = search needs
 
--- src/lib.rt:25:13
 is-up-requires-2 : tie.Need-is-up-requires-2
 is-up-requires-2 c κs = search needs
 
--- src/lib.rt:26:13
 returns : tie.Need-returns
 unfolding leaving effectOf
 returns c = rw (← c .before .before .before .is-up .ensures, c .before .before .if1 .taken, ← c .before .is-up2 .ensures, not-true (c .before .is-up2 .result) (c .if2 .taken))
 
--- src/lib.rt:21:1
 returns-2 : tie.Need-returns-2
 unfolding leaving effectOf
 returns-2 c = rw (← c .before .before .before .is-up .ensures, c .before .before .if1 .taken, ← c .before .is-up2 .ensures, not-false (c .before .is-up2 .result) (c .if2 .left))
 
--- src/lib.rt:21:1
 returns-3 : tie.Need-returns-3
 unfolding leaving effectOf
 returns-3 c = rw (← c .before .is-up .ensures, c .if1 .left)

@@ -4,40 +4,27 @@ use Rattle.calls.specs.Number.{errorTo}
 use borrow.Author.Needs.{needs}
 use Rattle.verdict.proofs.error_to.Statement.{statement}
 use Rattle.verdict.proofs.error_to.Tie as tie
-use Rattle.verdict.proofs.error_to.Reads as reads
-use Rattle.verdict.proofs.error_to.Lts as lts
-use Rattle.neighbour.proofs.is_acquired.Reads as is-acquired-reads
-use Rattle.octets.proofs.octet.Reads as octet-reads
-use Rattle.sent.proofs.error_message.Reads as error-message-reads
-use Rattle.verdict.proofs.head_of.Reads as head-of-reads
 
--- src/lib.rt:77:9
 is-acquired-requires : tie.Need-is-acquired-requires
 is-acquired-requires c κs = search needs
 
--- src/lib.rt:78:9
 returns : tie.Need-returns
 unfolding errorTo
 returns c = rw (← c .before .is-acquired .ensures, not-true (c .before .is-acquired .result) (c .if1 .taken))
 
--- src/lib.rt:80:8
 octet-requires : tie.Need-octet-requires
 octet-requires c κs = search needs
 
--- src/lib.rt:81:9
 returns-2 : tie.Need-returns-2
 unfolding errorTo
 returns-2 c = rw (← c .before .before .before .is-acquired .ensures, not-false (c .before .before .before .is-acquired .result) (c .before .before .if1 .left), ← c .before .octet .ensures, eq-eqb _ _ (c .if2 .taken))
 
--- src/lib.rt:83:57
 head-of-requires : tie.Need-head-of-requires
 head-of-requires c κs = search needs
 
--- src/lib.rt:83:16
 error-message-requires : tie.Need-error-message-requires
 error-message-requires c κs = search needs
 
--- src/lib.rt:73:1
 returns-3 : tie.Need-returns-3
 unfolding errorTo
 returns-3 c = rw (← c .before .before .before .before .before .is-acquired .ensures, not-false (c .before .before .before .before .before .is-acquired .result) (c .before .before .before .before .if1 .left), ← c .before .before .before .octet .ensures, ne-eqb _ _ (c .before .before .if2 .left), c .error-message .ensures, c .before .head-of .ensures)

@@ -6,30 +6,21 @@ use Rattle.verdict.specs.Stages.{headNumber}
 use borrow.Author.Needs.{needs}
 use Rattle.verdict.proofs.head_number.Statement.{statement}
 use Rattle.verdict.proofs.head_number.Tie as tie
-use Rattle.verdict.proofs.head_number.Reads as reads
-use Rattle.verdict.proofs.head_number.Lts as lts
-use Rattle.octets.proofs.word16_at.Reads as word16-at-reads
-use Rattle.wire.proofs.read_header.Reads as read-header-reads
 
--- src/lib.rt:141:9
 read-header-requires : tie.Need-read-header-requires
 read-header-requires c κs = search needs
 
--- src/lib.rt:143:9
 returns : tie.Need-returns
 unfolding headNumber
 returns c = c .before .read-header .ensures ∙ sym (ifOk-old _ _ _ (λ z. c .if1 .taken (c .before .read-header .ensures ∙ z)))
 
--- src/lib.rt:145:8
 word16-at-requires : tie.Need-word16-at-requires
 word16-at-requires c κs = search needs
 
--- src/lib.rt:146:9
 returns-2 : tie.Need-returns-2
 unfolding headNumber check ifOk
 returns-2 c = rw (← c .before .before .before .read-header .ensures, c .before .before .if1 .left, ← c .before .word16-at .ensures, ne-eqb _ _ (c .if2 .taken))
 
--- src/lib.rt:138:1
 returns-3 : tie.Need-returns-3
 unfolding headNumber check ifOk
 returns-3 c = rw (← c .before .before .before .read-header .ensures, c .before .before .if1 .left, ← c .before .word16-at .ensures, eq-eqb _ _ (c .if2 .left))

@@ -2,23 +2,16 @@ use Rattle.calls.specs.Number.{headAt}
 use borrow.Author.Needs.{needs}
 use Rattle.verdict.proofs.head_of.Statement.{statement}
 use Rattle.verdict.proofs.head_of.Tie as tie
-use Rattle.verdict.proofs.head_of.Reads as reads
-use Rattle.verdict.proofs.head_of.Lts as lts
-use Rattle.octets.proofs.word32_at.Reads as word32-at-reads
 
--- src/lib.rt:66:16
 word32-at-requires : tie.Need-word32-at-requires
 word32-at-requires c κs = search needs
 
--- src/lib.rt:67:17
 word32-at-requires-2 : tie.Need-word32-at-requires-2
 word32-at-requires-2 c κs = search needs
 
--- src/lib.rt:68:16
 word32-at-requires-3 : tie.Need-word32-at-requires-3
 word32-at-requires-3 c κs = search needs
 
--- src/lib.rt:62:1
 returns : tie.Need-returns
 unfolding headAt
 returns c = rw (c .before .before .word32-at .ensures, c .before .word32-at2 .ensures, c .word32-at3 .ensures)

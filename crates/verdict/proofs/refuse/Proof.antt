@@ -2,15 +2,10 @@ use borrow.Author.Needs.{needs}
 use Rattle.calls.specs.Ruling.{verdictOf, refuses, effectOf}
 use Rattle.verdict.proofs.refuse.Statement.{statement}
 use Rattle.verdict.proofs.refuse.Tie as tie
-use Rattle.verdict.proofs.refuse.Reads as reads
-use Rattle.verdict.proofs.refuse.Lts as lts
-use Rattle.verdict.proofs.reply_to.Reads as reply-to-reads
 
--- src/lib.rt:131:16
 reply-to-requires : tie.Need-reply-to-requires
 reply-to-requires c κs = search needs
 
--- src/lib.rt:126:1
 returns : tie.Need-returns
 unfolding verdictOf refuses effectOf
 returns c = rw (c .reply-to .ensures)

@@ -5,63 +5,45 @@ use Rattle.calls.specs.Number.{refuseTo}
 use borrow.Author.Needs.{needs}
 use Rattle.verdict.proofs.refuse_to.Statement.{statement}
 use Rattle.verdict.proofs.refuse_to.Tie as tie
-use Rattle.verdict.proofs.refuse_to.Reads as reads
-use Rattle.verdict.proofs.refuse_to.Lts as lts
-use Rattle.neighbour.proofs.is_idle.Reads as is-idle-reads
-use Rattle.octets.proofs.octet.Reads as octet-reads
-use Rattle.octets.proofs.word16_at.Reads as word16-at-reads
-use Rattle.sent.proofs.refuse_message.Reads as refuse-message-reads
 
--- src/lib.rt:91:9
 is-idle-requires : tie.Need-is-idle-requires
 is-idle-requires c κs = search needs
 
--- src/lib.rt:92:9
 returns : tie.Need-returns
 unfolding refuseTo
 returns c = rw (← c .before .is-idle .ensures, not-true (c .before .is-idle .result) (c .if1 .taken))
 
--- src/lib.rt:94:8
 octet-requires : tie.Need-octet-requires
 octet-requires c κs = search needs
 
--- src/lib.rt:95:9
 returns-2 : tie.Need-returns-2
 unfolding refuseTo
 returns-2 c = rw (← c .before .before .before .is-idle .ensures, not-false (c .before .before .before .is-idle .result) (c .before .before .if1 .left), ← c .before .octet .ensures, ne-eqb _ _ (c .if2 .taken))
 
--- src/lib.rt:97:8
 octet-requires-2 : tie.Need-octet-requires-2
 octet-requires-2 c κs = search needs
 
--- src/lib.rt:98:9
 returns-3 : tie.Need-returns-3
 unfolding refuseTo
 returns-3 c = rw (← c .before .before .before .before .before .is-idle .ensures, not-false (c .before .before .before .before .before .is-idle .result) (c .before .before .before .before .if1 .left), ← c .before .before .before .octet .ensures, eq-eqb _ _ (c .before .before .if2 .left), ← c .before .octet2 .ensures, ne-eqb _ _ (c .if3 .taken))
 
--- src/lib.rt:100:12
 octet-requires-3 : tie.Need-octet-requires-3
 octet-requires-3 c κs = search needs
 
--- src/lib.rt:101:9
 returns-4 : tie.Need-returns-4
 unfolding refuseTo plainStatus
 returns-4 c = rw (← c .before .before .before .before .before .before .before .is-idle .ensures, not-false (c .before .before .before .before .before .before .before .is-idle .result) (c .before .before .before .before .before .before .if1 .left), ← c .before .before .before .before .before .octet .ensures, eq-eqb _ _ (c .before .before .before .before .if2 .left), ← c .before .before .before .octet2 .ensures, eq-eqb _ _ (c .before .before .if3 .left), ← c .before .octet3 .ensures, lt-leb _ _ (c .if4 .taken))
 
--- src/lib.rt:104:9
 returns-5 : tie.Need-returns-5
 unfolding refuseTo plainStatus
 returns-5 c = rw (← c .before .before .before .before .before .before .before .before .is-idle .ensures, not-false (c .before .before .before .before .before .before .before .before .is-idle .result) (c .before .before .before .before .before .before .before .if1 .left), ← c .before .before .before .before .before .before .octet .ensures, eq-eqb _ _ (c .before .before .before .before .before .if2 .left), ← c .before .before .before .before .octet2 .ensures, eq-eqb _ _ (c .before .before .before .if3 .left), ← c .before .before .octet3 .ensures, le-leb _ _ (c .before .if4 .left), ne-eqb _ _ (c .if5 .taken))
 
--- src/lib.rt:106:47
 word16-at-requires : tie.Need-word16-at-requires
 word16-at-requires c κs = search needs
 
--- src/lib.rt:106:16
 refuse-message-requires : tie.Need-refuse-message-requires
 refuse-message-requires c κs = search needs
 
--- src/lib.rt:87:1
 returns-6 : tie.Need-returns-6
 unfolding refuseTo plainStatus
 returns-6 c = rw (← c .before .before .before .before .before .before .before .before .before .before .is-idle .ensures, not-false (c .before .before .before .before .before .before .before .before .before .before .is-idle .result) (c .before .before .before .before .before .before .before .before .before .if1 .left), ← c .before .before .before .before .before .before .before .before .octet .ensures, eq-eqb _ _ (c .before .before .before .before .before .before .before .if2 .left), ← c .before .before .before .before .before .before .octet2 .ensures, eq-eqb _ _ (c .before .before .before .before .before .if3 .left), ← c .before .before .before .before .octet3 .ensures, le-leb _ _ (c .before .before .before .if4 .left), eq-eqb _ _ (c .before .before .if5 .left), c .refuse-message .ensures, c .before .word16-at .ensures)

@@ -3,48 +3,34 @@ use mathlib.Core.Path.{_∙_}
 use Rattle.verdict.proofs.Laws.{reply-9, reply-14, reply-15, reply-low, reply-high, reply-kind}
 use Rattle.verdict.proofs.reply_to.Statement.{statement}
 use Rattle.verdict.proofs.reply_to.Tie as tie
-use Rattle.verdict.proofs.reply_to.Reads as reads
-use Rattle.verdict.proofs.reply_to.Lts as lts
-use Rattle.verdict.proofs.error_to.Reads as error-to-reads
-use Rattle.verdict.proofs.refuse_to.Reads as refuse-to-reads
 
--- src/lib.rt:108:9
 refuse-to-requires : tie.Need-refuse-to-requires
 refuse-to-requires c κs = search needs
 
--- src/lib.rt:108:9
 returns : tie.Need-returns
 returns c = c .refuse-to .ensures ∙ reply-9 _ _ _ _ (c .before .if1 .taken)
 
--- src/lib.rt:111:9
 error-to-requires : tie.Need-error-to-requires
 error-to-requires c κs = search needs
 
--- src/lib.rt:111:9
 returns-2 : tie.Need-returns-2
 returns-2 c = c .error-to .ensures ∙ reply-14 _ _ _ _ (c .before .if2 .taken)
 
--- src/lib.rt:114:9
 error-to-requires-2 : tie.Need-error-to-requires-2
 error-to-requires-2 c κs = search needs
 
--- src/lib.rt:114:9
 returns-3 : tie.Need-returns-3
 returns-3 c = c .error-to2 .ensures ∙ reply-15 _ _ _ _ (c .before .if3 .taken)
 
--- src/lib.rt:117:9
 returns-4 : tie.Need-returns-4
 returns-4 c = reply-low _ _ _ _ (c .before .before .before .if1 .left) (c .before .before .if2 .left) (c .before .if3 .left) (c .if4 .taken)
 
--- src/lib.rt:120:9
 returns-5 : tie.Need-returns-5
 returns-5 c = reply-high _ _ _ _ (c .before .before .before .before .if1 .left) (c .before .before .before .if2 .left) (c .before .before .if3 .left) (c .if5 .taken)
 
--- src/lib.rt:122:5
 error-to-requires-3 : tie.Need-error-to-requires-3
 error-to-requires-3 c κs = search needs
 
--- src/lib.rt:104:1
 returns-6 : tie.Need-returns-6
 returns-6 c = c .error-to3 .ensures ∙ reply-kind _ _ _ _ (c .before .before .if4 .left) (c .before .if5 .left)
 

@@ -4,42 +4,28 @@ use Rattle.verdict.proofs.Laws.{update-small, rows-taken, refused-taken
 use borrow.Author.Needs.{needs}
 use Rattle.verdict.proofs.take_update.Statement.{statement}
 use Rattle.verdict.proofs.take_update.Tie as tie
-use Rattle.verdict.proofs.take_update.Reads as reads
-use Rattle.verdict.proofs.take_update.Lts as lts
-use Rattle.verdict.proofs.refuse.Reads as refuse-reads
-use Rattle.verdict.proofs.step_for.Reads as step-for-reads
-use Rattle.walk.proofs.number_of.Reads as number-of-reads
-use Rattle.walk.proofs.walk.Reads as walk-reads
 
--- src/lib.rt:184:9
 walk-requires : tie.Need-walk-requires
 walk-requires c κs = search needs
 
--- src/lib.rt:185:22
 enum-known-walked : tie.Need-enum-known-walked
 enum-known-walked c = search needs
 
--- src/lib.rt:186:45
 number-of-requires : tie.Need-number-of-requires
 number-of-requires c κs = search needs
 
--- src/lib.rt:186:9
 refuse-requires : tie.Need-refuse-requires
 refuse-requires c κs = search needs
 
--- src/lib.rt:186:9
 returns : tie.Need-returns
 returns c = c .refuse .ensures ∙ rw (c .before .number-of .ensures, c .before .before .before .walk .ensures) (refused-taken _ _ _ _ 0 _ (rw (c .before .before .before .walk .ensures) at (c .before .before .match .keys2)))
 
--- src/lib.rt:188:9
 step-for-requires : tie.Need-step-for-requires
 step-for-requires c κs = search needs
 
--- src/lib.rt:195:33
 cast-t14 : tie.Need-cast-t14
 cast-t14 c = omega (arith, update-small _ _ _ _ (c .before .before .before .before .before .before .before .fits .room .fits) (sym (c .before .before .before .before .before .walk .ensures) ∙ c .before .before .before .walked .given .1))
 
--- src/lib.rt:174:1
 returns-2 : tie.Need-returns-2
 returns-2 c = rw (← c .before .step-for .ensures) (rows-taken _ _ _ _ _ _ (sym (c .before .before .before .before .before .walk .ensures) ∙ c .before .before .before .walked .given .1))
 

@@ -51,13 +51,10 @@ use Rattle.walk.proofs.Skip as S
 use Rattle.walk.proofs.Skip.Laws as S′
 use Rattle.walk.proofs.read_group as read-group
 use Rattle.walk.proofs.read_group.Symbol as read-group-def
-use Rattle.walk.proofs.read_group.Symbol.{name as #walk·read-group}
 use Rattle.walk.proofs.read_group.Met as read-group-thm
 use Rattle.walk.proofs.nets_of as nets-of
 use Rattle.walk.proofs.nets_of.Symbol as nets-of-def
-use Rattle.walk.proofs.nets_of.Symbol.{name as #walk·nets-of}
 use Rattle.walk.proofs.nets_of.Met as nets-of-thm
-use Rattle.walk.proofs.group_nets.Key.{name as #walk·group-nets}
 use Rattle.walk.proofs.group_nets as group-nets
 use Rattle.walk.proofs.group_nets.Statement as stated
 use Rattle.walk.proofs.group_nets.Code as code

@@ -38,7 +38,6 @@ use Rattle.walk.proofs.Nets as T
 use Rattle.walk.proofs.Nets.Laws as T′
 use Rattle.walk.proofs.Skip as S
 use Rattle.walk.proofs.Skip.Laws as S′
-use Rattle.walk.proofs.reach.Key.{name as #walk·reach}
 use Rattle.walk.proofs.reach as reach
 use Rattle.walk.proofs.reach.Statement as stated
 use Rattle.walk.proofs.reach.Code as code

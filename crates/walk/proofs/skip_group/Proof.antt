@@ -48,13 +48,10 @@ use Rattle.walk.proofs.Skip as S
 use Rattle.walk.proofs.Skip.Laws as S′
 use Rattle.walk.proofs.group_nets as group-nets
 use Rattle.walk.proofs.group_nets.Symbol as group-nets-def
-use Rattle.walk.proofs.group_nets.Symbol.{name as #walk·group-nets}
 use Rattle.walk.proofs.group_nets.Met as group-nets-thm
 use Rattle.walk.proofs.reach as reach
 use Rattle.walk.proofs.reach.Symbol as reach-def
-use Rattle.walk.proofs.reach.Symbol.{name as #walk·reach}
 use Rattle.walk.proofs.reach.Met as reach-thm
-use Rattle.walk.proofs.skip_group.Key.{name as #walk·skip-group}
 use Rattle.walk.proofs.skip_group as skip-group
 use Rattle.walk.proofs.skip_group.Statement as stated
 use Rattle.walk.proofs.skip_group.Code as code

@@ -4,40 +4,28 @@ use borrow.Author.Tests.{eq-eqb, ne-eqb}
 use borrow.Author.Needs.{needs}
 use Rattle.wellformed.proofs.are_intervals_formed.Statement.{statement}
 use Rattle.wellformed.proofs.are_intervals_formed.Tie as tie
-use Rattle.wellformed.proofs.are_intervals_formed.Reads as reads
-use Rattle.wellformed.proofs.are_intervals_formed.Lts as lts
-use Rattle.neighbour.proofs.is_acquired.Reads as is-acquired-reads
-use Rattle.wellformed.proofs.is_agreed.Reads as is-agreed-reads
-use Rattle.wellformed.proofs.is_unset.Reads as is-unset-reads
 
--- src/lib.rt:744:8
 is-acquired-requires : tie.Need-is-acquired-requires
 is-acquired-requires c κs = search needs
 
--- src/lib.rt:745:9
 is-agreed-requires : tie.Need-is-agreed-requires
 is-agreed-requires c κs = search needs
 
--- src/lib.rt:745:9
 returns : tie.Need-returns
 unfolding intervalsFormed
 returns c = simp (sym (c .before .before .is-acquired .ensures) ∙ c .before .if1 .taken) (c .is-agreed .ensures)
 
--- src/lib.rt:748:9
 returns-2 : tie.Need-returns-2
 unfolding intervalsFormed
 returns-2 c = simp (sym (c .before .before .before .is-acquired .ensures) ∙ c .before .before .if1 .left, ne-eqb _ _ (c .if2 .taken))
 
--- src/lib.rt:751:9
 returns-3 : tie.Need-returns-3
 unfolding intervalsFormed
 returns-3 c = simp (sym (c .before .before .before .before .before .is-acquired .ensures) ∙ c .before .before .before .before .if1 .left, eq-eqb _ _ (c .before .before .if2 .left), ne-eqb _ _ (c .if3 .taken))
 
--- src/lib.rt:754:5
 is-unset-requires : tie.Need-is-unset-requires
 is-unset-requires c κs = search needs
 
--- src/lib.rt:740:1
 returns-4 : tie.Need-returns-4
 unfolding intervalsFormed
 returns-4 c = simp (sym (c .before .before .before .before .before .before .is-acquired .ensures) ∙ c .before .before .before .before .before .if1 .left, eq-eqb _ _ (c .before .before .before .if2 .left), eq-eqb _ _ (c .before .if3 .left)) (c .is-unset .ensures)

@@ -3,20 +3,15 @@ use borrow.Author.Tests.{le-leb, lt-leb}
 use Rattle.wellformed.proofs.Laws.{below-last}
 use Rattle.wellformed.proofs.are_timers_below.Statement.{statement}
 use Rattle.wellformed.proofs.are_timers_below.Tie as tie
-use Rattle.wellformed.proofs.are_timers_below.Reads as reads
-use Rattle.wellformed.proofs.are_timers_below.Lts as lts
 
--- src/lib.rt:668:9
 returns : tie.Need-returns
 unfolding timersBelow
 returns c = simp (lt-leb _ _ (c .if1 .taken))
 
--- src/lib.rt:671:9
 returns-2 : tie.Need-returns-2
 unfolding timersBelow
 returns-2 c = simp (le-leb _ _ (c .before .before .if1 .left), lt-leb _ _ (c .if2 .taken))
 
--- src/lib.rt:664:1
 returns-3 : tie.Need-returns-3
 returns-3 c = below-last _ (c .before .before .before .if1 .left) (c .before .if2 .left)
 

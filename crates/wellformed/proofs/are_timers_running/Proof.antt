@@ -4,25 +4,18 @@ use borrow.Author.Tests.{le-leb, lt-leb}
 use borrow.Author.Needs.{needs}
 use Rattle.wellformed.proofs.are_timers_running.Statement.{statement}
 use Rattle.wellformed.proofs.are_timers_running.Tie as tie
-use Rattle.wellformed.proofs.are_timers_running.Reads as reads
-use Rattle.wellformed.proofs.are_timers_running.Lts as lts
-use Rattle.neighbour.proofs.is_idle.Reads as is-idle-reads
 
--- src/lib.rt:680:8
 is-idle-requires : tie.Need-is-idle-requires
 is-idle-requires c κs = search needs
 
--- src/lib.rt:681:9
 returns : tie.Need-returns
 unfolding timersRun
 returns c = simp (sym (c .before .is-idle .ensures) ∙ c .if1 .taken)
 
--- src/lib.rt:684:9
 returns-2 : tie.Need-returns-2
 unfolding timersRun
 returns-2 c = simp (sym (c .before .before .before .is-idle .ensures) ∙ c .before .before .if1 .left, lt-leb _ _ (c .if2 .taken))
 
--- src/lib.rt:676:1
 returns-3 : tie.Need-returns-3
 unfolding timersRun
 returns-3 c = simp (sym (c .before .before .before .before .is-idle .ensures) ∙ c .before .before .before .if1 .left, le-leb _ _ (c .before .if2 .left))

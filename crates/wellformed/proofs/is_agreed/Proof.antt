@@ -6,35 +6,26 @@ use Rattle.wellformed.proofs.Laws.{agreed-last}
 use borrow.Author.Needs.{needs}
 use Rattle.wellformed.proofs.is_agreed.Statement.{statement}
 use Rattle.wellformed.proofs.is_agreed.Tie as tie
-use Rattle.wellformed.proofs.is_agreed.Reads as reads
-use Rattle.wellformed.proofs.is_agreed.Lts as lts
-use Rattle.wellformed.proofs.is_unset.Reads as is-unset-reads
 
--- src/lib.rt:725:9
 returns : tie.Need-returns
 unfolding agreed
 returns c = simp (lt-leb _ _ (c .if1 .taken))
 
--- src/lib.rt:728:9
 returns-2 : tie.Need-returns-2
 unfolding agreed
 returns-2 c = simp (le-leb _ _ (c .before .before .if1 .left), lt-leb _ _ (c .if2 .taken))
 
--- src/lib.rt:731:9
 returns-3 : tie.Need-returns-3
 unfolding agreed
 returns-3 c = simp (le-leb _ _ (c .before .before .before .before .if1 .left), le-leb _ _ (c .before .before .if2 .left), lt-leb _ _ (c .if3 .taken))
 
--- src/lib.rt:734:9
 returns-4 : tie.Need-returns-4
 unfolding agreed
 returns-4 c = simp (le-leb _ _ (c .before .before .before .before .before .before .if1 .left), le-leb _ _ (c .before .before .before .before .if2 .left), le-leb _ _ (c .before .before .if3 .left), lt-leb _ _ (c .if4 .taken))
 
--- src/lib.rt:737:6
 is-unset-requires : tie.Need-is-unset-requires
 is-unset-requires c κs = search needs
 
--- src/lib.rt:721:1
 returns-5 : tie.Need-returns-5
 returns-5 c = ap not (c .is-unset .ensures) ∙ agreed-last _ (c .before .before .before .before .before .before .before .if1 .left) (c .before .before .before .before .before .if2 .left) (c .before .before .before .if3 .left) (c .before .if4 .left)
 

@@ -3,55 +3,41 @@ use Rattle.wellformed.specs.Formed.{causeFormed}
 use borrow.Author.Needs.{needs}
 use Rattle.wellformed.proofs.is_cause_formed.Statement.{statement}
 use Rattle.wellformed.proofs.is_cause_formed.Tie as tie
-use Rattle.wellformed.proofs.is_cause_formed.Reads as reads
-use Rattle.wellformed.proofs.is_cause_formed.Lts as lts
-use Rattle.wellformed.proofs.is_cause.Reads as is-cause-reads
 
--- src/lib.rt:762:24
 enum-told : tie.Need-enum-told
 enum-told c = search needs
 
--- src/lib.rt:763:31
 enum-told-2 : tie.Need-enum-told-2
 enum-told-2 c = search needs
 
--- src/lib.rt:764:24
 enum-told-3 : tie.Need-enum-told-3
 enum-told-3 c = search needs
 
--- src/lib.rt:765:22
 enum-told-4 : tie.Need-enum-told-4
 enum-told-4 c = search needs
 
--- src/lib.rt:766:25
 enum-told-5 : tie.Need-enum-told-5
 enum-told-5 c = search needs
 
--- src/lib.rt:766:25
 is-cause-requires : tie.Need-is-cause-requires
 is-cause-requires c κs = search needs
 
--- src/lib.rt:757:1
 returns : tie.Need-returns
 unfolding causeFormed under
 returns c = rw (c .before .enum-told .given .1)
 
--- src/lib.rt:757:1
 returns-2 : tie.Need-returns-2
 unfolding causeFormed under
 returns-2 c = rw (c .before .enum-told2 .given .1)
 
--- src/lib.rt:757:1
 returns-3 : tie.Need-returns-3
 unfolding causeFormed under
 returns-3 c = rw (c .before .enum-told3 .given .1)
 
--- src/lib.rt:757:1
 returns-4 : tie.Need-returns-4
 unfolding causeFormed under
 returns-4 c = rw (c .before .enum-told4 .given .1)
 
--- src/lib.rt:757:1
 returns-5 : tie.Need-returns-5
 unfolding causeFormed under
 returns-5 c = rw (c .before .enum-told5 .given .1) (c .is-cause .ensures)

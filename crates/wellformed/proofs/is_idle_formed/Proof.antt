@@ -4,25 +4,17 @@ use borrow.Author.Tests.{not-true, not-false}
 use borrow.Author.Needs.{needs}
 use Rattle.wellformed.proofs.is_idle_formed.Statement.{statement}
 use Rattle.wellformed.proofs.is_idle_formed.Tie as tie
-use Rattle.wellformed.proofs.is_idle_formed.Reads as reads
-use Rattle.wellformed.proofs.is_idle_formed.Lts as lts
-use Rattle.neighbour.proofs.is_idle.Reads as is-idle-reads
-use Rattle.wellformed.proofs.is_zero.Reads as is-zero-reads
 
--- src/lib.rt:658:9
 is-idle-requires : tie.Need-is-idle-requires
 is-idle-requires c κs = search needs
 
--- src/lib.rt:659:9
 returns : tie.Need-returns
 unfolding idleFormed
 returns c = simp (sym (c .before .is-idle .ensures) ∙ not-true _ (c .if1 .taken))
 
--- src/lib.rt:661:5
 is-zero-requires : tie.Need-is-zero-requires
 is-zero-requires c κs = search needs
 
--- src/lib.rt:654:1
 returns-2 : tie.Need-returns-2
 unfolding idleFormed
 returns-2 c = simp (sym (c .before .before .is-idle .ensures) ∙ not-false _ (c .before .if1 .left)) (c .is-zero .ensures)

@@ -5,35 +5,26 @@ use Rattle.wellformed.proofs.Laws.{register-last}
 use borrow.Author.Needs.{needs}
 use Rattle.wellformed.proofs.is_register_formed.Statement.{statement}
 use Rattle.wellformed.proofs.is_register_formed.Tie as tie
-use Rattle.wellformed.proofs.is_register_formed.Reads as reads
-use Rattle.wellformed.proofs.is_register_formed.Lts as lts
-use Rattle.neighbour.proofs.is_acquired.Reads as is-acquired-reads
 
--- src/lib.rt:706:9
 returns : tie.Need-returns
 unfolding registerFormed
 returns c = simp (lt-leb _ _ (c .if1 .taken))
 
--- src/lib.rt:709:9
 returns-2 : tie.Need-returns-2
 unfolding registerFormed
 returns-2 c = simp (le-leb _ _ (c .before .before .if1 .left), lt-leb _ _ (c .if2 .taken))
 
--- src/lib.rt:712:8
 is-acquired-requires : tie.Need-is-acquired-requires
 is-acquired-requires c κs = search needs
 
--- src/lib.rt:713:9
 returns-3 : tie.Need-returns-3
 unfolding registerFormed
 returns-3 c = simp (le-leb _ _ (c .before .before .before .before .if1 .left), le-leb _ _ (c .before .before .if2 .left), sym (c .before .is-acquired .ensures) ∙ c .if3 .taken)
 
--- src/lib.rt:716:9
 returns-4 : tie.Need-returns-4
 unfolding registerFormed
 returns-4 c = simp (le-leb _ _ (c .before .before .before .before .before .before .if1 .left), le-leb _ _ (c .before .before .before .before .if2 .left), sym (c .before .before .before .is-acquired .ensures) ∙ c .before .before .if3 .left, ne-eqb _ _ (c .if4 .taken))
 
--- src/lib.rt:702:1
 returns-5 : tie.Need-returns-5
 returns-5 c = register-last (c .before .before .before .before .before .before .before .before .before .args .n) (c .before .before .before .before .before .before .before .if1 .left) (c .before .before .before .before .before .if2 .left) (sym (c .before .before .before .before .is-acquired .ensures) ∙ c .before .before .before .if3 .left) (c .before .if4 .left)
 

@@ -3,50 +3,38 @@ use Rattle.wellformed.specs.Formed.{t2Formed}
 use borrow.Author.Needs.{needs}
 use Rattle.wellformed.proofs.is_t2_formed.Statement.{statement}
 use Rattle.wellformed.proofs.is_t2_formed.Tie as tie
-use Rattle.wellformed.proofs.is_t2_formed.Reads as reads
-use Rattle.wellformed.proofs.is_t2_formed.Lts as lts
 
--- src/lib.rt:694:24
 enum-told : tie.Need-enum-told
 enum-told c = search needs
 
--- src/lib.rt:695:31
 enum-told-2 : tie.Need-enum-told-2
 enum-told-2 c = search needs
 
--- src/lib.rt:696:24
 enum-told-3 : tie.Need-enum-told-3
 enum-told-3 c = search needs
 
--- src/lib.rt:697:22
 enum-told-4 : tie.Need-enum-told-4
 enum-told-4 c = search needs
 
--- src/lib.rt:698:25
 enum-told-5 : tie.Need-enum-told-5
 enum-told-5 c = search needs
 
--- src/lib.rt:689:1
 returns : tie.Need-returns
 unfolding t2Formed under
 returns c = rw (c .before .enum-told .given .1)
 
--- src/lib.rt:689:1
 returns-2 : tie.Need-returns-2
 unfolding t2Formed under
 returns-2 c = rw (c .before .enum-told2 .given .1)
 
--- src/lib.rt:689:1
 returns-3 : tie.Need-returns-3
 unfolding t2Formed under
 returns-3 c = rw (c .before .enum-told3 .given .1)
 
--- src/lib.rt:689:1
 returns-4 : tie.Need-returns-4
 unfolding t2Formed under
 returns-4 c = rw (c .before .enum-told4 .given .1)
 
--- src/lib.rt:689:1
 returns-5 : tie.Need-returns-5
 unfolding t2Formed under
 returns-5 c = rw (c .before .enum-told5 .given .1)

@@ -4,75 +4,52 @@ use borrow.Author.Tests.{not-true, not-false}
 use borrow.Author.Needs.{needs}
 use Rattle.wellformed.proofs.well_formed.Statement.{statement}
 use Rattle.wellformed.proofs.well_formed.Tie as tie
-use Rattle.wellformed.proofs.well_formed.Reads as reads
-use Rattle.wellformed.proofs.well_formed.Lts as lts
-use Rattle.wellformed.proofs.are_intervals_formed.Reads as are-intervals-formed-reads
-use Rattle.wellformed.proofs.are_timers_below.Reads as are-timers-below-reads
-use Rattle.wellformed.proofs.are_timers_running.Reads as are-timers-running-reads
-use Rattle.wellformed.proofs.is_cause_formed.Reads as is-cause-formed-reads
-use Rattle.wellformed.proofs.is_idle_formed.Reads as is-idle-formed-reads
-use Rattle.wellformed.proofs.is_register_formed.Reads as is-register-formed-reads
-use Rattle.wellformed.proofs.is_t2_formed.Reads as is-t2-formed-reads
 
--- src/lib.rt:784:9
 is-idle-formed-requires : tie.Need-is-idle-formed-requires
 is-idle-formed-requires c κs = search needs
 
--- src/lib.rt:785:9
 returns : tie.Need-returns
 unfolding wellFormed
 returns c = simp (sym (c .before .is-idle-formed .ensures) ∙ not-true _ (c .if1 .taken))
 
--- src/lib.rt:787:9
 are-timers-below-requires : tie.Need-are-timers-below-requires
 are-timers-below-requires c κs = search needs
 
--- src/lib.rt:788:9
 returns-2 : tie.Need-returns-2
 unfolding wellFormed
 returns-2 c = simp (sym (c .before .before .before .is-idle-formed .ensures) ∙ not-false _ (c .before .before .if1 .left), sym (c .before .are-timers-below .ensures) ∙ not-true _ (c .if2 .taken))
 
--- src/lib.rt:790:9
 are-timers-running-requires : tie.Need-are-timers-running-requires
 are-timers-running-requires c κs = search needs
 
--- src/lib.rt:791:9
 returns-3 : tie.Need-returns-3
 unfolding wellFormed
 returns-3 c = simp (sym (c .before .before .before .before .before .is-idle-formed .ensures) ∙ not-false _ (c .before .before .before .before .if1 .left), sym (c .before .before .before .are-timers-below .ensures) ∙ not-false _ (c .before .before .if2 .left), sym (c .before .are-timers-running .ensures) ∙ not-true _ (c .if3 .taken))
 
--- src/lib.rt:793:9
 is-t2-formed-requires : tie.Need-is-t2-formed-requires
 is-t2-formed-requires c κs = search needs
 
--- src/lib.rt:794:9
 returns-4 : tie.Need-returns-4
 unfolding wellFormed
 returns-4 c = simp (sym (c .before .before .before .before .before .before .before .is-idle-formed .ensures) ∙ not-false _ (c .before .before .before .before .before .before .if1 .left), sym (c .before .before .before .before .before .are-timers-below .ensures) ∙ not-false _ (c .before .before .before .before .if2 .left), sym (c .before .before .before .are-timers-running .ensures) ∙ not-false _ (c .before .before .if3 .left), sym (c .before .is-t2-formed .ensures) ∙ not-true _ (c .if4 .taken))
 
--- src/lib.rt:796:9
 is-register-formed-requires : tie.Need-is-register-formed-requires
 is-register-formed-requires c κs = search needs
 
--- src/lib.rt:797:9
 returns-5 : tie.Need-returns-5
 unfolding wellFormed
 returns-5 c = simp (sym (c .before .before .before .before .before .before .before .before .before .is-idle-formed .ensures) ∙ not-false _ (c .before .before .before .before .before .before .before .before .if1 .left), sym (c .before .before .before .before .before .before .before .are-timers-below .ensures) ∙ not-false _ (c .before .before .before .before .before .before .if2 .left), sym (c .before .before .before .before .before .are-timers-running .ensures) ∙ not-false _ (c .before .before .before .before .if3 .left), sym (c .before .before .before .is-t2-formed .ensures) ∙ not-false _ (c .before .before .if4 .left), sym (c .before .is-register-formed .ensures) ∙ not-true _ (c .if5 .taken))
 
--- src/lib.rt:799:9
 are-intervals-formed-requires : tie.Need-are-intervals-formed-requires
 are-intervals-formed-requires c κs = search needs
 
--- src/lib.rt:800:9
 returns-6 : tie.Need-returns-6
 unfolding wellFormed
 returns-6 c = simp (sym (c .before .before .before .before .before .before .before .before .before .before .before .is-idle-formed .ensures) ∙ not-false _ (c .before .before .before .before .before .before .before .before .before .before .if1 .left), sym (c .before .before .before .before .before .before .before .before .before .are-timers-below .ensures) ∙ not-false _ (c .before .before .before .before .before .before .before .before .if2 .left), sym (c .before .before .before .before .before .before .before .are-timers-running .ensures) ∙ not-false _ (c .before .before .before .before .before .before .if3 .left), sym (c .before .before .before .before .before .is-t2-formed .ensures) ∙ not-false _ (c .before .before .before .before .if4 .left), sym (c .before .before .before .is-register-formed .ensures) ∙ not-false _ (c .before .before .if5 .left), sym (c .before .are-intervals-formed .ensures) ∙ not-true _ (c .if6 .taken))
 
--- src/lib.rt:802:5
 is-cause-formed-requires : tie.Need-is-cause-formed-requires
 is-cause-formed-requires c κs = search needs
 
--- src/lib.rt:781:1
 returns-7 : tie.Need-returns-7
 unfolding wellFormed
 returns-7 c = simp (sym (c .before .before .before .before .before .before .before .before .before .before .before .before .is-idle-formed .ensures) ∙ not-false _ (c .before .before .before .before .before .before .before .before .before .before .before .if1 .left), sym (c .before .before .before .before .before .before .before .before .before .before .are-timers-below .ensures) ∙ not-false _ (c .before .before .before .before .before .before .before .before .before .if2 .left), sym (c .before .before .before .before .before .before .before .before .are-timers-running .ensures) ∙ not-false _ (c .before .before .before .before .before .before .before .if3 .left), sym (c .before .before .before .before .before .before .is-t2-formed .ensures) ∙ not-false _ (c .before .before .before .before .before .if4 .left), sym (c .before .before .before .before .is-register-formed .ensures) ∙ not-false _ (c .before .before .before .if5 .left), sym (c .before .before .are-intervals-formed .ensures) ∙ not-false _ (c .before .if6 .left)) (c .is-cause-formed .ensures)

@@ -3,66 +3,46 @@ use Rattle.wire.specs.Reading.{decodeAs, decodeOf}
 use borrow.Author.Needs.{needs}
 use Rattle.wire.proofs.decode.Statement.{statement}
 use Rattle.wire.proofs.decode.Tie as tie
-use Rattle.wire.proofs.decode.Reads as reads
-use Rattle.wire.proofs.decode.Lts as lts
-use Rattle.message.proofs.kind_at.Reads as kind-at-reads
-use Rattle.message.proofs.length_allowed.Reads as length-allowed-reads
-use Rattle.message.proofs.status_allowed.Reads as status-allowed-reads
-use Rattle.octets.proofs.octet.Reads as octet-reads
-use Rattle.wire.proofs.meaning.Reads as meaning-reads
 
--- src/lib.rt:59:34
 octet-requires : tie.Need-octet-requires
 octet-requires c κs = search needs
 
--- src/lib.rt:59:61
 octet-requires-2 : tie.Need-octet-requires-2
 octet-requires-2 c κs = search needs
 
--- src/lib.rt:59:9
 kind-at-requires : tie.Need-kind-at-requires
 kind-at-requires c κs = search needs
 
--- src/lib.rt:60:19
 enum-known-known : tie.Need-enum-known-known
 enum-known-known c = search needs
 
--- src/lib.rt:61:9
 enum-told : tie.Need-enum-told
 enum-told c = search needs
 
--- src/lib.rt:61:9
 returns : tie.Need-returns
 unfolding decodeOf decodeAs
 returns c = rw (← c .before .before .before .before .octet .ensures, ← c .before .before .before .octet2 .ensures, ← c .before .before .kind-at .ensures, c .enum-told .given .1)
 
--- src/lib.rt:63:39
 octet-requires-3 : tie.Need-octet-requires-3
 octet-requires-3 c κs = search needs
 
--- src/lib.rt:63:9
 status-allowed-requires : tie.Need-status-allowed-requires
 status-allowed-requires c κs = search needs
 
--- src/lib.rt:64:9
 returns-2 : tie.Need-returns-2
 unfolding decodeOf decodeAs
 returns-2 c = rw (← c .before .before .before .before .before .before .before .before .octet .ensures, ← c .before .before .before .before .before .before .before .octet2 .ensures, ← c .before .before .before .before .before .before .kind-at .ensures, c .before .before .before .before .known .given .1, ← c .before .before .octet3 .ensures, ← c .before .status-allowed .ensures, not-true (c .before .status-allowed .result) (c .if1 .taken))
 
--- src/lib.rt:66:9
 length-allowed-requires : tie.Need-length-allowed-requires
 length-allowed-requires c κs = search needs
 
--- src/lib.rt:67:9
 returns-3 : tie.Need-returns-3
 unfolding decodeOf decodeAs
 returns-3 c = rw (← c .before .before .before .before .before .before .before .before .before .before .octet .ensures, ← c .before .before .before .before .before .before .before .before .before .octet2 .ensures, ← c .before .before .before .before .before .before .before .before .kind-at .ensures, c .before .before .before .before .before .before .known .given .1, ← c .before .before .before .before .octet3 .ensures, ← c .before .before .before .status-allowed .ensures, not-false (c .before .before .before .status-allowed .result) (c .before .before .if1 .left), ← c .before .length-allowed .ensures, not-true (c .before .length-allowed .result) (c .if2 .taken))
 
--- src/lib.rt:69:19
 meaning-requires : tie.Need-meaning-requires
 meaning-requires c κs = search needs
 
--- src/lib.rt:56:1
 returns-4 : tie.Need-returns-4
 unfolding decodeOf decodeAs
 returns-4 c = rw (← c .before .before .before .before .before .before .before .before .before .before .before .octet .ensures, ← c .before .before .before .before .before .before .before .before .before .before .octet2 .ensures, ← c .before .before .before .before .before .before .before .before .before .kind-at .ensures, c .before .before .before .before .before .before .before .known .given .1, ← c .before .before .before .before .before .octet3 .ensures, ← c .before .before .before .before .status-allowed .ensures, not-false (c .before .before .before .before .status-allowed .result) (c .before .before .before .if1 .left), ← c .before .before .length-allowed .ensures, not-false (c .before .before .length-allowed .result) (c .before .if2 .left), c .meaning .ensures)

@@ -2,41 +2,28 @@ use Rattle.wire.proofs.Laws.{header-short, header-long, header-version,
 use borrow.Author.Needs.{needs}
 use Rattle.wire.proofs.read_header.Statement.{statement}
 use Rattle.wire.proofs.read_header.Tie as tie
-use Rattle.wire.proofs.read_header.Reads as reads
-use Rattle.wire.proofs.read_header.Lts as lts
-use Rattle.octets.proofs.checksum.Reads as checksum-reads
-use Rattle.octets.proofs.octet.Reads as octet-reads
-use Rattle.octets.proofs.word16_at.Reads as word16-at-reads
 
--- src/lib.rt:41:9
 returns : tie.Need-returns
 returns c = header-short _ (c .if1 .taken)
 
--- src/lib.rt:44:9
 returns-2 : tie.Need-returns-2
 returns-2 c = header-long _ (c .if2 .taken)
 
--- src/lib.rt:46:8
 octet-requires : tie.Need-octet-requires
 octet-requires c κs = search needs
 
--- src/lib.rt:47:9
 returns-3 : tie.Need-returns-3
 returns-3 c = header-version _ (c .before .before .before .if1 .left) (c .before .before .if2 .left) _ (c .before .octet .ensures) (c .if3 .taken)
 
--- src/lib.rt:49:8
 word16-at-requires : tie.Need-word16-at-requires
 word16-at-requires c κs = search needs
 
--- src/lib.rt:49:41
 checksum-requires : tie.Need-checksum-requires
 checksum-requires c κs = search needs
 
--- src/lib.rt:50:9
 returns-4 : tie.Need-returns-4
 returns-4 c = header-checksum _ (c .before .before .before .before .before .before .if1 .left) (c .before .before .before .before .before .if2 .left) _ (c .before .before .before .before .octet .ensures) (c .before .before .before .if3 .left) _ _ (c .before .before .word16-at .ensures) (c .before .checksum .ensures) (c .if4 .taken)
 
--- src/lib.rt:37:1
 returns-5 : tie.Need-returns-5
 returns-5 c = header-good _ (c .before .before .before .before .before .before .if1 .left) (c .before .before .before .before .before .if2 .left) _ (c .before .before .before .before .octet .ensures) (c .before .before .before .if3 .left) _ _ (c .before .before .word16-at .ensures) (c .before .checksum .ensures) (c .if4 .left)
 

@@ -12,15 +12,15 @@ use denote.Enum.Declared.{tagOf}
 use Rattle.checks.proofs.Laws.{and-right, check-holds, check-fails}
 use Rattle.checks.specs.Checks.{check, ifOk}
 use Rattle.octets.specs.Buffer.{over}
-use Rattle.octets.proofs.Laws.{over-nothing}
+use Rattle.octets.proofs.Buffer.{over-nothing}
 use Rattle.nets.specs.Rows.{rowsOf}
 use Rattle.message.specs.Kinds.{kindOf, statusOf, statusAllowed}
 use Rattle.message.specs.declared.Message.{Message}
 use Rattle.message.specs.declared.Message.the-variants.{Request, Confirm, Refuse, Cease, CeaseAck, Hello, IHeardYou, Poll, Update, Error}
 use Rattle.message.proofs.Message.{the-type}
-use Rattle.writing.specs.Octets.{octetsOf}
-use Rattle.writing.specs.Room.{rowsFit}
-use Rattle.writing.proofs.Laws.{room-most, octets-fit}
+use Rattle.codec_writing.specs.Octets.{octetsOf}
+use Rattle.codec_writing.specs.Room.{rowsFit}
+use Rattle.codec_writing.proofs.Laws.{room-most, octets-fit}
 use Rattle.codec.specs.Writing.{rowsAllowed, writable, writeAnswer, writeOctets, writeOf}
 
 -- ---- kinds other than an Update

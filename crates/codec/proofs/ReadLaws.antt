@@ -12,17 +12,17 @@ use denote.Enum.Declared.{tagOf}
 use Rattle.nets.specs.Rows.{flat}
 use Rattle.message.specs.declared.Message.{Message}
 use Rattle.message.specs.declared.Message.the-variants.{Request, Confirm, Refuse, Cease, CeaseAck, Hello, IHeardYou, Poll, Update, Error}
-use Rattle.wire.specs.Reading.{headerAnswer, decodeOf}
-use Rattle.wire.specs.Reading as Wire
-use Rattle.wire.specs.declared.Decoded.{Decoded}
-use Rattle.wire.specs.declared.Decoded.the-variants as D
-use Rattle.wire.proofs.Decoded as DecodedType
-use Rattle.walk.specs.Body.{Walk, whole, broken, blocksOf, judged, UpdateRead, accepted, brokenAt, tooMany, updateOf, walkedOf, walkedNumber}
-use Rattle.walk.specs.Body as Body
-use Rattle.walk.specs.declared.Walked.{Walked}
-use Rattle.walk.specs.declared.Walked.the-variants.{Rows, Broken, TooMany}
-use Rattle.walk.proofs.Walked as WalkedType
-use Rattle.rows.specs.Storing.{padded, isWhole, rowsIn, Storable}
+use Rattle.message_reading.specs.Reading.{headerAnswer, decodeOf}
+use Rattle.message_reading.specs.Reading as Wire
+use Rattle.message_reading.specs.declared.Decoded.{Decoded}
+use Rattle.message_reading.specs.declared.Decoded.the-variants as D
+use Rattle.message_reading.proofs.Decoded as DecodedType
+use Rattle.update_walk.specs.Body.{Walk, whole, broken, blocksOf, judged, UpdateRead, accepted, brokenAt, tooMany, updateOf, walkedOf, walkedNumber}
+use Rattle.update_walk.specs.Body as Body
+use Rattle.update_walk.specs.declared.Walked.{Walked}
+use Rattle.update_walk.specs.declared.Walked.the-variants.{Rows, Broken, TooMany}
+use Rattle.update_walk.proofs.Walked as WalkedType
+use Rattle.update_rows.specs.Storing.{padded, isWhole, rowsIn, Storable}
 use Rattle.codec.specs.Reading.{mostRead, refusal, rowless, updateReading, meaningReading, kindReading, readOf}
 use Rattle.codec.specs.declared.Meaning.the-variants.{Good}
 use Rattle.codec.specs.declared.Reading.{Reading}

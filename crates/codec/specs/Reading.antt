@@ -7,13 +7,13 @@ use lib.ListN.{length}
 use Rattle.nets.specs.Rows.{flat}
 use Rattle.message.specs.declared.Message.{Message}
 use Rattle.message.specs.declared.Message.the-variants.{Request, Confirm, Refuse, Cease, CeaseAck, Hello, IHeardYou, Poll, Update, Error}
-use Rattle.wire.specs.Reading.{headerAnswer, decodeOf}
-use Rattle.wire.specs.Reading as Wire
-use Rattle.wire.specs.declared.Decoded.{Decoded}
-use Rattle.wire.specs.declared.Decoded.the-variants as D
-use Rattle.walk.specs.Body.{UpdateRead, accepted, brokenAt, tooMany, updateOf}
-use Rattle.walk.specs.Body as Walk
-use Rattle.rows.specs.Storing.{zeros, padded}
+use Rattle.message_reading.specs.Reading.{headerAnswer, decodeOf}
+use Rattle.message_reading.specs.Reading as Wire
+use Rattle.message_reading.specs.declared.Decoded.{Decoded}
+use Rattle.message_reading.specs.declared.Decoded.the-variants as D
+use Rattle.update_walk.specs.Body.{UpdateRead, accepted, brokenAt, tooMany, updateOf}
+use Rattle.update_walk.specs.Body as Walk
+use Rattle.update_rows.specs.Storing.{zeros, padded}
 use Rattle.codec.specs.declared.Meaning.{Meaning}
 use Rattle.codec.specs.declared.Meaning.the-variants.{Good, Refused}
 use Rattle.codec.specs.declared.Reading.{Reading}

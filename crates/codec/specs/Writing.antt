@@ -9,8 +9,8 @@ use Rattle.nets.specs.Rows.{rowsOf}
 use Rattle.message.specs.Kinds.{typeOf, kindOf, statusOf, statusAllowed}
 use Rattle.message.specs.declared.Kind.the-variants as K
 use Rattle.message.specs.declared.Message.{Message}
-use Rattle.writing.specs.Octets.{octetsOf}
-use Rattle.writing.specs.Room.{rowsFit}
+use Rattle.codec_writing.specs.Octets.{octetsOf}
+use Rattle.codec_writing.specs.Room.{rowsFit}
 use Rattle.codec.specs.declared.Written.{Written}
 
 -- rows stand beside an Update alone

@@ -1,10 +1,10 @@
 // The codec of all ten kinds: reading alone, and writing.
 use message::Message;
-use walk::Walked;
-use wire::Decoded;
+use message_reading::Decoded;
+use update_walk::Walked;
 ghost use mathlib.Core.Path.{_≡_};
 ghost use Rattle.octets.specs.Buffer.{over};
-ghost use Rattle.walk.specs.Body.{updateOf};
+ghost use Rattle.update_walk.specs.Body.{updateOf};
 ghost use Rattle.codec.specs.Reading.{mostRead, refusal, updateReading, meaningReading, readOf};
 ghost use Rattle.codec.specs.Writing.{rowsAllowed, writable, writeOf, writeOctets};
 
@@ -38,7 +38,7 @@ fn rows_allowed(message: Message, rows: &[u32]) -> bool
         net,
     } = message {
         if nets::good_net(net) {
-            return blocks::writable(net, rows);
+            return update_writing::writable(net, rows);
         }
         return false;
     }
@@ -72,7 +72,7 @@ pub fn write(buffer: &mut [u8], message: Message, rows: &[u32]) -> Written
             length: 0,
         };
     }
-    let length = writing::write_message(buffer, message, rows);
+    let length = codec_writing::write_message(buffer, message, rows);
     Written {
         answer: 0,
         length: length as u16,
@@ -94,12 +94,12 @@ fn refuse(number: u8) -> Reading
 fn read_update(net: u32, m: Message, message: &[u8]) -> Reading
     ensures { λ r. ⌜ r ≡ updateReading m (updateOf mostRead net (now (message .entry))) ⌝ }
 {
-    let walked = walk::walk(net, message, 128);
+    let walked = update_walk::walk(net, message, 128);
     let Walked::Rows(count) = walked else {
-        return refuse(walk::number_of(walked));
+        return refuse(update_walk::number_of(walked));
     };
     let mut rows = [0u32; 384];
-    rows::store_rows(&mut rows, net, message);
+    update_rows::store_rows(&mut rows, net, message);
     Reading {
         meaning: Meaning::Good(m),
         count: count as u16,
@@ -130,13 +130,13 @@ fn read_rows(net: u32, m: Message, message: &[u8]) -> Reading
 pub fn read(net: u32, message: &[u8]) -> Reading
     ensures { λ r. ⌜ r ≡ readOf net (now (message .entry)) ⌝ }
 {
-    let header = wire::read_header(message);
+    let header = message_reading::read_header(message);
     if header != 0 {
         return refuse(header);
     }
-    let decoded = wire::decode(message);
+    let decoded = message_reading::decode(message);
     let Decoded::Good(m) = decoded else {
-        return refuse(wire::number_of(decoded));
+        return refuse(message_reading::number_of(decoded));
     };
     read_rows(net, m, message)
 }

@@ -10,29 +10,29 @@ use lib.ListN.{length, getD, length-append, length-take}
 use borrow.Author.Tests.{leb-true}
 use Rattle.checks.specs.Lists.{join}
 use Rattle.checks.proofs.Laws.{ifOk-holds}
-use Rattle.octets.proofs.Laws.{over-length}
+use Rattle.octets.proofs.Buffer.{over-length}
 use Rattle.neighbour.specs.Record.{isUp}
 use Rattle.nets.specs.Rows.{Row}
-use Rattle.blocks.proofs.Lists.{rows-take}
+use Rattle.update_writing.proofs.Lists.{rows-take}
 use Rattle.text.specs.Text.{text, line}
 use Rattle.text.proofs.Laws.{decimal-most, octet-length, word-length, dotted-length}
 use Rattle.neighbour.specs.declared.Phase.{Phase}
 use Rattle.neighbour.specs.declared.Phase.the-variants.{Idle, Acquisition, Down, Up, Cease}
 use Rattle.neighbour.specs.declared.Mode.{Mode}
 use Rattle.neighbour.specs.declared.Mode.the-variants.{Unset, Active, Passive}
-use Rattle.state.specs.declared.Slot.{Slot}
-use Rattle.state.specs.declared.State.{State}
-use Rattle.state.specs.Slots.{freeSlot, slotAt}
-use Rattle.state.specs.Places.{partAt, rowCounts, readRows}
-use Rattle.state.specs.Formed.{stateFormed}
-use Rattle.state.specs.Claims.{SlotGood}
-use Rattle.state.specs.Outcomes.{refusedOf}
-use Rattle.state.proofs.Theorems.{formed-slot}
-use Rattle.state.specs.declared.Outcome.{Outcome}
-use Rattle.calls.proofs.Checks.{lent-passed}
-use Rattle.lines.specs.Lines.{stateWord, modeWord, distanceIn, sideWord, headLines, rowLines, rowText, entryText, listingText}
-use Rattle.lines.specs.Listing.{entryOf, entriesFrom, entries, listingChecks, listingOutcome, listingBuffer}
-use Rattle.lines.proofs.Laws.{count-at}
+use Rattle.gateway_state.specs.declared.Slot.{Slot}
+use Rattle.gateway_state.specs.declared.State.{State}
+use Rattle.gateway_state.specs.Slots.{freeSlot, slotAt}
+use Rattle.gateway_state.specs.Places.{partAt, rowCounts, readRows}
+use Rattle.gateway_state.specs.Formed.{stateFormed}
+use Rattle.gateway_state.specs.Claims.{SlotGood}
+use Rattle.gateway_state.specs.Outcomes.{refusedOf}
+use Rattle.gateway_state.proofs.Theorems.{formed-slot}
+use Rattle.gateway_state.specs.declared.Outcome.{Outcome}
+use Rattle.gateway_rules.proofs.Checks.{lent-passed}
+use Rattle.listing_lines.specs.Lines.{stateWord, modeWord, distanceIn, sideWord, headLines, rowLines, rowText, entryText, listingText}
+use Rattle.listing_lines.specs.Listing.{entryOf, entriesFrom, entries, listingChecks, listingOutcome, listingBuffer}
+use Rattle.listing_lines.proofs.Laws.{count-at}
 use Rattle.listing.specs.Claims.{Typed, Short}
 
 line-length : (name value : List ℕ) → length (line name value) ≡ length name + length value + 1

@@ -11,14 +11,14 @@ use Rattle.checks.proofs.Laws.{and-left, check-holds, check-fails, ifOk-new, if
 use Rattle.checks.specs.Checks.{check}
 use Rattle.checks.specs.Lists.{every}
 use Rattle.octets.specs.Buffer.{over}
-use Rattle.state.specs.declared.State.{State}
-use Rattle.state.specs.declared.Outcome.{Outcome}
-use Rattle.state.specs.Formed.{stateFormed}
-use Rattle.state.specs.Outcomes.{refusedOf}
-use Rattle.calls.specs.Calls.{tableFits, lentChecks}
-use Rattle.calls.proofs.Checks.{lent-passed}
-use Rattle.lines.specs.Lines.{listingText}
-use Rattle.lines.specs.Listing.{entries, listable, listingChecks, listingOutcome, listingBuffer}
+use Rattle.gateway_state.specs.declared.State.{State}
+use Rattle.gateway_state.specs.declared.Outcome.{Outcome}
+use Rattle.gateway_state.specs.Formed.{stateFormed}
+use Rattle.gateway_state.specs.Outcomes.{refusedOf}
+use Rattle.gateway_rules.specs.Calls.{tableFits, lentChecks}
+use Rattle.gateway_rules.proofs.Checks.{lent-passed}
+use Rattle.listing_lines.specs.Lines.{listingText}
+use Rattle.listing_lines.specs.Listing.{entries, listable, listingChecks, listingOutcome, listingBuffer}
 use Rattle.listing.specs.Claims.{Typed}
 use Rattle.listing.proofs.Bound.{short}
 

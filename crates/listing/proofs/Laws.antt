@@ -12,19 +12,19 @@ use lib.ListN.{length, take, drop, getD, length-take, drop-of-length-le}
 use lib.Seq.{drop-cons, take-take, sets-eq}
 use Rattle.checks.specs.Lists.{every, join}
 use Rattle.nets.specs.Rows.{rowsOf}
-use Rattle.blocks.proofs.Lists.{rows-turn, rows-short}
+use Rattle.update_writing.proofs.Lists.{rows-turn, rows-short}
 use Rattle.octets.specs.Buffer.{over}
 use Rattle.text.specs.Text.{text, decimal, line}
-use Rattle.storing.specs.Written.{Written}
-use Rattle.storing.proofs.Storing.{Writing, start, room, turn, last}
-use Rattle.state.specs.declared.Slot.{Slot}
-use Rattle.state.specs.declared.State.{State}
-use Rattle.state.specs.Slots.{freeSlot, slotAt}
-use Rattle.state.specs.Places.{rowCounts, place, partAt, readRows}
-use Rattle.lines.specs.Lines.{Entry, headLines, entryText, listingText}
-use Rattle.lines.specs.Listing.{entryOf, entriesFrom, markedRow, listable}
-use Rattle.lines.specs.Steps.{slotEntry, rowsText}
-use Rattle.lines.proofs.Laws.{count-at}
+use Rattle.octets.specs.Written.{Written}
+use Rattle.octets.proofs.Storing.{Writing, start, room, turn, last}
+use Rattle.gateway_state.specs.declared.Slot.{Slot}
+use Rattle.gateway_state.specs.declared.State.{State}
+use Rattle.gateway_state.specs.Slots.{freeSlot, slotAt}
+use Rattle.gateway_state.specs.Places.{rowCounts, place, partAt, readRows}
+use Rattle.listing_lines.specs.Lines.{Entry, headLines, entryText, listingText}
+use Rattle.listing_lines.specs.Listing.{entryOf, entriesFrom, markedRow, listable}
+use Rattle.listing_lines.specs.Steps.{slotEntry, rowsText}
+use Rattle.listing_lines.proofs.Laws.{count-at}
 use Rattle.listing.specs.Steps.{slotText, slotListable}
 
 -- ---- third numbers, row by row

@@ -8,9 +8,9 @@ use mir.Val.{Val}
 use base.Fml.{Fml}
 use denote.Array.{each}
 use denote.Shadow.{shadow}
-use Rattle.state.specs.declared.Slot.{Slot}
-use Rattle.state.specs.declared.State.{State}
-use Rattle.state.specs.Slots.{freeSlot, slotAt}
+use Rattle.gateway_state.specs.declared.Slot.{Slot}
+use Rattle.gateway_state.specs.declared.State.{State}
+use Rattle.gateway_state.specs.Slots.{freeSlot, slotAt}
 use Rattle.listing.specs.Claims.{Typed}
 
 -- what is told of each element of an array holds of the one at any index

@@ -4,11 +4,11 @@ use mathlib.Core.Bool.{true}
 use mathlib.Core.Path.{_≡_}
 use mathlib.Core.List.{List}
 use lib.ListN.{length}
-use Rattle.state.specs.declared.State.{State}
-use Rattle.state.specs.Slots.{slotAt}
-use Rattle.state.specs.Formed.{stateFormed}
-use Rattle.lines.specs.Lines.{listingText}
-use Rattle.lines.specs.Listing.{entries, listingOutcome, listingBuffer}
+use Rattle.gateway_state.specs.declared.State.{State}
+use Rattle.gateway_state.specs.Slots.{slotAt}
+use Rattle.gateway_state.specs.Formed.{stateFormed}
+use Rattle.listing_lines.specs.Lines.{listingText}
+use Rattle.listing_lines.specs.Listing.{entries, listingOutcome, listingBuffer}
 
 -- a state of the code has eight slots, and 16-bit ASs, by its type
 pub record Typed (st : State) : Type 0 where

@@ -4,11 +4,11 @@ use mathlib.Core.Bool.{Bool, true, cond}
 use mathlib.Core.List.{List, [], map}
 use lib.Dec.{eqb}
 use Rattle.checks.specs.Lists.{join}
-use Rattle.state.specs.declared.State.{State}
-use Rattle.state.specs.Slots.{slotAt}
-use Rattle.state.specs.Places.{rowCounts}
-use Rattle.lines.specs.Lines.{entryText}
-use Rattle.lines.specs.Listing.{entryOf, entries, listable}
+use Rattle.gateway_state.specs.declared.State.{State}
+use Rattle.gateway_state.specs.Slots.{slotAt}
+use Rattle.gateway_state.specs.Places.{rowCounts}
+use Rattle.listing_lines.specs.Lines.{entryText}
+use Rattle.listing_lines.specs.Listing.{entryOf, entries, listable}
 
 -- slot i's part of the text: none of a free slot's
 unfoldable pub slotText : State → ℕ → List ℕ → List ℕ

@@ -1,6 +1,6 @@
 // The call that lists the table as text.
-use state::Outcome;
-use state::State;
+use gateway_state::Outcome;
+use gateway_state::State;
 ghost use mathlib.Core.Path.{_≡_};
 ghost use mathlib.Core.Bool.{true};
 ghost use mathlib.Core.List.{List};
@@ -9,10 +9,10 @@ ghost use lib.ListN.{length};
 ghost use Rattle.checks.specs.Lists.{every};
 ghost use Rattle.octets.specs.Buffer.{over};
 ghost use Rattle.nets.specs.Rows.{rowsOf};
-ghost use Rattle.storing.specs.Written.{Written};
-ghost use Rattle.state.specs.Formed.{stateFormed};
-ghost use Rattle.lines.specs.Lines.{listingText};
-ghost use Rattle.lines.specs.Listing.{entries, markedRow, listable, listingChecks, listingOutcome, listingBuffer};
+ghost use Rattle.octets.specs.Written.{Written};
+ghost use Rattle.gateway_state.specs.Formed.{stateFormed};
+ghost use Rattle.listing_lines.specs.Lines.{listingText};
+ghost use Rattle.listing_lines.specs.Listing.{entries, markedRow, listable, listingChecks, listingOutcome, listingBuffer};
 ghost use Rattle.listing.specs.Steps.{slotText, slotListable, slotsText};
 
 // Whether no third number of rows is above 511.
@@ -38,7 +38,7 @@ fn is_slot_listable(st: State, i: usize, table: &[u32]) -> bool
     if slot.address == 0 {
         return true;
     }
-    let start = state::place(i);
+    let start = gateway_state::place(i);
     let end = start + 3 * slot.rows as usize;
     are_rows_marked(&table[start..end])
 }
@@ -48,7 +48,7 @@ fn are_slots_listable(st: State, table: &[u32]) -> bool
     ensures { λ r. ⌜ r ≡ every listable (entries st (now (table .entry))) ⌝ }
 {
     let mut i = 0;
-    while i < state::SLOTS {
+    while i < gateway_state::SLOTS {
         if !is_slot_listable(st, i, table) {
             return false;
         }
@@ -61,7 +61,7 @@ fn are_slots_listable(st: State, table: &[u32]) -> bool
 fn listing_answer(st: State, table: &[u32], octets: usize) -> u8
     ensures { λ r. ⌜ ((buffer : List ℕ) → length buffer ≡ octets → r ≡ listingChecks st (now (table .entry)) buffer) ⌝ }
 {
-    if !state::well_formed(st) {
+    if !gateway_state::well_formed(st) {
         return 1;
     }
     if table.len() != 3072 {
@@ -86,11 +86,11 @@ fn put_slot(out: &mut [u8], at: usize, st: State, i: usize, table: &[u32]) -> us
     if slot.address == 0 {
         return at;
     }
-    let from = state::place(i);
+    let from = gateway_state::place(i);
     let to = from + 3 * slot.rows as usize;
     let rows = &table[from..to];
-    let head = lines::put_head(out, at, i, slot, rows);
-    lines::put_rows(out, head, rows)
+    let head = listing_lines::put_head(out, at, i, slot, rows);
+    listing_lines::put_rows(out, head, rows)
 }
 
 fn put_slots(out: &mut [u8], at: usize, st: State, table: &[u32]) -> usize
@@ -100,7 +100,7 @@ fn put_slots(out: &mut [u8], at: usize, st: State, table: &[u32]) -> usize
 {
     let mut end = at;
     let mut i = 0;
-    while i < state::SLOTS {
+    while i < gateway_state::SLOTS {
         end = put_slot(out, end, st, i, table);
         i += 1;
     }
@@ -113,7 +113,7 @@ fn neighbours(st: State) -> u32
 {
     let mut count = 0;
     let mut i = 0;
-    while i < state::SLOTS {
+    while i < gateway_state::SLOTS {
         let slot = st.slots[i];
         if slot.address != 0 {
             count += 1;
@@ -141,7 +141,7 @@ pub fn listing(st: State, table: &[u32], buffer: &mut [u8]) -> Outcome
 {
     let answer = listing_answer(st, table, buffer.len());
     if answer != 0 {
-        return state::refused(st, answer);
+        return gateway_state::refused(st, answer);
     }
     let length = put_listing(buffer, st, table);
     Outcome {

@@ -10,13 +10,13 @@ use lib.Seq.{length-take-le, drop-drop}
 use borrow.Author.Tests.{eqb-true}
 use Rattle.checks.specs.Lists.{every, join}
 use Rattle.nets.specs.Rows.{Row, rowsOf, flat}
-use Rattle.rows.specs.Storing.{zeros, padded}
-use Rattle.state.specs.declared.Slot as Stored
-use Rattle.state.specs.Slots.{freeSlot, slotAt}
-use Rattle.state.specs.Places.{rowCounts, partAt, readRows}
-use Rattle.state.specs.Formed.{stateFormed}
-use Rattle.state.proofs.Theorems.{formed-slot, free-is-zero}
-use Rattle.lines.proofs.Laws.{count-at}
+use Rattle.update_rows.specs.Storing.{zeros, padded}
+use Rattle.gateway_state.specs.declared.Slot as Stored
+use Rattle.gateway_state.specs.Slots.{freeSlot, slotAt}
+use Rattle.gateway_state.specs.Places.{rowCounts, partAt, readRows}
+use Rattle.gateway_state.specs.Formed.{stateFormed}
+use Rattle.gateway_state.proofs.Theorems.{formed-slot, free-is-zero}
+use Rattle.listing_lines.proofs.Laws.{count-at}
 use Rattle.model.specs.Model.{Call, Slot, free, used, slotIn, modelFrom, saidFrom}
 use Rattle.model.specs.Theorem.{Gateway, gatewayFrom, seenFrom, cell, stateOf, rowsHeld, part, tableOf, shown, rowsAt, carriesOctets, listsNothing, unused, Sensible, Listable, peerFrom, slotFrom, slotsFrom, modelOf, FromAnyState}
 use Rattle.model.proofs.Represent.{sound, Good}

@@ -16,12 +16,12 @@ use Rattle.neighbour.specs.declared.Offer.the-variants.{Acceptable, Unacceptabl
 use Rattle.neighbour.specs.Record.{under, idle, isIdle, leftIdle, withNumbers, withTimers, withReach, waiting, initialised, shifted, leaveUp, polled, isUp}
 use Rattle.neighbour.specs.Rules.{offerOf, commanded, noted, onesOf, goesDown, judged}
 use Rattle.neighbour.proofs.Laws.{at-up}
-use Rattle.sent.specs.declared.Head.{Head}
-use Rattle.machine.specs.declared.Event.the-variants.{Received, Start, Stop, Tick}
-use Rattle.machine.specs.declared.After.{After}
-use Rattle.machine.specs.Table.{quiet, answers, says, helloIf, doesA, ceases, repeatsCease, acquires, onRequest, onCease, onStart, onStop}
-use Rattle.machine.specs.Tick.{expired, listens, polls, takesT2, pollsInUp, runs, onTick}
-use Rattle.machine.specs.Step.{onMessage, stepOf}
+use Rattle.neighbour_messages.specs.declared.Head.{Head}
+use Rattle.neighbour_machine.specs.declared.Event.the-variants.{Received, Start, Stop, Tick}
+use Rattle.neighbour_machine.specs.declared.After.{After}
+use Rattle.neighbour_machine.specs.Table.{quiet, answers, says, helloIf, doesA, ceases, repeatsCease, acquires, onRequest, onCease, onStart, onStop}
+use Rattle.neighbour_machine.specs.Tick.{expired, listens, polls, takesT2, pollsInUp, runs, onTick}
+use Rattle.neighbour_machine.specs.Step.{onMessage, stepOf}
 
 -- the neighbour after it is not Up
 abbrev pub NotUp : After → Type 0

@@ -11,8 +11,8 @@ use Rattle.neighbour.specs.declared.Neighbour.{Neighbour}
 use Rattle.neighbour.specs.Record.{isUp, withNumbers, withTimers, withReach, initialised}
 use Rattle.neighbour.specs.Rules.{onesOf, goesDown}
 use Rattle.checks.specs.Lists.{every}
-use Rattle.state.specs.Formed.{stateFormed}
-use Rattle.writing.specs.Octets.{octetsOf}
+use Rattle.gateway_state.specs.Formed.{stateFormed}
+use Rattle.codec_writing.specs.Octets.{octetsOf}
 use Rattle.message.specs.declared.Message.the-variants.{Update}
 use Rattle.model.specs.Model.{Call, tick, receive, peerWith, newPeer, Slot, free, used, Model, slotIn, step, modelFrom, empty}
 use Rattle.model.specs.History.{isUpSlot, accepts}

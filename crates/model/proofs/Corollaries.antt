@@ -11,26 +11,26 @@ use borrow.Author.Tests.{eq-eqb, ne-eqb, eqb-true, not-true}
 use Rattle.checks.proofs.Laws.{and-left, and-right, and-both}
 use Rattle.checks.specs.Lists.{every, join}
 use Rattle.nets.specs.Rows.{Row, flat}
-use Rattle.rows.specs.Storing.{zeros, padded}
-use Rattle.rows.proofs.Laws.{flat-length}
+use Rattle.update_rows.specs.Storing.{zeros, padded}
+use Rattle.update_rows.proofs.Laws.{flat-length}
 use Rattle.message.specs.declared.Message.{Message}
 use Rattle.message.specs.declared.Message.the-variants as M
-use Rattle.walk.specs.Body.{accepted, updateOf}
+use Rattle.update_walk.specs.Body.{accepted, updateOf}
 use Rattle.neighbour.specs.declared.Phase.the-variants as Phases
 use Rattle.neighbour.specs.declared.Settings.{Settings}
 use Rattle.neighbour.specs.declared.Neighbour.{Neighbour}
 use Rattle.neighbour.specs.Record.{idle, isUp}
-use Rattle.machine.specs.declared.Event.the-variants.{Start, Stop, Tick}
-use Rattle.machine.specs.Intrinsics as I
-use Rattle.machine.specs.Intrinsics.{Intrinsic, asEvent}
-use Rattle.machine.specs.Step.{stepOf}
-use Rattle.state.specs.declared.Slot as Stored
-use Rattle.state.specs.Slots.{freeSlot}
-use Rattle.state.specs.Places.{partAt}
-use Rattle.state.proofs.Theorems.{slot-unique}
-use Rattle.calls.specs.Home.{goodHome}
-use Rattle.claims.proofs.Others.{others-untouched}
-use Rattle.claims.proofs.Calls.{is-up}
+use Rattle.neighbour_machine.specs.declared.Event.the-variants.{Start, Stop, Tick}
+use Rattle.neighbour_machine.specs.Intrinsics as I
+use Rattle.neighbour_machine.specs.Intrinsics.{Intrinsic, asEvent}
+use Rattle.neighbour_machine.specs.Step.{stepOf}
+use Rattle.gateway_state.specs.declared.Slot as Stored
+use Rattle.gateway_state.specs.Slots.{freeSlot}
+use Rattle.gateway_state.specs.Places.{partAt}
+use Rattle.gateway_state.proofs.Theorems.{slot-unique}
+use Rattle.gateway_rules.specs.Home.{goodHome}
+use Rattle.gateway_theorems.proofs.Others.{others-untouched}
+use Rattle.gateway_theorems.proofs.Calls.{is-up}
 use Rattle.model.specs.Model.{Call, add, remove, happen, start, stop, tick, receive, listing, Slot, free, used, Model, slotIn, placeOf, noOctets, messageMove, eventTurn, step, model, modelFrom, Peer}
 use Rattle.model.specs.History.{isUpSlot, accepts, upAfter, told, lastFrom, lastAccepted, isAbout, isElsewhere}
 use Rattle.model.specs.Theorem.{Gateway, outcomeOf, gatewayStep, gatewayFrom, run, cell, stateOf, rowsHeld, part, tableOf, rowsAt, listsNothing, unused, Sensible, peerFrom, modelOf}

@@ -12,36 +12,36 @@ use Rattle.checks.specs.Checks.{check}
 use Rattle.checks.proofs.Laws.{and-left, and-right}
 use Rattle.neighbour.specs.Record.{isUp, withNumbers, withTimers, withReach}
 use Rattle.checks.specs.Lists.{every, join}
-use Rattle.octets.specs.Checksum as Checksum
+use Rattle.octets_checksum.specs.Checksum as Checksum
 use Rattle.nets.specs.Classes as Classes
 use Rattle.nets.specs.Rows as Rows
 use Rattle.nets.specs.Rows.{Row}
-use Rattle.rows.specs.Storing as Storing
+use Rattle.update_rows.specs.Storing as Storing
 use Rattle.message.specs.Kinds as Kinds
 use Rattle.message.specs.declared.Message.{Message}
 use Rattle.message.specs.declared.Message.the-variants.{Request, Cease, Update}
-use Rattle.wire.specs.Reading as Wire
-use Rattle.wire.specs.Reading.{headerAnswer, asnAt, decodeOf}
-use Rattle.fixed.specs.Writing as Writing
-use Rattle.wire.specs.declared.Decoded.the-variants as D
-use Rattle.walk.specs.Body as Body
-use Rattle.blocks.specs.Blocks as Blocks
-use Rattle.writing.specs.Octets as Octets
-use Rattle.writing.specs.Octets.{octetsOf}
+use Rattle.message_reading.specs.Reading as Wire
+use Rattle.message_reading.specs.Reading.{headerAnswer, asnAt, decodeOf}
+use Rattle.message_writing.specs.Writing as Writing
+use Rattle.message_reading.specs.declared.Decoded.the-variants as D
+use Rattle.update_walk.specs.Body as Body
+use Rattle.update_writing.specs.Blocks as Blocks
+use Rattle.codec_writing.specs.Octets as Octets
+use Rattle.codec_writing.specs.Octets.{octetsOf}
 use Rattle.neighbour.specs.declared.Mode.the-variants.{Passive}
 use Rattle.neighbour.specs.declared.Settings.{Settings}
 use Rattle.neighbour.specs.declared.Neighbour.{Neighbour}
 use Rattle.neighbour.specs.Rules.{onesOf, goesDown}
-use Rattle.state.specs.Outcomes as Outcomes
-use Rattle.state.specs.Formed as Formed
-use Rattle.state.specs.Formed.{stateFormed}
-use Rattle.state.specs.declared.State.{State}
-use Rattle.state.specs.declared.Slot as Stored
-use Rattle.state.specs.Slots.{slotAt}
-use Rattle.state.proofs.ListLaws.{every-set, every-in}
-use Rattle.slots.specs.Calls as Slots
-use Rattle.calls.specs.Home as Home
-use Rattle.calls.specs.Home.{goodHome}
+use Rattle.gateway_state.specs.Outcomes as Outcomes
+use Rattle.gateway_state.specs.Formed as Formed
+use Rattle.gateway_state.specs.Formed.{stateFormed}
+use Rattle.gateway_state.specs.declared.State.{State}
+use Rattle.gateway_state.specs.declared.Slot as Stored
+use Rattle.gateway_state.specs.Slots.{slotAt}
+use Rattle.gateway_state.proofs.ListLaws.{every-set, every-in}
+use Rattle.gateway_slots.specs.Calls as Slots
+use Rattle.gateway_rules.specs.Home as Home
+use Rattle.gateway_rules.specs.Home.{goodHome}
 use Rattle.model.specs.Model.{Call, tick, Slot, free, used, Model, slotIn, put, step, model, modelFrom, empty}
 use Rattle.model.specs.Theorem.{Gateway, gatewayStep, run, cell, stateOf, rowsHeld, rowsAt, Sensible}
 use Rattle.model.specs.Corollaries.{Taken, slotOn, isUpOn, reports, BothReport, Says, SaysRows}

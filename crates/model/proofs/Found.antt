@@ -12,21 +12,21 @@ use Rattle.checks.specs.Checks.{check, ifOk}
 use Rattle.nets.specs.Rows.{Row, rowsOf}
 use Rattle.message.specs.declared.Message.{Message}
 use Rattle.message.specs.declared.Message.the-variants as M
-use Rattle.wire.specs.Reading.{headerAnswer, asnAt, decodeOf}
-use Rattle.wire.specs.declared.Decoded.the-variants as D
-use Rattle.walk.specs.Body.{accepted, updateOf, rowsRead}
+use Rattle.message_reading.specs.Reading.{headerAnswer, asnAt, decodeOf}
+use Rattle.message_reading.specs.declared.Decoded.the-variants as D
+use Rattle.update_walk.specs.Body.{accepted, updateOf, rowsRead}
 use Rattle.neighbour.specs.declared.Phase.the-variants.{Up}
 use Rattle.neighbour.specs.declared.Settings.{Settings}
 use Rattle.neighbour.specs.Record.{isIdle, isUp}
 use Rattle.neighbour.specs.Rules.{inSequence}
-use Rattle.machine.specs.Intrinsics.{Intrinsic, asEvent}
-use Rattle.machine.specs.declared.Event.the-variants.{Received}
-use Rattle.machine.specs.Step.{stepOf}
-use Rattle.machine.proofs.Theorems.{update-stays-up}
-use Rattle.state.specs.declared.Slot as Stored
-use Rattle.state.specs.Slots.{freeSlot}
-use Rattle.state.proofs.Theorems.{slot-unique}
-use Rattle.calls.specs.Home.{goodHome}
+use Rattle.neighbour_machine.specs.Intrinsics.{Intrinsic, asEvent}
+use Rattle.neighbour_machine.specs.declared.Event.the-variants.{Received}
+use Rattle.neighbour_machine.specs.Step.{stepOf}
+use Rattle.neighbour_machine.proofs.Theorems.{update-stays-up}
+use Rattle.gateway_state.specs.declared.Slot as Stored
+use Rattle.gateway_state.specs.Slots.{freeSlot}
+use Rattle.gateway_state.proofs.Theorems.{slot-unique}
+use Rattle.gateway_rules.specs.Home.{goodHome}
 use Rattle.model.specs.Model.{Slot, free, used, Model, slotIn, put, placeOf, isPresent, Move, noOctets, rowsIn, moved, eventMove, bodyAnswer, isUpdate, kindAnswer, answerTo, firstTwelve, afterMessage, rowsAfter, messageMove, eventAnswer, messageAnswer, turnAt, eventTurn, messageTurn, Peer}
 use Rattle.model.specs.Theorem.{cell, stateOf, rowsHeld, peerFrom}
 use Rattle.model.proofs.Represent.{sound, Good, slot-of, at-of, eight-of, sound-at}

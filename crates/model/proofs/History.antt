@@ -12,17 +12,17 @@ use Rattle.checks.specs.Checks.{ifOk}
 use Rattle.checks.proofs.Laws.{and-left, and-right}
 use Rattle.checks.specs.Lists.{every}
 use Rattle.nets.specs.Rows.{Row}
-use Rattle.wire.specs.Reading.{decodeOf}
-use Rattle.wire.specs.declared.Decoded.{Decoded}
-use Rattle.wire.specs.declared.Decoded.the-variants as D
-use Rattle.walk.specs.Body.{updateOf, rowsRead}
+use Rattle.message_reading.specs.Reading.{decodeOf}
+use Rattle.message_reading.specs.declared.Decoded.{Decoded}
+use Rattle.message_reading.specs.declared.Decoded.the-variants as D
+use Rattle.update_walk.specs.Body.{updateOf, rowsRead}
 use Rattle.neighbour.specs.declared.Settings.{Settings}
 use Rattle.neighbour.specs.declared.Neighbour.{Neighbour}
 use Rattle.neighbour.specs.Record.{idle, isUp}
-use Rattle.machine.specs.Intrinsics.{Intrinsic, asEvent}
-use Rattle.machine.specs.Step.{stepOf}
-use Rattle.state.specs.Slots.{freeSlot}
-use Rattle.state.specs.Claims.{SlotGood}
+use Rattle.neighbour_machine.specs.Intrinsics.{Intrinsic, asEvent}
+use Rattle.neighbour_machine.specs.Step.{stepOf}
+use Rattle.gateway_state.specs.Slots.{freeSlot}
+use Rattle.gateway_state.specs.Claims.{SlotGood}
 use Rattle.model.specs.Model.{isFree, hasAddress, noOctets, Said, Call, add, remove, happen, receive, listing, Slot, free, used, Model, slotIn, put, placeOf, vacancy, silent, addAnswer, removeAnswer, addTurn, removeTurn, noMove, rowsIn, moved, eventMove, isUpdate, answerTo, afterMessage, rowsAfter, messageMove, eventAnswer, messageAnswer, turnAt, eventTurn, messageTurn, listingTurn, step, model, modelFrom, empty, Peer, newPeer, refusedMove}
 use Rattle.model.specs.History.{isUpSlot, saysUpdate, accepts, rowsSaid, upAfter, told, lastFrom, lastAccepted, isAbout, isElsewhere, takesNoSlot}
 use Rattle.model.specs.Theorem.{cell, rowsHeld}

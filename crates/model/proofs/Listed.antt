@@ -11,22 +11,22 @@ use Rattle.checks.specs.Checks.{check, ifOk}
 use Rattle.checks.specs.Lists.{every}
 use Rattle.checks.proofs.Laws.{cond-elim, and-left, and-right, and-both, check-holds}
 use Rattle.nets.specs.Rows.{Row}
-use Rattle.wire.specs.Reading.{decodeOf}
-use Rattle.wire.specs.declared.Decoded.{Decoded}
-use Rattle.wire.specs.declared.Decoded.the-variants as D
+use Rattle.message_reading.specs.Reading.{decodeOf}
+use Rattle.message_reading.specs.declared.Decoded.{Decoded}
+use Rattle.message_reading.specs.declared.Decoded.the-variants as D
 use Rattle.neighbour.specs.declared.Phase.{Phase}
 use Rattle.neighbour.specs.declared.Settings.{Settings}
 use Rattle.neighbour.specs.declared.Neighbour.{Neighbour}
 use Rattle.neighbour.specs.Record.{isUp}
-use Rattle.machine.specs.Intrinsics.{Intrinsic, asEvent}
-use Rattle.machine.specs.Step.{stepOf}
-use Rattle.state.specs.Slots.{freeSlot}
-use Rattle.state.specs.Places.{rowCounts, readRows}
-use Rattle.state.specs.Formed.{stateFormed}
-use Rattle.state.proofs.ListLaws.{every-set, every-getD}
-use Rattle.calls.specs.Calls.{tableFits, lentChecks}
-use Rattle.lines.specs.Lines.{Entry, entryFor}
-use Rattle.lines.specs.Listing.{entryOf, entriesFrom, entries, markedRow, listable, listingChecks}
+use Rattle.neighbour_machine.specs.Intrinsics.{Intrinsic, asEvent}
+use Rattle.neighbour_machine.specs.Step.{stepOf}
+use Rattle.gateway_state.specs.Slots.{freeSlot}
+use Rattle.gateway_state.specs.Places.{rowCounts, readRows}
+use Rattle.gateway_state.specs.Formed.{stateFormed}
+use Rattle.gateway_state.proofs.ListLaws.{every-set, every-getD}
+use Rattle.gateway_rules.specs.Calls.{tableFits, lentChecks}
+use Rattle.listing_lines.specs.Lines.{Entry, entryFor}
+use Rattle.listing_lines.specs.Listing.{entryOf, entriesFrom, entries, markedRow, listable, listingChecks}
 use Rattle.model.specs.Model.{Call, add, remove, happen, receive, listing, Peer, Slot, free, used, Model, slotIn, put, addTurn, removeTurn, noOctets, noMove, rowsIn, moved, eventMove, isUpdate, answerTo, afterMessage, rowsAfter, messageMove, turnAt, eventTurn, messageTurn, listedFrom, listed, listingAnswer, listingTurn, step, placeOf, newPeer, refusedMove}
 use Rattle.model.specs.Theorem.{isOctet, carriesOctets, cell, stateOf, rowsHeld, tableOf}
 use Rattle.model.proofs.Represent.{sound, Good, table-length, read-of}

@@ -11,7 +11,7 @@ use lib.Seq.{take-at, drop-at, take-append-add, drop-append-add}
 use borrow.Author.Tests.{eqb-true}
 use Rattle.checks.proofs.Laws.{and-left, and-right}
 use Rattle.checks.specs.Lists.{first, every, join}
-use Rattle.state.specs.Places.{partAt, withPart}
+use Rattle.gateway_state.specs.Places.{partAt, withPart}
 use Rattle.model.specs.Model.{Slot}
 
 -- the model's search is the gateway's, through what a slot is shown as

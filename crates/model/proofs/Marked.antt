@@ -11,10 +11,10 @@ use Rattle.checks.specs.Lists.{every}
 use Rattle.checks.proofs.Laws.{cond-elim, and-left, and-right, and-both}
 use Rattle.nets.specs.Classes.{netWidth, goodNet}
 use Rattle.nets.specs.Rows.{Row}
-use Rattle.walk.proofs.Flat.{group-rows, block-rows, both-sides}
-use Rattle.walk.specs.Body.{Got, got, stop, andThen, after, many, rowOfWidth, netRow, groupRows, hostWidth, gatewayOf, blockRows, bothSides, Walk, whole, broken, nothingLeft, bodyOf, further, netAt, blocksOf, judged, updateOf, rowsRead}
-use Rattle.state.proofs.ListLaws.{every-getD}
-use Rattle.lines.specs.Listing.{markedRow}
+use Rattle.update_walk.proofs.Flat.{group-rows, block-rows, both-sides}
+use Rattle.update_walk.specs.Body.{Got, got, stop, andThen, after, many, rowOfWidth, netRow, groupRows, hostWidth, gatewayOf, blockRows, bothSides, Walk, whole, broken, nothingLeft, bodyOf, further, netAt, blocksOf, judged, updateOf, rowsRead}
+use Rattle.gateway_state.proofs.ListLaws.{every-getD}
+use Rattle.listing_lines.specs.Listing.{markedRow}
 use Rattle.model.specs.Theorem.{isOctet}
 
 every-drop : {A : Type 0} (p : A → Bool) (k : ℕ) (l : List A) → every p l ≡ true → every p (drop k l) ≡ true

@@ -12,29 +12,29 @@ use Rattle.checks.specs.Checks.{check, ifOk}
 use Rattle.nets.specs.Rows.{Row, flat}
 use Rattle.message.specs.Kinds.{kindOf}
 use Rattle.message.specs.declared.Kind.the-variants as K
-use Rattle.wire.specs.Reading.{headerAnswer, asnAt, decodeOf}
-use Rattle.wire.specs.declared.Decoded.{Decoded}
-use Rattle.wire.specs.declared.Decoded.the-variants as D
-use Rattle.walk.specs.Body.{UpdateRead, accepted, brokenAt, tooMany, updateOf, rowsRead}
-use Rattle.walk.specs.Body as Body
-use Rattle.rows.specs.Storing.{padded}
+use Rattle.message_reading.specs.Reading.{headerAnswer, asnAt, decodeOf}
+use Rattle.message_reading.specs.declared.Decoded.{Decoded}
+use Rattle.message_reading.specs.declared.Decoded.the-variants as D
+use Rattle.update_walk.specs.Body.{UpdateRead, accepted, brokenAt, tooMany, updateOf, rowsRead}
+use Rattle.update_walk.specs.Body as Body
+use Rattle.update_rows.specs.Storing.{padded}
 use Rattle.neighbour.specs.declared.Phase.{Phase}
 use Rattle.neighbour.specs.declared.Settings.{Settings}
 use Rattle.neighbour.specs.declared.Neighbour.{Neighbour}
 use Rattle.neighbour.specs.Rules.{same}
-use Rattle.machine.specs.declared.Event.the-variants.{Received}
-use Rattle.machine.specs.Intrinsics.{Intrinsic, asEvent}
-use Rattle.machine.specs.declared.After.{After}
-use Rattle.machine.specs.Step.{stepOf}
-use Rattle.state.specs.Claims.{SlotGood}
-use Rattle.calls.specs.Number.{bodyNumber, messageNumber, headAt, errorTo, refuseTo, namedReply}
-use Rattle.calls.specs.Ruling.{Change, keep, clear, replace, Ruling, leaving, stepped, refuses, changeBy, carriedOut, receiveRuling}
-use Rattle.calls.specs.Ruling as Ruled
-use Rattle.calls.specs.Carried.{countAfter, slotAfter}
-use Rattle.calls.specs.Calls.{noHead}
-use Rattle.calls.proofs.Number.{meaningNumber, kindNumber, message-number, NumberPassed, number-passed}
-use Rattle.calls.proofs.Rulings.{receive-holds}
-use Rattle.claims.proofs.Calls.{after-up}
+use Rattle.neighbour_machine.specs.declared.Event.the-variants.{Received}
+use Rattle.neighbour_machine.specs.Intrinsics.{Intrinsic, asEvent}
+use Rattle.neighbour_machine.specs.declared.After.{After}
+use Rattle.neighbour_machine.specs.Step.{stepOf}
+use Rattle.gateway_state.specs.Claims.{SlotGood}
+use Rattle.gateway_rules.specs.Number.{bodyNumber, messageNumber, headAt, errorTo, refuseTo, namedReply}
+use Rattle.gateway_rules.specs.Ruling.{Change, keep, clear, replace, Ruling, leaving, stepped, refuses, changeBy, carriedOut, receiveRuling}
+use Rattle.gateway_rules.specs.Ruling as Ruled
+use Rattle.gateway_rules.specs.Carried.{countAfter, slotAfter}
+use Rattle.gateway_rules.specs.Calls.{noHead}
+use Rattle.gateway_rules.proofs.Number.{meaningNumber, kindNumber, message-number, NumberPassed, number-passed}
+use Rattle.gateway_rules.proofs.Rulings.{receive-holds}
+use Rattle.gateway_theorems.proofs.Calls.{after-up}
 use Rattle.model.specs.Model.{Slot, used, Move, rowsIn, moved, noOctets, eventMove, bodyAnswer, isUpdate, kindAnswer, answerTo, firstTwelve, errorReply, refuseReply, refusalReply, afterMessage, rowsAfter, messageMove, Peer, peerWith, refusedMove}
 use Rattle.model.specs.Theorem.{cell, rowsHeld, part}
 

@@ -10,8 +10,8 @@ use borrow.Author.Tests.{eqb-true}
 use Rattle.checks.proofs.Laws.{and-left, and-right}
 use Rattle.nets.specs.Rows.{Row}
 use Rattle.message.specs.declared.Message.the-variants as M
-use Rattle.wire.specs.Reading.{decodeOf}
-use Rattle.wire.specs.declared.Decoded.the-variants as D
+use Rattle.message_reading.specs.Reading.{decodeOf}
+use Rattle.message_reading.specs.declared.Decoded.the-variants as D
 use Rattle.neighbour.specs.declared.Mode.the-variants.{Passive}
 use Rattle.neighbour.specs.declared.Phase.{Phase}
 use Rattle.neighbour.specs.declared.Phase.the-variants as Phases
@@ -19,11 +19,11 @@ use Rattle.neighbour.specs.declared.Settings.{Settings}
 use Rattle.neighbour.specs.declared.Neighbour.{Neighbour}
 use Rattle.neighbour.specs.Record.{isIdle, isUp, acquired}
 use Rattle.neighbour.specs.Rules.{indicates}
-use Rattle.machine.specs.declared.Event.{Event}
-use Rattle.machine.specs.declared.Event.the-variants.{Received, Tick}
-use Rattle.state.specs.declared.Slot as Stored
-use Rattle.state.specs.Slots.{freeSlot}
-use Rattle.claims.proofs.Calls.{is-up}
+use Rattle.neighbour_machine.specs.declared.Event.{Event}
+use Rattle.neighbour_machine.specs.declared.Event.the-variants.{Received, Tick}
+use Rattle.gateway_state.specs.declared.Slot as Stored
+use Rattle.gateway_state.specs.Slots.{freeSlot}
+use Rattle.gateway_theorems.proofs.Calls.{is-up}
 use Rattle.model.specs.Model.{Call, receive, Slot, free, used, Model, slotIn, isFree, isIdleSlot, placeOf, step, model, empty}
 use Rattle.model.specs.History.{isUpSlot, saysUpdate, accepts}
 use Rattle.model.specs.Theorem.{Gateway, gatewayStep, gatewayFrom, run, cell, rowsHeld, rowsAt}

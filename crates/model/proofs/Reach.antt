@@ -21,17 +21,17 @@ use Rattle.neighbour.specs.declared.Offer.the-variants.{Acceptable, Unacceptabl
 use Rattle.neighbour.specs.Record.{under, isIdle, isUp, acquired, idle, leftIdle, withNumbers, withTimers, withReach, waiting, initialised, heardFrom, shifted, enterUp, leaveUp, polled}
 use Rattle.neighbour.specs.Rules.{isCommand, commanded, indicates, noted, offerOf, onesOf, goesUp, goesDown, judged}
 use Rattle.neighbour.proofs.Laws.{at-up, at-down}
-use Rattle.wellformed.specs.Formed.{wellFormed}
-use Rattle.wellformed.proofs.Formed.{at, Fine, fine-down, fine-up, timer-bounds}
-use Rattle.sent.specs.declared.Head.{Head}
-use Rattle.machine.specs.declared.Event.{Event}
-use Rattle.machine.specs.declared.Event.the-variants.{Received, Start, Stop, Tick}
-use Rattle.machine.specs.declared.After.{After}
-use Rattle.machine.specs.Table.{quiet, answers, says, helloIf, doesA, doesB, ceases, repeatsCease, acquires, stray, onRequest, settles, onConfirm, onRefuse, onCease, onCeaseAck, onHello, onIHeardYou, answersPoll, onPoll, onUpdate, onStart, onStop}
-use Rattle.machine.specs.Tick.{expired, repeats, listens, polls, pollsOnEntry, takesT2, pollsInUp, runs, onTick}
-use Rattle.machine.specs.Step.{onMessage, stepOf}
-use Rattle.machine.specs.Laws.{isDown, isTick}
-use Rattle.machine.proofs.Theorems.{step-lawful}
+use Rattle.neighbour_wellformed.specs.Formed.{wellFormed}
+use Rattle.neighbour_wellformed.proofs.Formed.{at, Fine, fine-down, fine-up, timer-bounds}
+use Rattle.neighbour_messages.specs.declared.Head.{Head}
+use Rattle.neighbour_machine.specs.declared.Event.{Event}
+use Rattle.neighbour_machine.specs.declared.Event.the-variants.{Received, Start, Stop, Tick}
+use Rattle.neighbour_machine.specs.declared.After.{After}
+use Rattle.neighbour_machine.specs.Table.{quiet, answers, says, helloIf, doesA, doesB, ceases, repeatsCease, acquires, stray, onRequest, settles, onConfirm, onRefuse, onCease, onCeaseAck, onHello, onIHeardYou, answersPoll, onPoll, onUpdate, onStart, onStop}
+use Rattle.neighbour_machine.specs.Tick.{expired, repeats, listens, polls, pollsOnEntry, takesT2, pollsInUp, runs, onTick}
+use Rattle.neighbour_machine.specs.Step.{onMessage, stepOf}
+use Rattle.neighbour_machine.specs.Laws.{isDown, isTick}
+use Rattle.neighbour_machine.proofs.Theorems.{step-lawful}
 use Rattle.model.specs.Windows.{isIndication, isEvaluation, isRestart}
 use Rattle.model.proofs.Closing.{under-elim, up-under, later}
 

@@ -10,18 +10,18 @@ use lib.Seq.{take-at, map-set-same}
 use borrow.Author.Tests.{eq-eqb, eqb-true, eqb-false, not-true}
 use Rattle.checks.specs.Lists.{first, every, join}
 use Rattle.nets.specs.Rows.{Row, rowsOf, flat}
-use Rattle.rows.specs.Storing.{zeros, padded}
-use Rattle.rows.proofs.Laws.{flat-length, padded-length}
-use Rattle.state.specs.declared.Slot as Stored
-use Rattle.state.specs.Places.{rowCount, rowCounts, partAt, withPart, readRows}
-use Rattle.state.specs.Slots.{freeSlot, slotAt, withSlot, addressOf, addresses, clash, slotOf, isNone, lowestFree}
-use Rattle.state.specs.Formed.{stateFormed}
-use Rattle.state.specs.Claims.{SlotGood}
-use Rattle.state.proofs.ListLaws.{every-getD, map-set}
-use Rattle.state.proofs.SlotLaws.{clash-is, clash-not, clash-zero}
-use Rattle.state.proofs.Theorems.{formed-slot}
-use Rattle.claims.specs.Claims.{FormedState}
-use Rattle.lines.proofs.Laws.{count-at}
+use Rattle.update_rows.specs.Storing.{zeros, padded}
+use Rattle.update_rows.proofs.Laws.{flat-length, padded-length}
+use Rattle.gateway_state.specs.declared.Slot as Stored
+use Rattle.gateway_state.specs.Places.{rowCount, rowCounts, partAt, withPart, readRows}
+use Rattle.gateway_state.specs.Slots.{freeSlot, slotAt, withSlot, addressOf, addresses, clash, slotOf, isNone, lowestFree}
+use Rattle.gateway_state.specs.Formed.{stateFormed}
+use Rattle.gateway_state.specs.Claims.{SlotGood}
+use Rattle.gateway_state.proofs.ListLaws.{every-getD, map-set}
+use Rattle.gateway_state.proofs.SlotLaws.{clash-is, clash-not, clash-zero}
+use Rattle.gateway_state.proofs.Theorems.{formed-slot}
+use Rattle.gateway_theorems.specs.Claims.{FormedState}
+use Rattle.listing_lines.proofs.Laws.{count-at}
 use Rattle.model.specs.Model.{Slot, free, used, Model, slotIn, put, isFree, hasAddress, placeOf, vacancy, Peer}
 use Rattle.model.specs.Theorem.{cell, stateOf, rowsHeld, part, tableOf}
 use Rattle.model.proofs.Lists.{first-map, map-map, isPart, join-length, join-put, join-part}

@@ -12,33 +12,33 @@ use Rattle.checks.specs.Checks.{check, ifOk}
 use Rattle.checks.specs.Lists.{every}
 use Rattle.octets.specs.Buffer.{over}
 use Rattle.nets.specs.Rows.{Row, rowsOf}
-use Rattle.wire.specs.Reading.{decodeOf}
+use Rattle.message_reading.specs.Reading.{decodeOf}
 use Rattle.neighbour.specs.declared.Phase.{Phase}
 use Rattle.neighbour.specs.declared.Phase.the-variants as Phases
 use Rattle.neighbour.specs.declared.Settings.{Settings}
 use Rattle.neighbour.specs.Record.{isIdle, isUp}
-use Rattle.machine.specs.Intrinsics.{Intrinsic, asEvent}
-use Rattle.machine.specs.declared.Reply.{Reply}
-use Rattle.machine.specs.declared.Reply.the-variants.{Nothing, One, Two}
-use Rattle.machine.specs.Step.{stepOf}
-use Rattle.state.specs.declared.State.{State}
-use Rattle.state.specs.declared.Outcome.{Outcome}
-use Rattle.state.specs.Slots.{newcomer, freeSlot, slotAt, slotOf, present}
-use Rattle.state.specs.Places.{rowCounts, withPart, writeRows}
-use Rattle.state.specs.Formed.{goodPeer, stateFormed}
-use Rattle.state.specs.Claims.{SlotGood}
-use Rattle.state.specs.Outcomes.{refusedOf, silentOf}
-use Rattle.state.proofs.ListLaws.{first-in, every-set}
-use Rattle.slots.specs.Calls as Slots
-use Rattle.slots.specs.Calls.{addOf, removeOf}
-use Rattle.calls.specs.Home.{goodHome}
-use Rattle.calls.specs.Ruling.{Change, keep, clear, replace, Ruling, stepped, receiveRuling}
-use Rattle.calls.specs.Carried as Carried
-use Rattle.calls.specs.Carried.{firstOctets, secondOctets, replyOctets, outcomeAfter}
-use Rattle.calls.specs.Calls.{tableFits, lentChecks, eventChecks, messageChecks, noHead, updateRoom, eventRuling, messageRuling, eventOutcome, eventTable, eventBuffer, messageOutcome, messageTable, messageBuffer}
-use Rattle.claims.proofs.Formed.{well-formed-kept}
-use Rattle.lines.specs.Lines.{listingText}
-use Rattle.lines.specs.Listing.{listingOutcome, listingBuffer}
+use Rattle.neighbour_machine.specs.Intrinsics.{Intrinsic, asEvent}
+use Rattle.neighbour_machine.specs.declared.Reply.{Reply}
+use Rattle.neighbour_machine.specs.declared.Reply.the-variants.{Nothing, One, Two}
+use Rattle.neighbour_machine.specs.Step.{stepOf}
+use Rattle.gateway_state.specs.declared.State.{State}
+use Rattle.gateway_state.specs.declared.Outcome.{Outcome}
+use Rattle.gateway_state.specs.Slots.{newcomer, freeSlot, slotAt, slotOf, present}
+use Rattle.gateway_state.specs.Places.{rowCounts, withPart, writeRows}
+use Rattle.gateway_state.specs.Formed.{goodPeer, stateFormed}
+use Rattle.gateway_state.specs.Claims.{SlotGood}
+use Rattle.gateway_state.specs.Outcomes.{refusedOf, silentOf}
+use Rattle.gateway_state.proofs.ListLaws.{first-in, every-set}
+use Rattle.gateway_slots.specs.Calls as Slots
+use Rattle.gateway_slots.specs.Calls.{addOf, removeOf}
+use Rattle.gateway_rules.specs.Home.{goodHome}
+use Rattle.gateway_rules.specs.Ruling.{Change, keep, clear, replace, Ruling, stepped, receiveRuling}
+use Rattle.gateway_rules.specs.Carried as Carried
+use Rattle.gateway_rules.specs.Carried.{firstOctets, secondOctets, replyOctets, outcomeAfter}
+use Rattle.gateway_rules.specs.Calls.{tableFits, lentChecks, eventChecks, messageChecks, noHead, updateRoom, eventRuling, messageRuling, eventOutcome, eventTable, eventBuffer, messageOutcome, messageTable, messageBuffer}
+use Rattle.gateway_theorems.proofs.Formed.{well-formed-kept}
+use Rattle.listing_lines.specs.Lines.{listingText}
+use Rattle.listing_lines.specs.Listing.{listingOutcome, listingBuffer}
 use Rattle.model.specs.Model.{isFree, noMove, moved, answerTo, afterMessage, rowsAfter, Call, add, remove, happen, receive, listing, Slot, free, used, Model, slotIn, put, hasAddress, placeOf, isPresent, vacancy, Said, silent, spoken, addable, addAnswer, isIdleSlot, removeAnswer, addTurn, removeTurn, Move, eventMove, messageMove, eventAnswer, messageAnswer, turnAt, eventTurn, messageTurn, listed, listingAnswer, listingSaid, listingTurn, step, Peer, newPeer, refusedMove}
 use Rattle.model.specs.Theorem.{Gateway, outcomeOf, tableAfter, bufferOf, bufferAfter, listsNothing, cell, stateOf, rowsHeld, part, tableOf}
 use Rattle.model.proofs.Represent.{sound, Good, used-at, slot-of, lowest-of, at-of, state-ok, good-at, sound-at, state-with, table-length, table-with, table-same}

@@ -12,22 +12,22 @@ use Rattle.checks.specs.Lists.{every}
 use Rattle.neighbour.specs.Record.{isUp}
 use Rattle.checks.proofs.Laws.{cond-elim, and-left, and-right, check-holds, ifOk-new, ifOk-old}
 use Rattle.octets.specs.Numbers.{word16}
-use Rattle.octets.specs.Checksum.{checksumOf}
+use Rattle.octets_checksum.specs.Checksum.{checksumOf}
 use Rattle.nets.specs.Rows.{Row, rowsOf}
-use Rattle.wire.specs.Reading.{headerAnswer, asnAt, decodeOf}
-use Rattle.wire.specs.declared.Decoded.{Decoded}
-use Rattle.wire.specs.declared.Decoded.the-variants as D
-use Rattle.walk.specs.Body.{UpdateRead, accepted, brokenAt, tooMany, updateOf}
+use Rattle.message_reading.specs.Reading.{headerAnswer, asnAt, decodeOf}
+use Rattle.message_reading.specs.declared.Decoded.{Decoded}
+use Rattle.message_reading.specs.declared.Decoded.the-variants as D
+use Rattle.update_walk.specs.Body.{UpdateRead, accepted, brokenAt, tooMany, updateOf}
 use Rattle.neighbour.specs.declared.Settings.{Settings}
 use Rattle.neighbour.specs.declared.Neighbour.{Neighbour}
 use Rattle.neighbour.specs.Rules.{inSequence}
-use Rattle.machine.specs.Intrinsics.{Intrinsic}
-use Rattle.state.specs.Formed.{stateFormed}
-use Rattle.state.specs.Outcomes.{refusedOf}
-use Rattle.slots.specs.Calls.{freshOf}
-use Rattle.calls.specs.Home.{goodHome}
-use Rattle.calls.specs.Calls.{tableFits, lentChecks}
-use Rattle.lines.specs.Listing.{entries, listable, listingChecks, listingOutcome}
+use Rattle.neighbour_machine.specs.Intrinsics.{Intrinsic}
+use Rattle.gateway_state.specs.Formed.{stateFormed}
+use Rattle.gateway_state.specs.Outcomes.{refusedOf}
+use Rattle.gateway_slots.specs.Calls.{freshOf}
+use Rattle.gateway_rules.specs.Home.{goodHome}
+use Rattle.gateway_rules.specs.Calls.{tableFits, lentChecks}
+use Rattle.listing_lines.specs.Listing.{entries, listable, listingChecks, listingOutcome}
 use Rattle.model.specs.Model.{Call, add, remove, happen, receive, listing, Slot, free, used, Model, slotIn, put, placeOf, isPresent, vacancy, Said, silent, spoken, addable, addAnswer, isIdleSlot, removeAnswer, addTurn, removeTurn, Move, noMove, moved, eventMove, bodyAnswer, isUpdate, kindAnswer, answerTo, messageMove, eventAnswer, messageAnswer, turnAt, eventTurn, messageTurn, listingAnswer, listingSaid, listingTurn, step, model, modelFrom, empty}
 use Rattle.model.specs.Theorem.{Gateway, outcomeOf, gatewayStep, run, stateOf, tableOf, carriesOctets, listsNothing, Steady, NeverOneOrTwo}
 use Rattle.model.proofs.Represent.{Good}

@@ -9,16 +9,16 @@ use Rattle.checks.proofs.Laws.{and-left, and-right}
 use Rattle.checks.specs.Lists.{every, join}
 use Rattle.nets.specs.Classes.{netWidth, hostSpan, goodNet, onNet}
 use Rattle.nets.specs.Rows.{flat}
-use Rattle.rows.specs.Storing.{zeros, padded}
+use Rattle.update_rows.specs.Storing.{zeros, padded}
 use Rattle.neighbour.specs.declared.Settings.{Settings}
-use Rattle.state.specs.declared.State.{State}
-use Rattle.state.specs.declared.Slot as Stored
-use Rattle.state.specs.Slots.{freeSlot, slotAt}
-use Rattle.state.specs.Places.{partAt}
-use Rattle.state.specs.Formed.{goodSettings, stateFormed}
-use Rattle.state.specs.Outcomes.{silentOf}
-use Rattle.slots.specs.Calls.{freeSlots, emptyState, freshAnswer, freshOf}
-use Rattle.claims.proofs.Formed.{well-formed-kept}
+use Rattle.gateway_state.specs.declared.State.{State}
+use Rattle.gateway_state.specs.declared.Slot as Stored
+use Rattle.gateway_state.specs.Slots.{freeSlot, slotAt}
+use Rattle.gateway_state.specs.Places.{partAt}
+use Rattle.gateway_state.specs.Formed.{goodSettings, stateFormed}
+use Rattle.gateway_state.specs.Outcomes.{silentOf}
+use Rattle.gateway_slots.specs.Calls.{freeSlots, emptyState, freshAnswer, freshOf}
+use Rattle.gateway_theorems.proofs.Formed.{well-formed-kept}
 use Rattle.model.specs.Model.{Call, Slot, free, used, Model, slotIn, empty, model, modelFrom, saidFrom, step}
 use Rattle.model.specs.Theorem.{Gateway, gatewayStep, gatewayFrom, Seen, seenOf, seenFrom, emptyTable, begun, run, seenBy, cell, stateOf, rowsHeld, part, tableOf, bufferOf, shownIn, shown, rowsAt, carriesOctets, listsNothing, ListOfCalls}
 use Rattle.model.specs.History.{lastAccepted, isElsewhere, takesNoSlot}

@@ -12,21 +12,21 @@ use borrow.Author.Tests.{eq-eqb, eqb-true, eqb-false, not-true, le-ltb}
 use Rattle.checks.specs.Checks.{check, ifOk}
 use Rattle.checks.proofs.Laws.{and-left, and-right}
 use Rattle.nets.specs.Rows.{Row, rowsOf}
-use Rattle.wire.specs.Reading.{headerAnswer, asnAt, decodeOf}
-use Rattle.wire.specs.declared.Decoded.{Decoded}
-use Rattle.wire.specs.declared.Decoded.the-variants as D
+use Rattle.message_reading.specs.Reading.{headerAnswer, asnAt, decodeOf}
+use Rattle.message_reading.specs.declared.Decoded.{Decoded}
+use Rattle.message_reading.specs.declared.Decoded.the-variants as D
 use Rattle.neighbour.specs.declared.Mode.the-variants.{Passive}
 use Rattle.neighbour.specs.declared.Phase.the-variants as Phases
 use Rattle.neighbour.specs.declared.Settings.{Settings}
 use Rattle.neighbour.specs.declared.Neighbour.{Neighbour}
 use Rattle.neighbour.specs.Record.{idle, isIdle, isUp}
-use Rattle.wellformed.specs.Formed.{wellFormed}
-use Rattle.sent.specs.declared.Head.{Head}
-use Rattle.machine.specs.declared.Event.{Event}
-use Rattle.machine.specs.declared.Event.the-variants.{Received}
-use Rattle.machine.specs.Intrinsics.{Intrinsic, asEvent}
-use Rattle.machine.specs.Step.{stepOf}
-use Rattle.state.specs.Slots.{freeSlot}
+use Rattle.neighbour_wellformed.specs.Formed.{wellFormed}
+use Rattle.neighbour_messages.specs.declared.Head.{Head}
+use Rattle.neighbour_machine.specs.declared.Event.{Event}
+use Rattle.neighbour_machine.specs.declared.Event.the-variants.{Received}
+use Rattle.neighbour_machine.specs.Intrinsics.{Intrinsic, asEvent}
+use Rattle.neighbour_machine.specs.Step.{stepOf}
+use Rattle.gateway_state.specs.Slots.{freeSlot}
 use Rattle.model.specs.Model as Calls
 use Rattle.model.specs.Model.{Call, add, remove, happen, receive, listing, Slot, free, used, Model, slotIn, put, isFree, hasAddress, placeOf, isPresent, vacancy, spoken, Turn, isIdleSlot, addAnswer, removeAnswer, addTurn, removeTurn, Move, noMove, moved, noOctets, eventMove, kindAnswer, answerTo, firstTwelve, afterMessage, rowsAfter, messageMove, eventAnswer, messageAnswer, turnAt, eventTurn, messageTurn, listingTurn, step, modelFrom, Peer, newPeer, peerWith}
 use Rattle.model.specs.History.{isUpSlot, accepts, rowsSaid}

@@ -9,20 +9,20 @@ use lib.ListN.{length}
 use Rattle.neighbour.specs.Record.{isUp}
 use Rattle.checks.specs.Lists.{every, join}
 use Rattle.nets.specs.Rows.{Row, flat}
-use Rattle.rows.specs.Storing.{zeros, padded}
+use Rattle.update_rows.specs.Storing.{zeros, padded}
 use Rattle.message.specs.declared.Message.{Message}
 use Rattle.message.specs.declared.Message.the-variants as M
-use Rattle.wire.specs.Reading.{headerAnswer, asnAt, decodeOf}
-use Rattle.wire.specs.declared.Decoded.the-variants as D
-use Rattle.walk.specs.Body.{accepted, updateOf}
+use Rattle.message_reading.specs.Reading.{headerAnswer, asnAt, decodeOf}
+use Rattle.message_reading.specs.declared.Decoded.the-variants as D
+use Rattle.update_walk.specs.Body.{accepted, updateOf}
 use Rattle.neighbour.specs.declared.Mode.the-variants.{Passive}
 use Rattle.neighbour.specs.declared.Settings.{Settings}
 use Rattle.neighbour.specs.Rules.{onesOf, goesDown}
-use Rattle.state.specs.declared.Slot.{Slot}
-use Rattle.state.specs.Slots.{slotAt}
-use Rattle.state.specs.Places.{slotNumbers, partAt}
-use Rattle.slots.specs.Calls.{freshOf}
-use Rattle.calls.specs.Home.{goodHome}
+use Rattle.gateway_state.specs.declared.Slot.{Slot}
+use Rattle.gateway_state.specs.Slots.{slotAt}
+use Rattle.gateway_state.specs.Places.{slotNumbers, partAt}
+use Rattle.gateway_slots.specs.Calls.{freshOf}
+use Rattle.gateway_rules.specs.Home.{goodHome}
 use Rattle.model.specs.Model.{Call, start, stop, tick, receive, model}
 use Rattle.model.specs.History.{accepts, lastAccepted, isAbout}
 use Rattle.model.specs.Windows.{isIndication, brings, restartsNone, windows, oneInFour, latest}

@@ -8,11 +8,11 @@ use mathlib.Core.List.{List, [], _∷_, _++_}
 use lib.Dec.{leb}
 use lib.ListN.{length}
 use Rattle.nets.specs.Rows.{Row}
-use Rattle.rows.specs.Storing.{zeros}
+use Rattle.update_rows.specs.Storing.{zeros}
 use Rattle.message.specs.declared.Message.the-variants.{Request, Cease, Hello, Update}
-use Rattle.wire.specs.Reading.{decodeOf}
-use Rattle.wire.specs.declared.Decoded.the-variants as D
-use Rattle.writing.specs.Octets.{octetsOf}
+use Rattle.message_reading.specs.Reading.{decodeOf}
+use Rattle.message_reading.specs.declared.Decoded.the-variants as D
+use Rattle.codec_writing.specs.Octets.{octetsOf}
 use Rattle.neighbour.specs.declared.Mode.the-variants.{Passive}
 use Rattle.neighbour.specs.declared.Settings.{Settings}
 use Rattle.neighbour.specs.Record.{withTimers}

@@ -11,27 +11,27 @@ use Rattle.nets.specs.Rows.{Row, rowsOf}
 use Rattle.message.specs.Kinds.{kindOf, plainStatus}
 use Rattle.message.specs.declared.Kind.the-variants as K
 use Rattle.message.specs.declared.Message.{Message}
-use Rattle.wire.specs.Reading.{headerAnswer, asnAt, statusAt, sequenceAt, decodeOf}
-use Rattle.wire.specs.declared.Decoded.{Decoded}
-use Rattle.wire.specs.declared.Decoded.the-variants as D
-use Rattle.walk.specs.Body.{UpdateRead, accepted, brokenAt, tooMany, updateOf, rowsRead}
-use Rattle.writing.specs.Octets.{octetsOf}
+use Rattle.message_reading.specs.Reading.{headerAnswer, asnAt, statusAt, sequenceAt, decodeOf}
+use Rattle.message_reading.specs.declared.Decoded.{Decoded}
+use Rattle.message_reading.specs.declared.Decoded.the-variants as D
+use Rattle.update_walk.specs.Body.{UpdateRead, accepted, brokenAt, tooMany, updateOf, rowsRead}
+use Rattle.codec_writing.specs.Octets.{octetsOf}
 use Rattle.neighbour.specs.declared.Phase.{Phase}
 use Rattle.neighbour.specs.declared.Settings.{Settings}
 use Rattle.neighbour.specs.declared.Neighbour.{Neighbour}
 use Rattle.neighbour.specs.Record.{idle, isIdle, acquired, isUp}
 use Rattle.neighbour.specs.Rules.{same, inSequence}
-use Rattle.sent.specs.declared.Head.{Head}
-use Rattle.sent.specs.Sent.{refuseMessage, errorMessage}
-use Rattle.machine.specs.declared.Event.the-variants.{Received}
-use Rattle.machine.specs.Intrinsics.{Intrinsic, Start, Stop, Tick, asEvent}
-use Rattle.machine.specs.declared.Reply.{Reply}
-use Rattle.machine.specs.declared.Reply.the-variants.{Nothing, One, Two}
-use Rattle.machine.specs.declared.After.{After}
-use Rattle.machine.specs.Table.{quiet}
-use Rattle.machine.specs.Step.{stepOf}
-use Rattle.calls.specs.Home.{goodHome}
-use Rattle.lines.specs.Lines.{Entry, entryFor, listingText}
+use Rattle.neighbour_messages.specs.declared.Head.{Head}
+use Rattle.neighbour_messages.specs.Sent.{refuseMessage, errorMessage}
+use Rattle.neighbour_machine.specs.declared.Event.the-variants.{Received}
+use Rattle.neighbour_machine.specs.Intrinsics.{Intrinsic, Start, Stop, Tick, asEvent}
+use Rattle.neighbour_machine.specs.declared.Reply.{Reply}
+use Rattle.neighbour_machine.specs.declared.Reply.the-variants.{Nothing, One, Two}
+use Rattle.neighbour_machine.specs.declared.After.{After}
+use Rattle.neighbour_machine.specs.Table.{quiet}
+use Rattle.neighbour_machine.specs.Step.{stepOf}
+use Rattle.gateway_rules.specs.Home.{goodHome}
+use Rattle.listing_lines.specs.Lines.{Entry, entryFor, listingText}
 
 -- ---- calls
 

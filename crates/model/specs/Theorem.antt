@@ -9,17 +9,17 @@ use Rattle.checks.specs.Lists.{every}
 use Rattle.checks.specs.Lists.{join}
 use Rattle.octets.specs.Buffer.{over}
 use Rattle.nets.specs.Rows.{Row, flat}
-use Rattle.rows.specs.Storing.{zeros, padded}
+use Rattle.update_rows.specs.Storing.{zeros, padded}
 use Rattle.neighbour.specs.declared.Settings.{Settings}
-use Rattle.state.specs.declared.State.{State}
-use Rattle.state.specs.declared.Slot as Stored
-use Rattle.state.specs.declared.Outcome.{Outcome}
-use Rattle.state.specs.Slots.{freeSlot, slotAt}
-use Rattle.state.specs.Places.{slotNumbers, rowCounts, partAt, readRows}
-use Rattle.state.specs.Formed.{stateFormed}
-use Rattle.slots.specs.Calls.{freshOf, addOf, removeOf}
-use Rattle.calls.specs.Calls.{eventOutcome, eventTable, eventBuffer, messageOutcome, messageTable, messageBuffer}
-use Rattle.lines.specs.Listing.{markedRow, listingOutcome, listingBuffer}
+use Rattle.gateway_state.specs.declared.State.{State}
+use Rattle.gateway_state.specs.declared.Slot as Stored
+use Rattle.gateway_state.specs.declared.Outcome.{Outcome}
+use Rattle.gateway_state.specs.Slots.{freeSlot, slotAt}
+use Rattle.gateway_state.specs.Places.{slotNumbers, rowCounts, partAt, readRows}
+use Rattle.gateway_state.specs.Formed.{stateFormed}
+use Rattle.gateway_slots.specs.Calls.{freshOf, addOf, removeOf}
+use Rattle.gateway_rules.specs.Calls.{eventOutcome, eventTable, eventBuffer, messageOutcome, messageTable, messageBuffer}
+use Rattle.listing_lines.specs.Listing.{markedRow, listingOutcome, listingBuffer}
 use Rattle.model.specs.Model.{Call, add, remove, happen, receive, listing, Peer, Slot, free, used, Model, Said, model, modelFrom, empty, saidFrom, step}
 use Rattle.model.specs.History.{lastAccepted, isElsewhere, takesNoSlot}
 

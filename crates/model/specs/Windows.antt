@@ -9,15 +9,15 @@ use lib.ListN.{length, take}
 use Rattle.nets.specs.Rows.{Row}
 use Rattle.message.specs.Kinds.{kindOf, statusOf}
 use Rattle.message.specs.declared.Kind.the-variants as K
-use Rattle.wire.specs.Reading.{decodeOf}
-use Rattle.wire.specs.declared.Decoded.{Decoded}
-use Rattle.wire.specs.declared.Decoded.the-variants as D
+use Rattle.message_reading.specs.Reading.{decodeOf}
+use Rattle.message_reading.specs.declared.Decoded.{Decoded}
+use Rattle.message_reading.specs.declared.Decoded.the-variants as D
 use Rattle.neighbour.specs.declared.Neighbour.{Neighbour}
 use Rattle.neighbour.specs.Record.{acquired}
 use Rattle.neighbour.specs.Rules.{oneOf, indicates}
-use Rattle.machine.specs.declared.Event.{Event}
-use Rattle.machine.specs.declared.Event.the-variants.{Received, Start, Stop, Tick}
-use Rattle.machine.specs.Intrinsics.{asEvent}
+use Rattle.neighbour_machine.specs.declared.Event.{Event}
+use Rattle.neighbour_machine.specs.declared.Event.the-variants.{Received, Start, Stop, Tick}
+use Rattle.neighbour_machine.specs.Intrinsics.{asEvent}
 use Rattle.model.specs.Model.{Call, add, remove, happen, receive, listing, Model, slotIn, placeOf, step}
 use Rattle.model.specs.History.{accepts, rowsSaid}
 use Rattle.model.specs.Theorem.{cell}

@@ -9,8 +9,6 @@ use lib.Seq.{getD-drop, sets, sets-eq, take-at, drop-at, drop-drop}
 use Rattle.checks.proofs.Laws.{part-from}
 use Rattle.octets.specs.Numbers.{word16, word32}
 use Rattle.octets.specs.Buffer.{over}
-use Rattle.octets.specs.Checksum.{sealed}
-use Rattle.octets.proofs.Laws.{sealed-length}
 
 -- ---- read
 
@@ -52,16 +50,3 @@ over-more head more buffer x y at e n f room =
     let h : length head ≤ length buffer = omega arith in
     let k : length (head ++ more) ≤ length buffer = rw (length-append head more) room in
     rw (f, e, n, ← (sets-over buffer head h), ← (sets-over buffer (head ++ more) k)) (sym (sets-append buffer 0 head more ∙ rw zero-add))
-
--- a message at the front of a buffer, its checksum filled in there
-pub over-sealed : (message buffer x : List ℕ) (end : ℕ) → x ≡ over message buffer → end ≡ length message
-    → sealed (take end x) ++ drop end x ≡ over (sealed message) buffer
-unfolding over
-over-sealed message buffer x end e n =
-    rw (
-      e,
-      n,
-      take-at message (drop (length message) buffer) (length message) refl,
-      drop-at message (drop (length message) buffer) (length message) refl,
-      sealed-length message,
-    )

@@ -1,5 +1,3 @@
 pub mod Numbers
 pub mod Buffer
-pub mod Checksum
-pub mod Wide
-pub mod Sheet
+pub mod Written

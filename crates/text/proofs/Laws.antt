@@ -8,8 +8,8 @@ use mathlib.Core.List.{List, [], _∷_, _++_, append-assoc}
 use borrow.Author.Tests.{lt-ltb, le-ltb, ltb-true, ltb-false}
 use lib.Dec.{ltb}
 use lib.ListN.{length, set, length-append}
-use Rattle.storing.specs.Written.{Written}
-use Rattle.storing.proofs.Storing.{written-one, written-append, Writing, start, room, turn, last}
+use Rattle.octets.specs.Written.{Written}
+use Rattle.octets.proofs.Storing.{written-one, written-append, Writing, start, room, turn, last}
 use Rattle.text.specs.Text.{text, digit, digits, decimal, dotted, line}
 use Rattle.text.specs.Claims.{numberFrom, DecimalLaws, Lengths}
 use Rattle.text.specs.Steps.{beforeDot}

@@ -3,7 +3,7 @@ ghost use mathlib.Core.Path.{_≡_};
 ghost use mathlib.Core.List.{[], _∷_};
 ghost use Prim.Native.Nat.{_+_, _≤_, _<_};
 ghost use lib.ListN.{length};
-ghost use Rattle.storing.specs.Written.{Written};
+ghost use Rattle.octets.specs.Written.{Written};
 ghost use Rattle.text.specs.Text.{decimal, dotted, line};
 ghost use Rattle.text.specs.Steps.{beforeDot};
 
@@ -27,7 +27,7 @@ fn put_before_dot(out: &mut [u8], at: usize, n: u32) -> usize
     ensures { λ r. ⌜ Written (beforeDot n) at (now (out .entry)) (now (out .exit)) r ⌝ }
 {
     let end = put_decimal(out, at, n);
-    storing::put(out, end, b".")
+    octets::put(out, end, b".")
 }
 
 // Writes an address as a dotted quad.
@@ -55,8 +55,8 @@ pub fn put_line_text(out: &mut [u8], at: usize, name: &[u8], value: &[u8]) -> us
     requires { ⌜ at + length (line (now name) (now value)) ≤ length (now out) ⌝ }
     ensures { λ r. ⌜ Written (line (now (name .entry)) (now (value .entry))) at (now (out .entry)) (now (out .exit)) r ⌝ }
 {
-    let start = storing::put(out, at, name);
-    let end = storing::put(out, start, value);
+    let start = octets::put(out, at, name);
+    let end = octets::put(out, start, value);
     put_end(out, end)
 }
 
@@ -65,7 +65,7 @@ pub fn put_line_decimal(out: &mut [u8], at: usize, name: &[u8], n: u32) -> usize
     requires { ⌜ at + length (line (now name) (decimal n)) ≤ length (now out) ⌝ }
     ensures { λ r. ⌜ Written (line (now (name .entry)) (decimal n)) at (now (out .entry)) (now (out .exit)) r ⌝ }
 {
-    let start = storing::put(out, at, name);
+    let start = octets::put(out, at, name);
     let end = put_decimal(out, start, n);
     put_end(out, end)
 }
@@ -75,7 +75,7 @@ pub fn put_line_dotted(out: &mut [u8], at: usize, name: &[u8], address: u32) -> 
     requires { ⌜ at + length (line (now name) (dotted address)) ≤ length (now out) ⌝ }
     ensures { λ r. ⌜ Written (line (now (name .entry)) (dotted address)) at (now (out .entry)) (now (out .exit)) r ⌝ }
 {
-    let start = storing::put(out, at, name);
+    let start = octets::put(out, at, name);
     let end = put_dotted(out, start, address);
     put_end(out, end)
 }

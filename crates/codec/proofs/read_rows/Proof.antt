@@ -1,4 +1,4 @@
-use Rattle.rows.specs.Storing.{zeros}
+use Rattle.update_rows.specs.Storing.{zeros}
 use Rattle.codec.proofs.ReadLaws.{rowless-read}
 use Rattle.codec.specs.Reading.{rowless, meaningReading}
 use borrow.Author.Needs.{needs}

@@ -1,5 +1,5 @@
 use mathlib.Core.Path.{refl}
-use Rattle.rows.specs.Storing.{zeros}
+use Rattle.update_rows.specs.Storing.{zeros}
 use Rattle.codec.specs.Reading.{refusal}
 use Rattle.codec.proofs.refuse.Statement.{statement}
 use Rattle.codec.proofs.refuse.Tie as tie

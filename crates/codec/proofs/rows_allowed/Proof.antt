@@ -1,6 +1,6 @@
 use mathlib.Core.Path.{sym}
 use Rattle.codec.specs.Writing.{rowsAllowed}
-use Rattle.writing.specs.Room.{rowsFit}
+use Rattle.codec_writing.specs.Room.{rowsFit}
 use Rattle.codec.proofs.Laws.{other-rows}
 use borrow.Author.Needs.{needs}
 use Rattle.codec.proofs.rows_allowed.Statement.{statement}

@@ -1,4 +1,4 @@
-use Rattle.writing.proofs.Laws.{room-most}
+use Rattle.codec_writing.proofs.Laws.{room-most}
 use Rattle.codec.proofs.Laws.{allowed-fits}
 use mathlib.Core.Path.{_∙_, sym}
 use borrow.Author.Tests.{not-true, not-false}

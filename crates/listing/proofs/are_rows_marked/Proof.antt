@@ -2,7 +2,7 @@
 use Rattle.checks.proofs.Laws.{part-from}
 use Rattle.checks.specs.Lists.{every}
 use Rattle.listing.proofs.Laws.{marked-not, marked-next, marked-end}
-use Rattle.lines.specs.Listing.{markedRow}
+use Rattle.listing_lines.specs.Listing.{markedRow}
 use Rattle.nets.specs.Rows.{rowsOf}
 use lib.ListN.{length, length-drop}
 use mathlib.Core.Path.{_≡_, refl, sym, _∙_}

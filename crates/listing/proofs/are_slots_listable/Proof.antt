@@ -1,8 +1,8 @@
 -- `listing::are_slots_listable` meets its contract. The loop keeps: the used slots left decide for all. Assumes nothing.
 use Rattle.checks.specs.Lists.{every}
 use Rattle.listing.proofs.Laws.{left, listable-not, listable-more, listable-end}
-use Rattle.lines.specs.Listing.{entries, listable}
-use Rattle.state.proofs.ListLaws.{unmapped}
+use Rattle.listing_lines.specs.Listing.{entries, listable}
+use Rattle.gateway_state.proofs.ListLaws.{unmapped}
 use lib.ListN.{length}
 use mathlib.Core.Path.{_≡_, refl, sym, _∙_}
 use Prim.Native.Nat.{_-_, _≤_}

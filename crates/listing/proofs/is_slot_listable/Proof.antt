@@ -1,8 +1,8 @@
 -- `listing::is_slot_listable` meets its contract. Assumes nothing.
 use Rattle.listing.proofs.Laws.{used-listable, free-listable}
-use Rattle.state.specs.Slots.{freeSlot, slotAt}
-use Rattle.state.specs.Places.{rowCounts, place}
-use Rattle.state.proofs.Theorems.{formed-slot}
+use Rattle.gateway_state.specs.Slots.{freeSlot, slotAt}
+use Rattle.gateway_state.specs.Places.{rowCounts, place}
+use Rattle.gateway_state.proofs.Theorems.{formed-slot}
 use Rattle.neighbour.specs.Record.{idle}
 use mathlib.Core.Path.{sym, _∙_}
 use native.Mathlib.Omega.{arith}

@@ -1,8 +1,8 @@
 -- `listing::neighbours` meets its contract. The loop keeps: the used slots counted and those left are all. Assumes nothing.
 use Rattle.listing.proofs.Laws.{left, count-free, count-used, count-end}
-use Rattle.lines.specs.Listing.{entries}
-use Rattle.state.proofs.ListLaws.{unmapped}
-use Rattle.state.specs.Slots.{freeSlot, slotAt}
+use Rattle.listing_lines.specs.Listing.{entries}
+use Rattle.gateway_state.proofs.ListLaws.{unmapped}
+use Rattle.gateway_state.specs.Slots.{freeSlot, slotAt}
 use Rattle.neighbour.specs.Record.{idle}
 use lib.ListN.{length}
 use mathlib.Core.List.{List}

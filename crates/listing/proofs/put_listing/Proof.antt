@@ -1,7 +1,7 @@
 -- `listing::put_listing` meets its contract: how many neighbours, then each. Assumes nothing.
 use Rattle.listing.proofs.Laws.{count-room, slots-room, all-done}
 use Rattle.listing.specs.Steps.{slotsText}
-use Rattle.lines.specs.Listing.{entries}
+use Rattle.listing_lines.specs.Listing.{entries}
 use Rattle.text.specs.Text.{text}
 use borrow.Author.Needs.{needs}
 use Rattle.listing.proofs.put_listing.Statement.{statement}

@@ -1,8 +1,8 @@
 -- `listing::put_slot` meets its contract: nothing of a free slot, else its head and its rows. Assumes nothing.
 use Rattle.listing.proofs.Laws.{part-long, head-room, rows-room, slot-done, free-written}
-use Rattle.state.specs.Slots.{freeSlot, slotAt}
-use Rattle.state.specs.Places.{rowCounts, place}
-use Rattle.state.proofs.Theorems.{formed-slot}
+use Rattle.gateway_state.specs.Slots.{freeSlot, slotAt}
+use Rattle.gateway_state.specs.Places.{rowCounts, place}
+use Rattle.gateway_state.proofs.Theorems.{formed-slot}
 use Rattle.neighbour.specs.Record.{idle}
 use native.Mathlib.Omega.{arith}
 use borrow.Author.Needs.{needs}

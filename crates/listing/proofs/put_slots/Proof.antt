@@ -1,9 +1,9 @@
 -- `listing::put_slots` meets its contract. The loop keeps what is left to write. Assumes nothing.
 use Rattle.listing.proofs.Laws.{left, textLeft, text-turn, text-end}
 use Rattle.listing.specs.Steps.{slotText, slotsText}
-use Rattle.lines.specs.Listing.{entries}
-use Rattle.state.proofs.ListLaws.{unmapped}
-use Rattle.storing.proofs.Storing.{Writing, start, room, turn, done}
+use Rattle.listing_lines.specs.Listing.{entries}
+use Rattle.gateway_state.proofs.ListLaws.{unmapped}
+use Rattle.octets.proofs.Storing.{Writing, start, room, turn, done}
 use lib.ListN.{length}
 use mathlib.Core.Path.{_≡_}
 use Prim.Native.Nat.{_+_, _-_, _≤_}

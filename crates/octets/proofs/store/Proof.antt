@@ -1,5 +1,5 @@
 use mathlib.Core.Path.{_∙_}
-use Rattle.octets.proofs.Laws.{over-copied}
+use Rattle.octets.proofs.Buffer.{over-copied}
 use borrow.Author.Needs.{needs}
 use Rattle.octets.proofs.store.Statement.{statement}
 use Rattle.octets.proofs.store.Tie as tie

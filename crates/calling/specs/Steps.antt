@@ -1,8 +1,0 @@
--- What is left of a call once its lines are written.
-use Prim.Native.Nat.{ℕ}
-use Rattle.state.specs.declared.Outcome.{Outcome}
-use Rattle.calling.specs.declared.Called.{Called}
-
--- its state and its number, with so many octets of lines
-unfoldable pub toldOf : Outcome → ℕ → Called
-toldOf o written = record { state = o .state; answer = o .answer; written = written }

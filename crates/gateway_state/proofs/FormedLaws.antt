@@ -1,0 +1,81 @@
+-- Laws of well-formedness. Assumes nothing.
+use Prim.Native.Nat.{ℕ}
+use mathlib.Core.Path.{_≡_, refl, sym, _∙_, ap}
+use mathlib.Core.Bool.{Bool, true, false, not, false≢true}
+use lib.Dec.{eqb}
+use borrow.Author.Tests.{eqb-true, ne-eqb}
+use Rattle.checks.proofs.Laws.{and-left, and-right}
+use Rattle.neighbour.specs.declared.Phase.{Phase}
+use Rattle.neighbour.specs.declared.Phase.the-variants.{Idle, Acquisition, Down, Up, Cease}
+use Rattle.neighbour.specs.declared.Mode.{Mode}
+use Rattle.neighbour.specs.declared.Mode.the-variants.{Unset, Active, Passive}
+use Rattle.neighbour.specs.declared.Neighbour.{Neighbour}
+use Rattle.neighbour.specs.declared.Settings.{Settings}
+use Rattle.neighbour.specs.Record.{idle, isIdle, under}
+use Rattle.neighbour_wellformed.specs.Formed.{isUnset, allZero, idleFormed, timersBelow, timersRun, t2Formed, registerFormed, intervalsFormed, causeFormed, wellFormed}
+use Rattle.gateway_state.specs.Formed.{goodPeer}
+
+is-idle : (phase : Phase) → isIdle phase ≡ true → phase ≡ Idle
+is-idle Idle e = refl
+is-idle Acquisition e = absurd (false≢true e)
+is-idle Down e = absurd (false≢true e)
+is-idle Up e = absurd (false≢true e)
+is-idle Cease e = absurd (false≢true e)
+
+is-unset : (mode : Mode) → isUnset mode ≡ true → mode ≡ Unset
+is-unset Unset e = refl
+is-unset Active e = absurd (false≢true e)
+is-unset Passive e = absurd (false≢true e)
+
+-- there is one record in Idle that is all zero
+module _ (n : Neighbour) (i : isIdle (n .phase) ≡ true) where
+  pub zero-idle : allZero n ≡ true → n ≡ idle
+  unfolding allZero idle
+  zero-idle e =
+      let s : n .s ≡ 0 = eqb-true _ _ (search (and-left, and-right) depth 14) in
+      let r : n .r ≡ 0 = eqb-true _ _ (search (and-left, and-right) depth 14) in
+      let hello : n .hello ≡ 0 = eqb-true _ _ (search (and-left, and-right) depth 14) in
+      let poll : n .poll ≡ 0 = eqb-true _ _ (search (and-left, and-right) depth 14) in
+      let t1 : n .t1 ≡ 0 = eqb-true _ _ (search (and-left, and-right) depth 14) in
+      let t2 : n .t2 ≡ 0 = eqb-true _ _ (search (and-left, and-right) depth 14) in
+      let t3 : n .t3 ≡ 0 = eqb-true _ _ (search (and-left, and-right) depth 14) in
+      let mode : n .mode ≡ Unset = is-unset (n .mode) (search (and-left, and-right) depth 14) in
+      let register : n .register ≡ 0 = eqb-true _ _ (search (and-left, and-right) depth 14) in
+      let heard : n .heard ≡ 0 = eqb-true _ _ (search (and-left, and-right) depth 14) in
+      let cause : n .cause ≡ 0 = eqb-true _ _ (search (and-left, and-right) depth 14) in
+      λ k. record {
+        s = s k;
+        r = r k;
+        hello = hello k;
+        poll = poll k;
+        t1 = t1 k;
+        t2 = t2 k;
+        t3 = t3 k;
+        phase = is-idle (n .phase) i k;
+        mode = mode k;
+        register = register k;
+        heard = heard k;
+        cause = cause k;
+      }
+
+pub idle-formed : wellFormed idle ≡ true
+unfolding wellFormed idle idleFormed allZero timersBelow timersRun t2Formed registerFormed intervalsFormed causeFormed under
+idle-formed = refl
+
+some-formed : (n : Neighbour) → isIdle (n .phase) ≡ true → allZero n ≡ false → wellFormed n ≡ false
+unfolding wellFormed idleFormed
+some-formed n i e = rw (i, e)
+
+-- in Idle, well formed and all zero are the same
+pub idle-zero : (n : Neighbour) → isIdle (n .phase) ≡ true → wellFormed n ≡ allZero n
+idle-zero n i = go (allZero n) refl
+  where
+    go : (b : Bool) → allZero n ≡ b → wellFormed n ≡ allZero n
+    go true e = ap wellFormed (zero-idle n i e) ∙ idle-formed ∙ sym e
+    go false e = some-formed n i e ∙ sym e
+
+-- the last test of a conjunction decides it
+pub peer-last : (g : Settings) (address asn : ℕ) → (asn ≡ 0 → ⊥) → (asn ≡ g .asn → ⊥) → (address ≡ 0 → ⊥)
+    → not (eqb address (g .own)) ≡ goodPeer g address asn
+unfolding goodPeer
+peer-last g address asn a b c = rw (ne-eqb asn 0 a, ne-eqb asn (g .asn) b, ne-eqb address 0 c)

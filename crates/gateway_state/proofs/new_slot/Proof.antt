@@ -1,0 +1,12 @@
+use borrow.Author.Needs.{needs}
+use Rattle.gateway_state.proofs.new_slot.Statement.{statement}
+use Rattle.gateway_state.proofs.new_slot.Tie as tie
+
+to-idle-requires : tie.Need-to-idle-requires
+to-idle-requires c κs = search needs
+
+returns : tie.Need-returns
+returns c = rw (c .to-idle .ensures)
+
+pub new-slot-spec : {M : Type 1} → statement M
+new-slot-spec = tie.close (tie.spec to-idle-requires returns)

@@ -1,0 +1,444 @@
+-- The laws of specs/Laws.antt. Assumes nothing.
+use Prim.Native.Nat.{ℕ, _-_, _≤_}
+use native.Mathlib.Omega.{arith}
+use mathlib.Core.Path.{_≡_, refl, sym, subst, ap, _∙_}
+use mathlib.Core.Bool.{Bool, true, false, cond, not, _&&_, _||_, and-false}
+use lib.Dec.{eqb}
+use borrow.Author.Tests.{eqb-false}
+use Rattle.checks.proofs.Laws.{cond-elim, and-left}
+use Rattle.message.specs.Kinds.{kindOf, sequenceOf, statusOf}
+use Rattle.message.specs.declared.Message.{Message}
+use Rattle.message.specs.declared.Message.the-variants as M
+use Rattle.message.specs.declared.Kind.the-variants as K
+use Rattle.neighbour.specs.declared.Phase.{Phase}
+use Rattle.neighbour.specs.declared.Phase.the-variants.{Idle, Acquisition, Down, Up, Cease}
+use Rattle.neighbour.specs.declared.Mode.{Mode}
+use Rattle.neighbour.specs.declared.Mode.the-variants.{Unset, Active, Passive}
+use Rattle.neighbour.specs.declared.Settings.{Settings}
+use Rattle.neighbour.specs.declared.Neighbour.{Neighbour}
+use Rattle.neighbour_messages.specs.declared.Head.{Head}
+use Rattle.neighbour.specs.Record.{under, isIdle, acquired, idle, leftIdle, waiting, initialised, withNumbers, withTimers, withReach, heardFrom, shifted, enterUp, leaveUp, polled, isUp}
+use Rattle.neighbour.specs.Rules.{isCommand, commanded, indicates, noted, offerOf, goesUp, goesDown, onesOf, judged}
+use Rattle.neighbour_messages.specs.Sent.{helloMessage, pollMessage}
+use Rattle.neighbour_wellformed.specs.Formed.{isUnset, wellFormed}
+use Rattle.neighbour_wellformed.proofs.Formed.{at, Fine, offer-elim, idle-ok, idle-only, acquisition-ok, cease-5-ok, cease-6-ok, initialised-ok, numbers-ok, heard-ok, timers-ok, timer-bounds, fine-down, fine-up, t2-down, t2-up, t2-elsewhere, down-ok, up-ok, moded}
+use Rattle.neighbour_machine.specs.declared.Event.{Event}
+use Rattle.neighbour_machine.specs.declared.Event.the-variants.{Received, Start, Stop, Tick}
+use Rattle.neighbour_machine.specs.declared.Reply.{Reply}
+use Rattle.neighbour_machine.specs.declared.Reply.the-variants.{Nothing, One, Two}
+use Rattle.neighbour_machine.specs.declared.After.{After}
+use Rattle.neighbour_machine.specs.Table.{followed, quiet, answers, says, helloIf, doesA, doesB, ceases, repeatsCease, acquires, stray, onRequest, settles, onConfirm, onRefuse, onCease, onCeaseAck, onHello, onIHeardYou, answersPoll, onPoll, onUpdate, onStart, onStop}
+use Rattle.neighbour_machine.specs.Tick.{expired, repeats, listens, polls, pollsOnEntry, takesT2, pollsInUp, runs, onTick}
+use Rattle.neighbour_machine.specs.Step.{onMessage, stepOf}
+use Rattle.neighbour_machine.specs.Laws.{isPoll, sendsPoll, brought, isTick, Lawful, StepLawful, IdleIsZero, T2OnlyInUp, ErrorIgnored, UpdateStaysUp}
+
+never : {A : Type 0} → true ≡ false → A
+never e = let z : _≡_ {A = ℕ} 0 1 = cc in absurd (omega arith)
+
+-- the outcomes that a row may have, outside Idle
+module _ (n : Neighbour) (tick : Bool) where
+  stays : (p : Phase) → isIdle p ≡ false → wellFormed (at n p) ≡ true → (reply : Reply) → sendsPoll reply ≡ false
+      → Lawful p (n .s) (n .r) tick (record { neighbour = at n p; reply = reply })
+  stays Idle i h reply e = never i
+  stays Acquisition i h reply e = record { formed = h; s-moves = rw e; r-moves = refl; up-entered = refl }
+  stays Down i h reply e = record { formed = h; s-moves = rw e; r-moves = refl; up-entered = refl }
+  stays Up i h reply e = record { formed = h; s-moves = rw e; r-moves = refl; up-entered = refl }
+  stays Cease i h reply e = record { formed = h; s-moves = rw e; r-moves = refl; up-entered = refl }
+
+  -- another record with the same S and R that is neither Idle nor Up
+  moves : (p : Phase) → isIdle p ≡ false → (m : Neighbour) → isIdle (m .phase) ≡ false → isUp (m .phase) ≡ false
+      → m .s ≡ n .s → m .r ≡ n .r → wellFormed m ≡ true → (reply : Reply) → sendsPoll reply ≡ false
+      → Lawful p (n .s) (n .r) tick (record { neighbour = m; reply = reply })
+  moves p i m j u s r h reply e = record { formed = h; s-moves = rw (i, j, e) s; r-moves = rw j r; up-entered = rw u }
+
+gone : (p : Phase) (s r : ℕ) (tick : Bool) (reply : Reply) → Lawful p s r tick (record { neighbour = idle; reply = reply })
+unfolding idle
+gone p s r tick reply = record { formed = idle-ok; s-moves = rw (or-true (isIdle p)); r-moves = refl; up-entered = refl }
+  where
+    or-true : (b : Bool) → (b || true) ≡ true
+    or-true true = refl
+    or-true false = refl
+
+module _ (g : Settings) where
+  -- A and B, from a record that is left with its S and R
+  does-a : (n : Neighbour) (tick : Bool) (p : Phase) → isIdle p ≡ false → (h q : ℕ) (m : Mode)
+      → 32 ≤ h → h ≤ 122 → 122 ≤ q → q ≤ 482 → isUnset m ≡ false → Lawful p (n .s) (n .r) tick (doesA g n h q m)
+  unfolding doesA answers says followed helloIf initialised
+  does-a n tick p i h q Unset a b c d e = moves n tick p i (initialised n h q Unset) refl refl refl refl (initialised-ok n h q Unset a b c d e) (One _) refl
+  does-a n tick p i h q Active a b c d e = moves n tick p i (initialised n h q Active) refl refl refl refl (initialised-ok n h q Active a b c d e) (Two _ _) refl
+  does-a n tick p i h q Passive a b c d e = moves n tick p i (initialised n h q Passive) refl refl refl refl (initialised-ok n h q Passive a b c d e) (One _) refl
+
+  does-b : (n : Neighbour) (tick : Bool) (p : Phase) → isIdle p ≡ false → (h q : ℕ) (m : Mode)
+      → 32 ≤ h → h ≤ 122 → 122 ≤ q → q ≤ 482 → isUnset m ≡ false → Lawful p (n .s) (n .r) tick (doesB g n h q m)
+  unfolding doesB quiet says followed helloIf initialised
+  does-b n tick p i h q Unset a b c d e = moves n tick p i (initialised n h q Unset) refl refl refl refl (initialised-ok n h q Unset a b c d e) Nothing refl
+  does-b n tick p i h q Active a b c d e = moves n tick p i (initialised n h q Active) refl refl refl refl (initialised-ok n h q Active a b c d e) (One _) refl
+  does-b n tick p i h q Passive a b c d e = moves n tick p i (initialised n h q Passive) refl refl refl refl (initialised-ok n h q Passive a b c d e) Nothing refl
+
+  -- A out of Idle
+  leaves-idle : (sequence h q : ℕ) (m : Mode) → 32 ≤ h → h ≤ 122 → 122 ≤ q → q ≤ 482 → isUnset m ≡ false
+      → Lawful Idle 0 sequence false (doesA g (leftIdle sequence) h q m)
+  unfolding doesA answers says followed helloIf initialised leftIdle withNumbers idle
+  leaves-idle sequence h q Unset a b c d e = record { formed = initialised-ok (leftIdle sequence) h q Unset a b c d e; s-moves = refl; r-moves = refl; up-entered = refl }
+  leaves-idle sequence h q Active a b c d e = record { formed = initialised-ok (leftIdle sequence) h q Active a b c d e; s-moves = refl; r-moves = refl; up-entered = refl }
+  leaves-idle sequence h q Passive a b c d e = record { formed = initialised-ok (leftIdle sequence) h q Passive a b c d e; s-moves = refl; r-moves = refl; up-entered = refl }
+
+  -- Cease 5, Cease 6 and Acquisition, from any state but Idle
+  ceases-5 : (n : Neighbour) (tick : Bool) (p : Phase) → isIdle p ≡ false → wellFormed n ≡ true → Lawful p (n .s) (n .r) tick (ceases g n 5)
+  unfolding ceases answers waiting
+  ceases-5 n tick p i h = moves n tick p i (waiting n Cease 5) refl refl refl refl (cease-5-ok n h) (One _) refl
+
+  ceases-6 : (n : Neighbour) (tick : Bool) (p : Phase) → isIdle p ≡ false → wellFormed n ≡ true → Lawful p (n .s) (n .r) tick (ceases g n 6)
+  unfolding ceases answers waiting
+  ceases-6 n tick p i h = moves n tick p i (waiting n Cease 6) refl refl refl refl (cease-6-ok n h) (One _) refl
+
+  acquires-on : (n : Neighbour) (tick : Bool) (p : Phase) → isIdle p ≡ false → wellFormed n ≡ true → Lawful p (n .s) (n .r) tick (acquires g n)
+  unfolding acquires answers waiting
+  acquires-on n tick p i h = moves n tick p i (waiting n Acquisition 0) refl refl refl refl (acquisition-ok n h) (One _) refl
+
+  -- the rows of messages, outside Idle
+  module _ (n : Neighbour) where
+    request-row : (sequence : ℕ) (asn status hello poll : ℕ) (p : Phase) → isIdle p ≡ false → wellFormed (at n p) ≡ true
+        → Lawful p (n .s) (n .r) false (onRequest g (at n p) sequence (offerOf g asn status hello poll))
+    unfolding onRequest repeatsCease quiet answers under
+    request-row sequence asn status hello poll Idle i h = never i
+    request-row sequence asn status hello poll Acquisition i h =
+        offer-elim g asn status hello poll (λ o. Lawful Acquisition (n .s) (n .r) false (onRequest g (at n Acquisition) sequence o))
+        (does-a (at n Acquisition) false Acquisition i) (gone Acquisition (n .s) (n .r) false Nothing)
+    request-row sequence asn status hello poll Down i h =
+        offer-elim g asn status hello poll (λ o. Lawful Down (n .s) (n .r) false (onRequest g (at n Down) sequence o))
+        (does-a (at n Down) false Down i) (ceases-6 (at n Down) false Down i h)
+    request-row sequence asn status hello poll Up i h =
+        offer-elim g asn status hello poll (λ o. Lawful Up (n .s) (n .r) false (onRequest g (at n Up) sequence o))
+        (does-a (at n Up) false Up i) (ceases-6 (at n Up) false Up i h)
+    request-row sequence asn status hello poll Cease i h =
+        offer-elim g asn status hello poll (λ o. Lawful Cease (n .s) (n .r) false (onRequest g (at n Cease) sequence o))
+        (λ a b c d e f k l. stays n false Cease i h (One _) refl) (stays n false Cease i h (One _) refl)
+
+    confirm-row : (asn status hello poll : ℕ) (p : Phase) → isIdle p ≡ false → wellFormed (at n p) ≡ true
+        → Lawful p (n .s) (n .r) false (onConfirm g (at n p) (offerOf g asn status hello poll))
+    unfolding onConfirm settles quiet under
+    confirm-row asn status hello poll Idle i h = never i
+    confirm-row asn status hello poll Acquisition i h =
+        offer-elim g asn status hello poll (λ o. Lawful Acquisition (n .s) (n .r) false (onConfirm g (at n Acquisition) o))
+        (does-b (at n Acquisition) false Acquisition i) (gone Acquisition (n .s) (n .r) false Nothing)
+    confirm-row asn status hello poll Down i h = stays n false Down i h Nothing refl
+    confirm-row asn status hello poll Up i h = stays n false Up i h Nothing refl
+    confirm-row asn status hello poll Cease i h = stays n false Cease i h Nothing refl
+
+    refuse-row : (p : Phase) → isIdle p ≡ false → wellFormed (at n p) ≡ true → Lawful p (n .s) (n .r) false (onRefuse g (at n p))
+    unfolding onRefuse quiet under
+    refuse-row Idle i h = never i
+    refuse-row Acquisition i h = gone Acquisition (n .s) (n .r) false Nothing
+    refuse-row Down i h = stays n false Down i h Nothing refl
+    refuse-row Up i h = stays n false Up i h Nothing refl
+    refuse-row Cease i h = stays n false Cease i h Nothing refl
+
+    cease-ack-row : (p : Phase) → isIdle p ≡ false → wellFormed (at n p) ≡ true → Lawful p (n .s) (n .r) false (onCeaseAck (at n p))
+    unfolding onCeaseAck quiet under
+    cease-ack-row Idle i h = never i
+    cease-ack-row Acquisition i h = stays n false Acquisition i h Nothing refl
+    cease-ack-row Down i h = stays n false Down i h Nothing refl
+    cease-ack-row Up i h = stays n false Up i h Nothing refl
+    cease-ack-row Cease i h = gone Cease (n .s) (n .r) false Nothing
+
+    hello-row : (p : Phase) → isIdle p ≡ false → wellFormed (at n p) ≡ true → Lawful p (n .s) (n .r) false (onHello g (at n p))
+    unfolding onHello quiet answers under
+    hello-row Idle i h = never i
+    hello-row Acquisition i h = stays n false Acquisition i h Nothing refl
+    hello-row Down i h = stays n false Down i h (One _) refl
+    hello-row Up i h = stays n false Up i h (One _) refl
+    hello-row Cease i h = stays n false Cease i h Nothing refl
+
+    i-heard-you-row : (p : Phase) → isIdle p ≡ false → wellFormed (at n p) ≡ true → Lawful p (n .s) (n .r) false (onIHeardYou g (at n p))
+    unfolding onIHeardYou quiet under
+    i-heard-you-row Idle i h = never i
+    i-heard-you-row Acquisition i h = stays n false Acquisition i h Nothing refl
+    i-heard-you-row Down i h = stays n false Down i h Nothing refl
+    i-heard-you-row Up i h = stays n false Up i h Nothing refl
+    i-heard-you-row Cease i h = stays n false Cease i h Nothing refl
+
+    poll-row : (net : ℕ) (head : Head) (p : Phase) → isIdle p ≡ false → wellFormed (at n p) ≡ true
+        → Lawful p (n .s) (n .r) false (onPoll g (at n p) net head)
+    unfolding onPoll answersPoll quiet answers under
+    poll-row net head Idle i h = never i
+    poll-row net head Acquisition i h = stays n false Acquisition i h Nothing refl
+    poll-row net head Down i h = stays n false Down i h Nothing refl
+    poll-row net head Up i h =
+        cond-elim (Lawful Up (n .s) (n .r) false) (eqb net (g .net)) _ _
+        (λ _. stays n false Up i h (One _) refl) (λ _. stays n false Up i h (One _) refl)
+    poll-row net head Cease i h = stays n false Cease i h Nothing refl
+
+    update-row : (p : Phase) → isIdle p ≡ false → wellFormed (at n p) ≡ true → Lawful p (n .s) (n .r) false (onUpdate g (at n p))
+    unfolding onUpdate onIHeardYou
+    update-row p i h = i-heard-you-row p i h
+
+  message-lawful : (asn : ℕ) (n : Neighbour) (p : Phase) (m : Message) (head : Head) → isIdle p ≡ false → wellFormed (at n p) ≡ true
+      → Lawful p (n .s) (n .r) false (onMessage g asn (at n p) m head)
+  unfolding onMessage onCease answers quiet
+  message-lawful asn n p (M.Request a q s h o) head i f = request-row n q asn s h o p i f
+  message-lawful asn n p (M.Confirm a q s h o) head i f = confirm-row n asn s h o p i f
+  message-lawful asn n p (M.Refuse a q s) head i f = refuse-row n p i f
+  message-lawful asn n p (M.Cease a q s) head i f = gone p (n .s) (n .r) false (One _)
+  message-lawful asn n p (M.CeaseAck a q s) head i f = cease-ack-row n p i f
+  message-lawful asn n p (M.Hello a q s) head i f = hello-row n p i f
+  message-lawful asn n p (M.IHeardYou a q s) head i f = i-heard-you-row n p i f
+  message-lawful asn n p (M.Poll a q s net) head i f = poll-row n net head p i f
+  message-lawful asn n p (M.Update a q s net) head i f = update-row n p i f
+  message-lawful asn n p (M.Error a q s r x y z) head i f = stays n false p i f Nothing refl
+
+  -- an indication changes neither the phase nor S nor R
+  noted-lawful : (asn : ℕ) (n : Neighbour) (p : Phase) (m : Message) (head : Head) → isIdle p ≡ false → wellFormed (at n p) ≡ true
+      → Lawful p (n .s) (n .r) false (onMessage g asn (noted (at n p) m) m head)
+  unfolding noted heardFrom withReach withTimers
+  noted-lawful asn n p m head i f =
+      cond-elim (λ k. Lawful p (n .s) (n .r) false (onMessage g asn k m head))
+      (acquired p && indicates (n .mode) (kindOf m) (statusOf m)) (heardFrom (at n p)) (at n p)
+      (λ e. message-lawful asn (heardFrom (at n p)) p m head i (heard-ok n p (and-left (acquired p) _ e) f))
+      (λ _. message-lawful asn n p m head i f)
+
+  -- a command sets R, and a message that is no command leaves it
+  received-lawful : (asn : ℕ) (n : Neighbour) (p : Phase) (m : Message) (head : Head) → isIdle p ≡ false → wellFormed (at n p) ≡ true
+      → Lawful p (n .s) (brought (Received m) (n .r)) false (stepOf g asn (at n p) (Received m) head)
+  unfolding stepOf commanded withNumbers
+  received-lawful asn n p m head i f = rw i (go (isCommand (kindOf m)))
+    where
+      go : (b : Bool)
+          → Lawful p (n .s) (cond b (sequenceOf m) (n .r)) false
+          (onMessage g asn (noted (cond b (withNumbers (at n p) (n .s) (sequenceOf m)) (at n p)) m) m head)
+      go true = noted-lawful asn (withNumbers n (n .s) (sequenceOf m)) p m head i (numbers-ok n (n .s) (sequenceOf m) p i f)
+      go false = noted-lawful asn n p m head i f
+
+  -- the idle record
+  idle-received : (asn : ℕ) (m : Message) (head : Head) → Lawful Idle 0 (brought (Received m) 0) false (stepOf g asn idle (Received m) head)
+  unfolding stepOf noted commanded idle onMessage onRequest onConfirm onRefuse onCease onCeaseAck onHello onIHeardYou onPoll onUpdate stray quiet answers under
+  idle-received asn (M.Request a q s h o) head =
+      offer-elim g asn s h o (λ k. Lawful Idle 0 q false (onRequest g idle q k)) (leaves-idle q) (gone Idle 0 q false (One _))
+  idle-received asn (M.Confirm a q s h o) head = gone Idle 0 0 false Nothing
+  idle-received asn (M.Refuse a q s) head = gone Idle 0 0 false Nothing
+  idle-received asn (M.Cease a q s) head = gone Idle 0 q false (One _)
+  idle-received asn (M.CeaseAck a q s) head = gone Idle 0 0 false Nothing
+  idle-received asn (M.Hello a q s) head = gone Idle 0 q false Nothing
+  idle-received asn (M.IHeardYou a q s) head = gone Idle 0 0 false Nothing
+  idle-received asn (M.Poll a q s net) head = gone Idle 0 q false Nothing
+  idle-received asn (M.Update a q s net) head = gone Idle 0 0 false Nothing
+  idle-received asn (M.Error a q s r x y z) head = gone Idle 0 0 false Nothing
+
+  idle-lawful : (asn : ℕ) (event : Event) (head : Head) → Lawful Idle 0 (brought event 0) (isTick event) (stepOf g asn idle event head)
+  unfolding stepOf onStart onStop onTick acquires answers waiting leftIdle withNumbers idle quiet under
+  idle-lawful asn (Received m) head = idle-received asn m head
+  idle-lawful asn Start head = record { formed = acquisition-ok (leftIdle 0) idle-ok; s-moves = refl; r-moves = refl; up-entered = refl }
+  idle-lawful asn Stop head = gone Idle 0 0 false Nothing
+  idle-lawful asn Tick head = gone Idle 0 0 true Nothing
+
+  idle-all : (asn : ℕ) (event : Event) (head : Head)
+      → Lawful (idle .phase) (idle .s) (brought event (idle .r)) (isTick event) (stepOf g asn idle event head)
+  unfolding idle
+  idle-all asn event head = idle-lawful asn event head
+
+  start-lawful : (n : Neighbour) (p : Phase) → isIdle p ≡ false → wellFormed (at n p) ≡ true → Lawful p (n .s) (n .r) false (onStart g (at n p))
+  unfolding onStart quiet under
+  start-lawful n Idle i h = never i
+  start-lawful n Acquisition i h = acquires-on (at n Acquisition) false Acquisition i h
+  start-lawful n Down i h = acquires-on (at n Down) false Down i h
+  start-lawful n Up i h = acquires-on (at n Up) false Up i h
+  start-lawful n Cease i h = stays n false Cease i h Nothing refl
+
+  stop-lawful : (n : Neighbour) (tick : Bool) (p : Phase) → isIdle p ≡ false → wellFormed (at n p) ≡ true → Lawful p (n .s) (n .r) tick (onStop g (at n p))
+  unfolding onStop quiet under
+  stop-lawful n tick Idle i h = never i
+  stop-lawful n tick Acquisition i h = gone Acquisition (n .s) (n .r) tick Nothing
+  stop-lawful n tick Down i h = ceases-5 (at n Down) tick Down i h
+  stop-lawful n tick Up i h = ceases-5 (at n Up) tick Up i h
+  stop-lawful n tick Cease i h = gone Cease (n .s) (n .r) tick Nothing
+
+  -- the tick
+  hello-elim : (P : After → Type 0) (mode : Mode) (x : After) → P x → P (says x (helloMessage g (x .neighbour))) → P (helloIf mode g x)
+  unfolding helloIf
+  hello-elim P Unset x p q = p
+  hello-elim P Active x p q = q
+  hello-elim P Passive x p q = p
+
+  repeats-lawful : (n : Neighbour) (p : Phase) (m : Message) → isPoll m ≡ false → isIdle p ≡ false → wellFormed (at n p) ≡ true
+      → Lawful p (n .s) (n .r) true (repeats (at n p) m)
+  unfolding repeats answers quiet withTimers
+  repeats-lawful n p m e i h =
+      let t = timer-bounds n p i h in
+      cond-elim (Lawful p (n .s) (n .r) true) (eqb (n .t1 - 1) 0) _ _
+      (λ z. stays (withTimers n 30 (n .t2) (n .t3)) true p i (timers-ok n 30 (n .t3) p i (omega arith) (omega arith) (t .2) (t .3) h) (One m) e)
+      (λ z.
+      let k = eqb-false (n .t1 - 1) 0 z in
+      stays (withTimers n (n .t1 - 1) (n .t2) (n .t3)) true p i
+      (timers-ok n (n .t1 - 1) (n .t3) p i (omega (arith, k)) (omega arith) (t .2) (t .3) h) Nothing refl)
+
+  takes-t2 : (k : Neighbour) (reply : Reply) → sendsPoll reply ≡ false → ((m : Neighbour) → sendsPoll (followed reply (pollMessage g m)) ≡ true)
+      → Fine k → 1 ≤ k .t2 → k .t2 ≤ 482 → isUnset (k .mode) ≡ false
+      → Lawful Up (k .s) (k .r) true (takesT2 g (record { neighbour = at k Up; reply = reply }))
+  unfolding takesT2 polls says polled withNumbers withTimers
+  takes-t2 k reply q p f a b u =
+      cond-elim (Lawful Up (k .s) (k .r) true) (eqb (k .t2 - 1) 0) _ _
+      (λ z.
+      record {
+        formed = up-ok (polled (at k Up)) refl (omega arith) (omega arith) (omega arith) u;
+        s-moves = rw (p (polled (at k Up)));
+        r-moves = refl;
+        up-entered = refl;
+      })
+      (λ z.
+      let w = eqb-false (k .t2 - 1) 0 z in
+      record {
+        formed = up-ok (withTimers (at k Up) (k .t1) (k .t2 - 1) (k .t3)) refl (omega arith) (omega (arith, w)) (omega arith) u;
+        s-moves = rw q;
+        r-moves = refl;
+        up-entered = refl;
+      })
+
+  -- a record that ends a hello interval
+  shifted-fine : (n : Neighbour) → Fine n → Fine (shifted n)
+  unfolding shifted withReach withTimers
+  shifted-fine n f = omega arith
+
+  ticked-fine : (n : Neighbour) → Fine n → (n .t1 - 1 ≡ 0 → ⊥) → Fine (withTimers n (n .t1 - 1) (n .t2) (n .t3))
+  unfolding withTimers
+  ticked-fine n f z = omega (arith, z)
+
+  -- Down, with k the record once its hello interval has ended
+  module _ (k : Neighbour) (f : Fine k) (z : k .t2 ≡ 0) (u : isUnset (k .mode) ≡ false) where
+    enters-up : (reply : Reply) → ((m : Neighbour) → sendsPoll (followed reply (pollMessage g m)) ≡ true)
+        → Lawful Down (k .s) (k .r) true (pollsOnEntry g (record { neighbour = enterUp (at k Down); reply = reply }))
+    unfolding pollsOnEntry polls says polled enterUp withNumbers withTimers withReach under
+    enters-up reply p =
+        record {
+          formed = up-ok (polled (enterUp (at k Down))) refl (omega arith) (omega arith) (omega arith) u;
+          s-moves = rw (p (polled (enterUp (at k Down))));
+          r-moves = refl;
+          up-entered = refl;
+        }
+
+    stays-down : (reply : Reply) → sendsPoll reply ≡ false → Lawful Down (k .s) (k .r) true (pollsOnEntry g (record { neighbour = at k Down; reply = reply }))
+    unfolding pollsOnEntry under
+    stays-down reply q = stays k true Down refl (down-ok (at k Down) refl (omega arith) z u) reply q
+
+    judged-down : (P : Neighbour → Type 0) → P (enterUp (at k Down)) → P (at k Down) → P (judged (at k Down))
+    unfolding judged under
+    judged-down P a b = cond-elim P (goesUp (k .mode) (onesOf (k .register))) (enterUp (at k Down)) (at k Down) (λ _. a) (λ _. b)
+
+    down-judged : Lawful Down (k .s) (k .r) true (pollsOnEntry g (helloIf ((judged (at k Down)) .mode) g (quiet (judged (at k Down)))))
+    unfolding quiet says followed
+    down-judged =
+        hello-elim (λ x. Lawful Down (k .s) (k .r) true (pollsOnEntry g x)) ((judged (at k Down)) .mode) (quiet (judged (at k Down)))
+        (judged-down (λ j. Lawful Down (k .s) (k .r) true (pollsOnEntry g (quiet j))) (enters-up Nothing (λ _. refl)) (stays-down Nothing refl))
+        (judged-down (λ j. Lawful Down (k .s) (k .r) true (pollsOnEntry g (says (quiet j) (helloMessage g j))))
+        (enters-up (One _) (λ _. refl)) (stays-down (One _) refl))
+
+  -- Up likewise
+  module _ (k : Neighbour) (f : Fine k) (a : 1 ≤ k .t2) (b : k .t2 ≤ 482) (u : isUnset (k .mode) ≡ false) where
+    leaves-up : (reply : Reply) → sendsPoll reply ≡ false → Lawful Up (k .s) (k .r) true (pollsInUp g (record { neighbour = leaveUp (at k Up); reply = reply }))
+    unfolding pollsInUp leaveUp withTimers withReach under
+    leaves-up reply q = moves k true Up refl (leaveUp (at k Up)) refl refl refl refl (down-ok (leaveUp (at k Up)) refl (omega arith) refl u) reply q
+
+    stays-up : (reply : Reply) → sendsPoll reply ≡ false → ((m : Neighbour) → sendsPoll (followed reply (pollMessage g m)) ≡ true)
+        → Lawful Up (k .s) (k .r) true (pollsInUp g (record { neighbour = at k Up; reply = reply }))
+    unfolding pollsInUp under
+    stays-up reply q p = takes-t2 k reply q p f a b u
+
+    judged-up : (P : Neighbour → Type 0) → P (leaveUp (at k Up)) → P (at k Up) → P (judged (at k Up))
+    unfolding judged under
+    judged-up P c d = cond-elim P (goesDown (k .mode) (onesOf (k .register))) (leaveUp (at k Up)) (at k Up) (λ _. c) (λ _. d)
+
+    up-judged : Lawful Up (k .s) (k .r) true (pollsInUp g (helloIf ((judged (at k Up)) .mode) g (quiet (judged (at k Up)))))
+    unfolding quiet says followed
+    up-judged =
+        hello-elim (λ x. Lawful Up (k .s) (k .r) true (pollsInUp g x)) ((judged (at k Up)) .mode) (quiet (judged (at k Up)))
+        (judged-up (λ j. Lawful Up (k .s) (k .r) true (pollsInUp g (quiet j))) (leaves-up Nothing refl) (stays-up Nothing refl (λ _. refl)))
+        (judged-up (λ j. Lawful Up (k .s) (k .r) true (pollsInUp g (says (quiet j) (helloMessage g j))))
+        (leaves-up (One _) refl) (stays-up (One _) refl (λ _. refl)))
+
+  runs-lawful : (n : Neighbour) (p : Phase) → isIdle p ≡ false → wellFormed (at n p) ≡ true → Lawful p (n .s) (n .r) true (runs g (at n p))
+  unfolding runs listens shifted withReach withTimers quiet followed under
+  runs-lawful n Idle i h = never i
+  runs-lawful n Acquisition i h = repeats-lawful n Acquisition _ refl i h
+  runs-lawful n Down i h =
+      let f = fine-down n h in
+      let z = t2-down n h in
+      let u = moded (at n Down) refl h in
+      cond-elim (λ x. Lawful Down (n .s) (n .r) true (pollsOnEntry g x)) (eqb (n .t1 - 1) 0) _ _
+      (λ _. down-judged (shifted (at n Down)) (shifted-fine (at n Down) f) z u)
+      (λ e. stays-down (withTimers (at n Down) (n .t1 - 1) (n .t2) (n .t3)) (ticked-fine (at n Down) f (eqb-false (n .t1 - 1) 0 e)) z u Nothing refl)
+  runs-lawful n Up i h =
+      let f = fine-up n h in
+      let t = t2-up n h in
+      let u = moded (at n Up) refl h in
+      cond-elim (λ x. Lawful Up (n .s) (n .r) true (pollsInUp g x)) (eqb (n .t1 - 1) 0) _ _
+      (λ _. up-judged (shifted (at n Up)) (shifted-fine (at n Up) f) (t .0) (t .1) u)
+      (λ e. stays-up (withTimers (at n Up) (n .t1 - 1) (n .t2) (n .t3)) (ticked-fine (at n Up) f (eqb-false (n .t1 - 1) 0 e)) (t .0) (t .1) u Nothing refl (λ _. refl))
+  runs-lawful n Cease i h = repeats-lawful n Cease _ refl i h
+
+  tick-lawful : (n : Neighbour) (p : Phase) → isIdle p ≡ false → wellFormed (at n p) ≡ true → Lawful p (n .s) (n .r) true (onTick g (at n p))
+  unfolding onTick expired withTimers
+  tick-lawful n p i h =
+      let t = timer-bounds n p i h in
+      rw i
+      (cond-elim (Lawful p (n .s) (n .r) true) (eqb (n .t3 - 1) 0) _ _
+      (λ _. stop-lawful n true p i h)
+      (λ e.
+      let k = eqb-false (n .t3 - 1) 0 e in
+      runs-lawful (withTimers n (n .t1) (n .t2) (n .t3 - 1)) p i
+      (timers-ok n (n .t1) (n .t3 - 1) p i (t .0) (t .1) (omega (arith, k)) (omega arith) h)))
+
+  -- every event outside Idle
+  event-lawful : (asn : ℕ) (n : Neighbour) (p : Phase) (event : Event) (head : Head) → isIdle p ≡ false → wellFormed (at n p) ≡ true
+      → Lawful p (n .s) (brought event (n .r)) (isTick event) (stepOf g asn (at n p) event head)
+  unfolding stepOf
+  event-lawful asn n p (Received m) head i h = received-lawful asn n p m head i h
+  event-lawful asn n p Start head i h = start-lawful n p i h
+  event-lawful asn n p Stop head i h = stop-lawful n false p i h
+  event-lawful asn n p Tick head i h = tick-lawful n p i h
+
+  by-phase : (asn : ℕ) (n : Neighbour) (p : Phase) (event : Event) (head : Head) → wellFormed (at n p) ≡ true
+      → Lawful p (n .s) (brought event (n .r)) (isTick event) (stepOf g asn (at n p) event head)
+  by-phase asn n Idle event head h =
+      subst (λ (k : Neighbour). Lawful (k .phase) (k .s) (brought event (k .r)) (isTick event) (stepOf g asn k event head))
+      (sym (idle-only n h)) (idle-all asn event head)
+  by-phase asn n Acquisition event head h = event-lawful asn n Acquisition event head refl h
+  by-phase asn n Down event head h = event-lawful asn n Down event head refl h
+  by-phase asn n Up event head h = event-lawful asn n Up event head refl h
+  by-phase asn n Cease event head h = event-lawful asn n Cease event head refl h
+
+pub step-lawful : StepLawful
+step-lawful g asn n event head h = by-phase g asn n (n .phase) event head h
+
+pub idle-is-zero : IdleIsZero
+idle-is-zero n h e = go (n .phase) e h
+  where
+    go : (p : Phase) → p ≡ Idle → wellFormed (at n p) ≡ true → at n p ≡ idle
+    go p e h = rw e (idle-only n (rw e at h))
+
+pub t2-only-in-up : T2OnlyInUp
+t2-only-in-up n h e = t2-elsewhere n (n .phase) (λ z. never (sym (ap isUp z) ∙ e)) h
+
+error-silent : (mode : Mode) (status : ℕ) → indicates mode K.Error status ≡ false
+unfolding indicates
+error-silent Unset status = refl
+error-silent Active status = refl
+error-silent Passive status = refl
+
+pub error-ignored : ErrorIgnored
+unfolding stepOf onMessage commanded noted quiet
+error-ignored g asn n a sequence status reason first second third head =
+    rw (and-false (not (isIdle (n .phase))), error-silent (n .mode) status, and-false (acquired (n .phase)))
+
+pub update-stays-up : UpdateStaysUp
+unfolding stepOf onMessage commanded noted heardFrom withReach withTimers onUpdate quiet under
+update-stays-up g asn n a sequence status net head e =
+    rw (and-false (not (isIdle (n .phase)))) (go (n .phase) e (indicates (n .mode) K.Update status))
+  where
+    go : (p : Phase) → p ≡ Up → (b : Bool)
+        → ((onUpdate g (cond (acquired p && b) (heardFrom (at n p)) (at n p))) .neighbour .phase ≡ Up)
+        × ((onUpdate g (cond (acquired p && b) (heardFrom (at n p)) (at n p))) .reply ≡ Nothing)
+    go Up e true = (refl, refl)
+    go Up e false = (refl, refl)
+    go Idle e b = never (sym (ap isUp e))
+    go Acquisition e b = never (sym (ap isUp e))
+    go Down e b = never (sym (ap isUp e))
+    go Cease e b = never (sym (ap isUp e))

@@ -1,0 +1,62 @@
+-- 01's paragraph "Tick", sentence by sentence.
+use Prim.Native.Nat.{_-_}
+use mathlib.Core.Bool.{cond}
+use lib.Dec.{eqb}
+use Rattle.message.specs.declared.Message.{Message}
+use Rattle.neighbour.specs.declared.Settings.{Settings}
+use Rattle.neighbour.specs.declared.Neighbour.{Neighbour}
+use Rattle.neighbour.specs.Record.{P3, under, isIdle, withTimers, shifted, polled}
+use Rattle.neighbour.specs.Rules.{judged}
+use Rattle.neighbour_messages.specs.Sent.{requestMessage, ceaseMessage, pollMessage}
+use Rattle.neighbour_machine.specs.declared.After.{After}
+use Rattle.neighbour_machine.specs.Table.{quiet, answers, says, thenHello, onStop}
+
+-- 01: "at 0 it is Stop"
+unfoldable pub expired : Settings → Neighbour → After
+expired g n = onStop g n
+
+-- 01: "Take 1 from t1; at 0, ..": what is due at 0, and else the record with t1 one less
+abbrev pub takesT1 : Neighbour → After → After
+takesT1 n due = cond (eqb (n .t1 - 1) 0) due (quiet (withTimers n (n .t1 - 1) (n .t2) (n .t3)))
+
+-- 01: "at 0, Acquisition sends Request and Cease sends Cease, t1 = P3"
+unfoldable pub repeats : Neighbour → Message → After
+repeats n m = takesT1 n (answers (withTimers n P3 (n .t2) (n .t3)) m)
+
+-- 01: "at 0, .. Down and Up shift heard into the register ..  With n ones, ..  Active then sends Hello with the new
+-- state."
+unfoldable pub listens : Settings → Neighbour → After
+listens g n = takesT1 n (thenHello g (quiet (judged (shifted n))))
+
+-- 01: "S goes up by one .. just before each Poll"; "Poll, t2 = T2"
+unfoldable pub polls : Settings → After → After
+polls g x = says (record { neighbour = polled (x .neighbour); reply = x .reply }) (pollMessage g (polled (x .neighbour)))
+
+-- 01: "Entering Up sends Poll, t2 = T2." The state before this tick was Down.
+unfoldable pub pollsOnEntry : Settings → After → After
+pollsOnEntry g x = under (x .neighbour .phase) x x x (polls g x) x
+
+-- 01: "take 1 from t2; at 0 send Poll, t2 = T2"
+unfoldable pub takesT2 : Settings → After → After
+takesT2 g x =
+    cond (eqb (x .neighbour .t2 - 1) 0) (polls g x)
+    (record { neighbour = withTimers (x .neighbour) (x .neighbour .t1) (x .neighbour .t2 - 1) (x .neighbour .t3); reply = x .reply })
+
+-- 01: "If Up before this tick and still Up, take 1 from t2". The state before this tick was Up.
+unfoldable pub pollsInUp : Settings → After → After
+pollsInUp g x = under (x .neighbour .phase) x x x (takesT2 g x) x
+
+-- what follows once 1 is taken from t3
+unfoldable pub runs : Settings → Neighbour → After
+runs g n =
+    under (n .phase) (quiet n)
+    (repeats n (requestMessage g n))
+    (pollsOnEntry g (listens g n))
+    (pollsInUp g (listens g n))
+    (repeats n (ceaseMessage g n))
+
+-- 01: "Tick: Idle does nothing. Else take 1 from t3; at 0 it is Stop and the tick ends."
+unfoldable pub onTick : Settings → Neighbour → After
+onTick g n =
+    cond (isIdle (n .phase)) (quiet n)
+    (cond (eqb (n .t3 - 1) 0) (expired g n) (runs g (withTimers n (n .t1) (n .t2) (n .t3 - 1))))

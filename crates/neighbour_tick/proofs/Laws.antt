@@ -1,0 +1,64 @@
+-- What the functions' answers come to, over plain records. Assumes nothing.
+use Prim.Native.Nat.{ℕ, _-_, _≤_, _<_}
+use native.Mathlib.Omega.{arith}
+use mathlib.Core.Path.{_≡_}
+use mathlib.Core.Bool.{true, false}
+use lib.Dec.{eqb}
+use borrow.Author.Tests.{eq-eqb, ne-eqb}
+use Rattle.message.specs.declared.Message.{Message}
+use Rattle.neighbour.specs.declared.Settings.{Settings}
+use Rattle.neighbour.specs.declared.Neighbour.{Neighbour}
+use Rattle.neighbour.specs.Record.{isIdle, withTimers, shifted}
+use Rattle.neighbour.specs.Rules.{judged}
+use Rattle.neighbour_machine.specs.declared.After.{After}
+use Rattle.neighbour_machine.specs.Table.{quiet, answers, helloIf}
+use Rattle.neighbour_machine.specs.Tick.{expired, repeats, listens, polls, takesT2, runs, onTick}
+
+-- a timer at 1 or less reaches 0
+pub reaches : (t : ℕ) → t ≤ 1 → eqb (t - 1) 0 ≡ true
+reaches t h = eq-eqb (t - 1) 0 (omega arith)
+
+pub goes-on : (t : ℕ) → 1 < t → eqb (t - 1) 0 ≡ false
+goes-on t h = ne-eqb (t - 1) 0 (λ e. omega arith)
+
+module _ (n : Neighbour) where
+  pub repeats-now : (m : Message) → n .t1 ≤ 1 → answers (withTimers n 30 (n .t2) (n .t3)) m ≡ repeats n m
+  unfolding repeats
+  repeats-now m h = rw (reaches (n .t1) h)
+
+  pub repeats-later : (m : Message) → 1 < n .t1 → quiet (withTimers n (n .t1 - 1) (n .t2) (n .t3)) ≡ repeats n m
+  unfolding repeats
+  repeats-later m h = rw (goes-on (n .t1) h)
+
+  module _ (g : Settings) where
+    pub listens-now : n .t1 ≤ 1 → helloIf ((judged (shifted n)) .mode) g (quiet (judged (shifted n))) ≡ listens g n
+    unfolding listens quiet
+    listens-now h = rw (reaches (n .t1) h)
+
+    pub listens-later : 1 < n .t1 → quiet (withTimers n (n .t1 - 1) (n .t2) (n .t3)) ≡ listens g n
+    unfolding listens
+    listens-later h = rw (goes-on (n .t1) h)
+
+    pub ticks-idle : isIdle (n .phase) ≡ true → quiet n ≡ onTick g n
+    unfolding onTick
+    ticks-idle e = rw e
+
+    module _ (e : isIdle (n .phase) ≡ false) where
+      pub ticks-last : n .t3 ≤ 1 → expired g n ≡ onTick g n
+      unfolding onTick
+      ticks-last h = rw (e, reaches (n .t3) h)
+
+      pub ticks-on : 1 < n .t3 → runs g (withTimers n (n .t1) (n .t2) (n .t3 - 1)) ≡ onTick g n
+      unfolding onTick
+      ticks-on h = rw (e, goes-on (n .t3) h)
+
+module _ (g : Settings) (x : After) where
+  pub takes-last : x .neighbour .t2 ≤ 1 → polls g x ≡ takesT2 g x
+  unfolding takesT2
+  takes-last h = rw (reaches (x .neighbour .t2) h)
+
+  pub takes-one :
+      1 < x .neighbour .t2
+      → _≡_ {A = After} (record { neighbour = withTimers (x .neighbour) (x .neighbour .t1) (x .neighbour .t2 - 1) (x .neighbour .t3); reply = x .reply }) (takesT2 g x)
+  unfolding takesT2
+  takes-one h = rw (goes-on (x .neighbour .t2) h)

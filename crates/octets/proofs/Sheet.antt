@@ -1,9 +1,0 @@
--- The checksums of the sheet come out as it says. Assumes nothing.
-use mathlib.Core.Path.{refl}
-use Rattle.octets.specs.Checksum.{onesAdd, onesSum, checksumOf, folded}
-use Rattle.octets.specs.Wide.{wideTotal}
-use Rattle.octets.specs.Sheet.{counting, lines, ChecksumSheet}
-
-pub checksum-sheet : ChecksumSheet
-unfolding onesAdd onesSum checksumOf folded wideTotal counting lines
-checksum-sheet = record { words = refl; wide-words = refl }

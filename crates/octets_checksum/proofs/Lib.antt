@@ -1,0 +1,3 @@
+pub mod Laws
+pub mod Wide
+pub mod Sheet

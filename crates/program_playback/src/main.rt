@@ -1,0 +1,104 @@
+// Plays a site's recording back: standard input, or the file that the only argument names. Replies, bad lines and the listing go to standard
+// output. docs/RECORDING.md has the format.
+use libc::STDERR_FILENO;
+use libc::STDIN_FILENO;
+use libc::STDOUT_FILENO;
+use recording_course::Course;
+ghost use Prim.Native.Nat.{_≤_};
+ghost use lib.ListN.{length};
+ghost use Rattle.program_playback.specs.Rooms.{Rooms};
+
+// Writes the octets at the front.
+fn show(out: &[u8], size: usize) -> bool
+    requires { ⌜ size ≤ length (now out) ⌝ }
+{
+    let is_written = io::write_all(STDOUT_FILENO, &out[..size]);
+    if !is_written {
+        os::fail(b"standard output");
+    }
+    is_written
+}
+
+// Reads the next piece, where a read comes next.
+fn read_on(c: Course, fd: i32, name: &[u8], piece: &mut [u8]) -> Course {
+    if !recording_course::is_read(c) {
+        return c;
+    }
+    let got = libc::read(fd, piece);
+    if got < 0 {
+        os::fail(name);
+        return recording_course::given(c, false, 0);
+    }
+    recording_course::given(c, true, io::count(got, piece))
+}
+
+// One step, and what it wrote is written.
+fn go_on(c: Course, line: &mut [u8], table: &mut [u32], piece: &[u8], out: &mut [u8]) -> Course
+    requires { ⌜ Rooms (now line) (now table) (now out) ⌝ }
+{
+    let w = recording_course::step(c, line, table, piece, out);
+    let next = w.course;
+    recording_course::wrote(next, show(out, w.written))
+}
+
+// Step after step. Nothing says that an input ends, so they are counted down, from a number that no recording reaches.
+fn play_all(
+    fd: i32,
+    name: &[u8],
+    line: &mut [u8],
+    table: &mut [u32],
+    piece: &mut [u8],
+    out: &mut [u8],
+)
+    requires { ⌜ Rooms (now line) (now table) (now out) ⌝ }
+{
+    let mut c = recording_course::set_out();
+    let mut steps = u64::MAX;
+    while steps > 0 {
+        if recording_course::is_over(c) {
+            return;
+        }
+        c = read_on(c, fd, name, piece);
+        c = go_on(c, line, table, piece, out);
+        steps -= 1;
+    }
+}
+
+// Plays all that a file holds.
+fn play(fd: i32, name: &[u8]) {
+    let mut line = [0u8; 4118];
+    let mut table = [0u32; 3072];
+    let mut piece = io::large_buffer();
+    let mut out = io::large_buffer();
+    play_all(fd, name, &mut line, &mut table, &mut piece, &mut out);
+}
+
+// Plays the file that the argument names.
+fn play_named() {
+    let mut path = io::buffer();
+    let size = os::arg(1, &mut path);
+    if os::errno() != 0 {
+        os::fail(b"file name");
+        return;
+    }
+    let fd = os::open_read(&path[..size]);
+    if fd < 0 {
+        os::fail(&path[..size]);
+        return;
+    }
+    play(fd, &path[..size]);
+    libc::close(fd);
+}
+
+fn main() {
+    let given = os::arg_count();
+    if given < 2 {
+        play(STDIN_FILENO, b"standard input");
+        return;
+    }
+    if 2 < given {
+        io::write_all(STDERR_FILENO, b"usage: playback [FILE]\n");
+        return;
+    }
+    play_named();
+}

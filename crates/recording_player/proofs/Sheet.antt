@@ -1,0 +1,40 @@
+-- The sheet of turns computes. Assumes nothing.
+use mathlib.Core.Path.{refl}
+use Rattle.recording_player.specs.Sheet as PlayerSheet
+use Rattle.recording_player.proofs.Unfolded.{opened}
+
+pub sheet : PlayerSheet.Sheet
+unfolding opened
+sheet =
+    record {
+      start = refl;
+      start-short = refl;
+      stop-short = refl;
+      rx-short = refl;
+      table-short = refl;
+      table-wrong = refl;
+      not-formed = refl;
+      add = refl;
+      remove = refl;
+      add-not-formed = refl;
+      bad = refl;
+      bad-short = refl;
+      tick-line = refl;
+      tick = refl;
+      tick-short = refl;
+      held = refl;
+      line-short = refl;
+      setting = refl;
+      setting-short = refl;
+      good-setting = refl;
+      fresh = refl;
+      fresh-short = refl;
+      missing = refl;
+      missing-short = refl;
+      unended = refl;
+      unended-short = refl;
+      listed = refl;
+      listed-short = refl;
+      listed-table = refl;
+      listed-not-formed = refl;
+    }

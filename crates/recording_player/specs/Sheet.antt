@@ -1,0 +1,80 @@
+-- Turns with their answers written out: what is refused, with which number, and what is left then. The proof is in
+-- proofs/Sheet.antt.
+use Prim.Native.Nat.{ℕ}
+use mathlib.Core.Path.{_≡_}
+use mathlib.Core.Bool.{Bool, true, false}
+use mathlib.Core.List.{List, [], _∷_}
+use lib.ListN.{length}
+use Rattle.update_rows.specs.Storing.{zeros}
+use Rattle.neighbour.specs.declared.Settings.{Settings}
+use Rattle.gateway_state.specs.declared.State.{State}
+use Rattle.gateway_slots.specs.Calls.{freshOf, zeroState}
+use Rattle.text.specs.Text.{text}
+use Rattle.recording_player.specs.declared.Player.{Player}
+use Rattle.recording_player.specs.Player.{Step, turnStep, closeStep, finishStep}
+
+-- the number, the octets used and written, the lines taken, the octets held and the ticks due
+unfoldable pub summary : Step → List ℕ
+summary s = s .answer ∷ s .used ∷ length (s .text) ∷ (s .player) .lines ∷ (s .player) .held ∷ (s .player) .ticks ∷ []
+
+unfoldable pub startState : State
+startState = (freshOf (record { asn = 9; own = 2148073473; capability = 1; net = 2148073472 })) .state
+
+-- ownas=9, own=128.9.0.1, and this capability
+unfoldable pub settingsWith : ℕ → Settings
+settingsWith capability = record { asn = 9; own = 2148073473; capability = capability; net = 0 }
+
+-- behind so many lines, with so many octets held and ticks due for 128.9.0.5
+unfoldable pub playerAt : ℕ → ℕ → ℕ → Player
+playerAt lines held ticks =
+    record { lines = lines; held = held; broken = false; address = 2148073477; ticks = ticks; settings = settingsWith 3; state = startState }
+
+-- the same, its state not well formed
+unfoldable pub playerUnformed : Player
+playerUnformed = record { lines = 4; held = 0; broken = false; address = 0; ticks = 0; settings = settingsWith 3; state = zeroState }
+
+-- a turn on a line buffer of so many octets and a table of so many numbers
+unfoldable pub onTurn : Bool → Player → ℕ → ℕ → List ℕ → List ℕ
+onTurn room p octets numbers input = summary (turnStep room p (zeros octets) (zeros numbers) input)
+
+-- without room nothing is done but what needs none, and the number is 19 first, then 1, 2, 3
+pub record Sheet : Type 0 where
+  -- a call: nobody has this address
+  pub start : onTurn true (playerAt 4 0 0) 4118 3072 (text "start=128.9.0.5\nstop") ≡ 5 ∷ 16 ∷ 0 ∷ 5 ∷ 0 ∷ 0 ∷ []
+  pub start-short : onTurn false (playerAt 4 0 0) 4118 3072 (text "start=128.9.0.5\nstop") ≡ 3 ∷ 0 ∷ 0 ∷ 4 ∷ 0 ∷ 0 ∷ []
+  pub stop-short : onTurn false (playerAt 4 0 0) 4118 3072 (text "stop=128.9.0.5\n") ≡ 3 ∷ 0 ∷ 0 ∷ 4 ∷ 0 ∷ 0 ∷ []
+  pub rx-short : onTurn false (playerAt 4 0 0) 4118 3072 (text "rx=128.9.0.5/02\n") ≡ 3 ∷ 0 ∷ 0 ∷ 4 ∷ 0 ∷ 0 ∷ []
+  -- 2 before 3, 1 before 2
+  pub table-short : onTurn false (playerAt 4 0 0) 4118 3071 (text "start=128.9.0.5\n") ≡ 2 ∷ 0 ∷ 0 ∷ 4 ∷ 0 ∷ 0 ∷ []
+  pub table-wrong : onTurn true (playerAt 4 0 0) 4118 3073 (text "start=128.9.0.5\n") ≡ 2 ∷ 0 ∷ 0 ∷ 4 ∷ 0 ∷ 0 ∷ []
+  pub not-formed : onTurn false playerUnformed 4118 3071 (text "start=128.9.0.5\n") ≡ 1 ∷ 0 ∷ 0 ∷ 4 ∷ 0 ∷ 0 ∷ []
+  -- add and remove need neither room nor table
+  pub add : onTurn false (playerAt 4 0 0) 4118 0 (text "add=128.9.0.5/7\n") ≡ 0 ∷ 16 ∷ 0 ∷ 5 ∷ 0 ∷ 0 ∷ []
+  pub remove : onTurn false (playerAt 4 0 0) 4118 0 (text "remove=128.9.0.5\n") ≡ 5 ∷ 17 ∷ 0 ∷ 5 ∷ 0 ∷ 0 ∷ []
+  pub add-not-formed : onTurn true playerUnformed 4118 3072 (text "add=128.9.0.5/7\n") ≡ 1 ∷ 0 ∷ 0 ∷ 4 ∷ 0 ∷ 0 ∷ []
+  -- 19 before all others; the report, `bad=5`, is owed until there is room
+  pub bad : onTurn true playerUnformed 4118 3071 (text "add=128.9.0.5\n") ≡ 19 ∷ 14 ∷ 6 ∷ 5 ∷ 0 ∷ 0 ∷ []
+  pub bad-short : onTurn false playerUnformed 4118 3071 (text "add=128.9.0.5\n") ≡ 19 ∷ 0 ∷ 0 ∷ 4 ∷ 0 ∷ 0 ∷ []
+  -- a tick line asks for nothing, each of its ticks for room
+  pub tick-line : onTurn false (playerAt 4 0 0) 4118 0 (text "tick=128.9.0.5/3\n") ≡ 0 ∷ 17 ∷ 0 ∷ 5 ∷ 0 ∷ 3 ∷ []
+  pub tick : onTurn true (playerAt 5 0 3) 0 3072 (text "stop") ≡ 5 ∷ 0 ∷ 0 ∷ 5 ∷ 0 ∷ 2 ∷ []
+  pub tick-short : onTurn false (playerAt 5 0 3) 0 3072 (text "stop") ≡ 3 ∷ 0 ∷ 0 ∷ 5 ∷ 0 ∷ 3 ∷ []
+  -- the line buffer
+  pub held : onTurn false (playerAt 4 0 0) 4118 0 (text "start") ≡ 0 ∷ 5 ∷ 0 ∷ 4 ∷ 5 ∷ 0 ∷ []
+  pub line-short : onTurn true (playerAt 4 0 0) 4117 3072 (text "start") ≡ 3 ∷ 0 ∷ 0 ∷ 4 ∷ 0 ∷ 0 ∷ []
+  -- one of the first four lines, and fresh, which refuses capability 3 with 16
+  pub setting : onTurn true (playerAt 0 0 0) 4118 3072 (text "own=128.9.0.1\n") ≡ 19 ∷ 14 ∷ 6 ∷ 1 ∷ 0 ∷ 0 ∷ []
+  pub setting-short : onTurn false (playerAt 0 0 0) 4118 3072 (text "own=128.9.0.1\n") ≡ 19 ∷ 0 ∷ 0 ∷ 0 ∷ 0 ∷ 0 ∷ []
+  pub good-setting : onTurn false (playerAt 0 0 0) 4118 0 (text "ownas=9\n") ≡ 0 ∷ 8 ∷ 0 ∷ 1 ∷ 0 ∷ 0 ∷ []
+  pub fresh : onTurn true (playerAt 3 0 0) 4118 3072 (text "net=128.9.0.0\n") ≡ 16 ∷ 14 ∷ 6 ∷ 4 ∷ 0 ∷ 0 ∷ []
+  pub fresh-short : onTurn false (playerAt 3 0 0) 4118 3072 (text "net=128.9.0.0\n") ≡ 16 ∷ 0 ∷ 0 ∷ 3 ∷ 0 ∷ 0 ∷ []
+  -- the end: a missing line, an unended one
+  pub missing : summary (closeStep true (playerAt 2 0 0) []) ≡ 19 ∷ 0 ∷ 6 ∷ 3 ∷ 0 ∷ 0 ∷ []
+  pub missing-short : summary (closeStep false (playerAt 2 0 0) []) ≡ 19 ∷ 0 ∷ 0 ∷ 2 ∷ 0 ∷ 0 ∷ []
+  pub unended : summary (closeStep true (playerAt 7 3 0) []) ≡ 19 ∷ 0 ∷ 6 ∷ 8 ∷ 0 ∷ 0 ∷ []
+  pub unended-short : summary (closeStep false (playerAt 7 3 0) []) ≡ 19 ∷ 0 ∷ 0 ∷ 7 ∷ 3 ∷ 0 ∷ []
+  -- the listing's own answer
+  pub listed : summary (finishStep (zeros 65536) (playerAt 7 0 0) (zeros 3072)) ≡ 0 ∷ 0 ∷ 13 ∷ 7 ∷ 0 ∷ 0 ∷ []
+  pub listed-short : summary (finishStep (zeros 65535) (playerAt 7 0 0) (zeros 3072)) ≡ 3 ∷ 0 ∷ 0 ∷ 7 ∷ 0 ∷ 0 ∷ []
+  pub listed-table : summary (finishStep [] (playerAt 7 0 0) (zeros 3071)) ≡ 2 ∷ 0 ∷ 0 ∷ 7 ∷ 0 ∷ 0 ∷ []
+  pub listed-not-formed : summary (finishStep [] playerUnformed (zeros 3071)) ≡ 1 ∷ 0 ∷ 0 ∷ 4 ∷ 0 ∷ 0 ∷ []

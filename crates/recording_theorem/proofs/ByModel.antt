@@ -1,0 +1,203 @@
+-- What the calls' definitions show is what the model says, by the theorem about lists of calls; and no recording has
+-- more lines than can be counted.
+-- Assumes nothing.
+use Prim.Native.Nat.{ℕ, zero, suc, _+_, _≤_, _<_}
+use native.Mathlib.Omega.{arith}
+use mathlib.Core.Path.{_≡_, refl, sym, ap, _∙_}
+use mathlib.Core.Bool.{Bool, true, false, cond}
+use mathlib.Core.List.{List, [], _∷_, _++_, map, append-assoc}
+use lib.Dec.{ltb, leb, eqb}
+use lib.ListN.{length, take, drop, length-append}
+use lib.Seq.{take-append-seam, drop-append-seam}
+use borrow.Author.Tests.{lt-ltb, eqb-true, eqb-false}
+use Rattle.checks.specs.Checks.{check, ifOk}
+use Rattle.checks.specs.Lists.{every, join}
+use Rattle.checks.proofs.Laws.{and-left, and-right, and-both, cond-elim}
+use Rattle.octets.specs.Buffer.{over}
+use Rattle.update_rows.specs.Storing.{zeros}
+use Rattle.neighbour.specs.declared.Settings.{Settings}
+use Rattle.gateway_slots.specs.Calls.{freshOf}
+use Rattle.listing_lines.specs.Lines.{listingText}
+use Rattle.text_values.specs.declared.Number.{Number}
+use Rattle.text_values.specs.declared.Number.the-variants.{Bad, Is}
+use Rattle.text_values.specs.Numbers.{whenNumber}
+use Rattle.recording_lines.specs.Lines.{Event, bad, add, remove, start, stop, tick, rx, ownAsOf, ownOf, capabilityOf, netOf}
+use Rattle.recording_bad_line.specs.BadLine.{badText, oneMore}
+use Rattle.model.specs.Model as M
+use Rattle.model.specs.Theorem.{Gateway, Seen, seenOf, seenFrom, gatewayStep, gatewayFrom, begun, run, seenBy, shownIn, shown, bufferOf, carriesOctets}
+use Rattle.model.proofs.Theorem.{list-of-calls}
+use Rattle.recording_call.specs.Told.{txText, repliesText, addressOf}
+use Rattle.recording_player.specs.Player.{listedIn}
+use Rattle.recording_theorem.specs.Output.{Line, ended, unended, linesFrom, linesOf, eventIn, valueIn, Opening, broken, opened, takenBy, fromNet, fromCapability, fromOwn, openingOf, callsOf, goodCalls, badLine, called, callsTold, eventTold, toldFrom, toldText, eventsText, openingText}
+use Rattle.recording_theorem.proofs.ByCalls as C
+use Rattle.recording_theorem.proofs.Laws.{join-append}
+use Rattle.recording_theorem.proofs.OneByOne.{in-octets, from-octets}
+
+-- ---- what is seen of a call is what the model says of it
+
+-- from this gateway and this model on, whatever the calls
+abbrev Agrees : Gateway → M.Model → Type 0
+Agrees b m = (calls : List M.Call) → every carriesOctets calls ≡ true → seenFrom b calls ≡ shown calls (M.saidFrom m calls)
+
+tailOf : List Seen → List Seen
+tailOf [] = []
+tailOf (seen ∷ rest) = rest
+
+headOf : Seen → List Seen → Seen
+headOf none [] = none
+headOf none (seen ∷ rest) = seen
+
+module _ (b : Gateway) (m : M.Model) (h : Agrees b m) (call : M.Call) (o : carriesOctets call ≡ true) where
+  agrees-now : seenOf call b ≡ shownIn (bufferOf call) ((M.step call m) .said)
+  unfolding seenFrom shown M.saidFrom every headOf
+  agrees-now = ap (headOf (seenOf call b)) (h (call ∷ []) (and-both (carriesOctets call) true o refl))
+
+  agrees-next : Agrees (gatewayStep call b) ((M.step call m) .model)
+  unfolding seenFrom shown M.saidFrom every tailOf
+  agrees-next calls e = ap tailOf (h (call ∷ calls) (and-both (carriesOctets call) (every carriesOctets calls) o e))
+
+agrees-calls : (calls : List M.Call) (b : Gateway) (m : M.Model) → Agrees b m → every carriesOctets calls ≡ true → Agrees (gatewayFrom b calls) (M.modelFrom m calls)
+unfolding gatewayFrom M.modelFrom every
+agrees-calls [] b m h e = h
+agrees-calls (call ∷ calls) b m h e =
+    agrees-calls calls (gatewayStep call b) ((M.step call m) .model) (agrees-next b m h call (and-left (carriesOctets call) (every carriesOctets calls) e))
+    (and-right (carriesOctets call) (every carriesOctets calls) e)
+
+-- ---- as text
+
+-- a buffer that the two messages were laid over
+shown-text : (a : ℕ) (buffer : List ℕ) (said : M.Said) → repliesText a (shownIn buffer said) ≡ txText a (said .first) ++ txText a (said .second)
+unfolding repliesText shownIn over
+shown-text a buffer said =
+    rw (
+      append-assoc (said .first) (said .second) (drop (length (said .first ++ said .second)) buffer),
+      take-append-seam (said .first) (said .second ++ drop (length (said .first ++ said .second)) buffer),
+      drop-append-seam (said .first) (said .second ++ drop (length (said .first ++ said .second)) buffer),
+      take-append-seam (said .second) (drop (length (said .first ++ said .second)) buffer),
+    )
+
+calls-text : (calls : List M.Call) (b : Gateway) (m : M.Model) → Agrees b m → every carriesOctets calls ≡ true
+    → join (map C.toldText (C.callsTold b calls)) ≡ join (map toldText (callsTold m calls))
+unfolding C.toldText C.callsTold toldText callsTold join every
+calls-text [] b m h e = refl
+calls-text (call ∷ calls) b m h e =
+    let o = and-left (carriesOctets call) (every carriesOctets calls) e in
+    let one = ap (repliesText (addressOf call)) (agrees-now b m h call o) ∙ shown-text (addressOf call) (bufferOf call) ((M.step call m) .said) in
+    let more = calls-text calls (gatewayStep call b) ((M.step call m) .model) (agrees-next b m h call o) (and-right (carriesOctets call) (every carriesOctets calls) e) in
+    ap (λ (l : List ℕ). l ++ join (map C.toldText (C.callsTold (gatewayStep call b) calls))) one
+    ∙ ap (λ (l : List ℕ). (txText (addressOf call) ((M.step call m) .said .first) ++ txText (addressOf call) ((M.step call m) .said .second)) ++ l) more
+
+event-text : (number : ℕ) (b : Gateway) (m : M.Model) → Agrees b m → (e : Event) → every carriesOctets (callsOf e) ≡ true
+    → join (map C.toldText (C.eventTold number b e)) ≡ join (map toldText (eventTold number m e))
+unfolding C.eventTold C.toldText eventTold toldText join
+event-text number b m h bad o = refl
+event-text number b m h (add a asn) o = calls-text (callsOf (add a asn)) b m h o
+event-text number b m h (remove a) o = calls-text (callsOf (remove a)) b m h o
+event-text number b m h (start a) o = calls-text (callsOf (start a)) b m h o
+event-text number b m h (stop a) o = calls-text (callsOf (stop a)) b m h o
+event-text number b m h (tick a count) o = calls-text (callsOf (tick a count)) b m h o
+event-text number b m h (rx a octets) o = calls-text (callsOf (rx a octets)) b m h o
+
+-- the code counts these lines as they are
+counted : (lines : ℕ) → lines < 18446744073709551615 → oneMore lines ≡ suc lines
+unfolding oneMore
+counted lines k = rw (lt-ltb lines 18446744073709551615 k)
+
+events-text : (l : List Line) (lines : ℕ) (b : Gateway) (m : M.Model) → Agrees b m → lines + length l ≤ 18446744073709551615
+    → C.eventsText lines b l ≡ eventsText lines m l
+unfolding C.eventsText eventsText C.toldFrom toldFrom
+events-text [] lines b m h k = refl
+events-text (line ∷ l) lines b m h k =
+    let e = eventIn line in
+    let b′ = gatewayFrom b (callsOf e) in
+    let m′ = M.modelFrom m (callsOf e) in
+    rw (counted lines (omega (arith, k)))
+    (join-append C.toldText (C.eventTold (suc lines) b e) (C.toldFrom (suc lines) b′ l)
+    ∙ ap (λ (t : List ℕ). t ++ join (map C.toldText (C.toldFrom (suc lines) b′ l))) (event-text (suc lines) b m h e (in-octets line))
+    ∙ ap (λ (t : List ℕ). join (map toldText (eventTold (suc lines) m e)) ++ t)
+    (events-text l (suc lines) b′ m′ (agrees-calls (callsOf e) b m h (in-octets line)) (omega (arith, k)))
+    ∙ sym (join-append toldText (eventTold (suc lines) m e) (toldFrom (suc lines) m′ l)))
+
+-- the listing, in a buffer of the least size
+listing-said : (m : M.Model) → (M.step (M.listing (zeros 65536)) m) .said ≡ M.listingSaid m
+unfolding M.step M.listingTurn M.listingAnswer ifOk check zeros
+listing-said m = refl
+
+listing-text : (b : Gateway) (m : M.Model) → Agrees b m → C.listed b ≡ listingText (M.listed m)
+unfolding C.listed listedIn shownIn bufferOf carriesOctets M.listingSaid over
+listing-text b m h =
+    ap (λ (s : Seen). take (s .first) (s .buffer)) (agrees-now b m h (M.listing (zeros 65536)) refl ∙ ap (shownIn (zeros 65536)) (listing-said m))
+    ∙ rw (append-assoc (listingText (M.listed m)) [] (drop (length (listingText (M.listed m) ++ [])) (zeros 65536)), take-append-seam (listingText (M.listed m)) (drop (length (listingText (M.listed m) ++ [])) (zeros 65536)))
+
+-- ---- the first four lines
+
+-- where they are good: fresh takes them, and so many lines are left
+unfoldable pub Opens : ℕ → Opening → Type 0
+Opens lines (broken number) = number ≡ number
+Opens lines (opened g events) = ((freshOf g) .answer ≡ 0) × (4 + length events ≤ lines)
+
+taken-opens : (lines : ℕ) (g : Settings) (events : List Line) → 4 + length events ≤ lines → Opens lines (takenBy g events)
+unfolding takenBy Opens
+taken-opens lines g events k =
+    cond-elim (λ (o : Opening). Opens lines o) (eqb ((freshOf g) .answer) 0) (opened g events) (broken 4)
+    (λ e. (eqb-true ((freshOf g) .answer) 0 e, k)) (λ e. refl)
+
+-- a value, or the end
+value-opens : (lines number : ℕ) (value : Number) (next : ℕ → Opening) → ((n : ℕ) → Opens lines (next n)) → Opens lines (whenNumber value (broken number) next)
+unfolding whenNumber Opens
+value-opens lines number Bad next h = refl
+value-opens lines number (Is n) next h = h n
+
+net-opens : (lines asn own capability : ℕ) (l : List Line) → 3 + length l ≤ lines → Opens lines (fromNet asn own capability l)
+unfolding fromNet Opens
+net-opens lines asn own capability [] k = refl
+net-opens lines asn own capability (line ∷ l) k =
+    value-opens lines 4 (valueIn netOf line) _ (λ net. taken-opens lines (record { asn = asn; own = own; capability = capability; net = net }) l (omega (arith, k)))
+
+capability-opens : (lines asn own : ℕ) (l : List Line) → 2 + length l ≤ lines → Opens lines (fromCapability asn own l)
+unfolding fromCapability Opens
+capability-opens lines asn own [] k = refl
+capability-opens lines asn own (line ∷ l) k = value-opens lines 3 (valueIn capabilityOf line) _ (λ capability. net-opens lines asn own capability l (omega (arith, k)))
+
+own-opens : (lines asn : ℕ) (l : List Line) → 1 + length l ≤ lines → Opens lines (fromOwn asn l)
+unfolding fromOwn Opens
+own-opens lines asn [] k = refl
+own-opens lines asn (line ∷ l) k = value-opens lines 2 (valueIn ownOf line) _ (λ own. capability-opens lines asn own l (omega (arith, k)))
+
+opening-opens : (l : List Line) → Opens (length l) (openingOf l)
+unfolding openingOf Opens
+opening-opens [] = refl
+opening-opens (line ∷ l) = value-opens (suc (length l)) 1 (valueIn ownAsOf line) _ (λ asn. own-opens (suc (length l)) asn l (omega arith))
+
+-- ---- every line has an octet of its own
+
+lines-few : (begun rest : List ℕ) → length (linesFrom begun rest) ≤ length begun + length rest
+unfolding linesFrom
+lines-few begun [] =
+    cond-elim (λ (l : List Line). length l ≤ length begun + 0) (eqb (length begun) 0) [] (unended begun ∷ []) (λ e. omega arith)
+    (λ e. let n : (length begun ≡ 0) → ⊥ = eqb-false (length begun) 0 e in omega (arith, n))
+lines-few begun (octet ∷ rest) =
+    cond-elim (λ (l : List Line). length l ≤ length begun + suc (length rest)) (eqb octet 10) (ended begun ∷ linesFrom [] rest) (linesFrom (begun ++ (octet ∷ [])) rest)
+    (λ e. omega (arith, lines-few [] rest)) (λ e. omega (arith, lines-few (begun ++ (octet ∷ [])) rest, length-append begun (octet ∷ [])))
+
+-- ---- the whole
+
+opening-text : (lines : ℕ) (o : Opening) → Opens lines o → lines ≤ 18446744073709551615 → C.openingText o ≡ openingText o
+unfolding C.openingText openingText Opens run begun M.model seenBy
+opening-text lines (broken number) h k = refl
+opening-text lines (opened g events) h k =
+    let agrees : Agrees (begun g) (M.empty g) = λ calls o. list-of-calls g (h .0) calls .seen o in
+    ap (λ (t : List ℕ). t ++ C.listed (run g (goodCalls events))) (events-text events 4 (begun g) (M.empty g) agrees (omega (arith, h .1, k)))
+    ∙ ap (λ (t : List ℕ). eventsText 4 (M.empty g) events ++ t)
+    (listing-text (run g (goodCalls events)) (M.model g (goodCalls events)) (agrees-calls (goodCalls events) (begun g) (M.empty g) agrees (from-octets events)))
+
+pub recording-text : (recording : List ℕ) → length recording < 18446744073709551616 → C.openingText (openingOf (linesOf recording)) ≡ openingText (openingOf (linesOf recording))
+unfolding linesOf
+recording-text recording k =
+    opening-text (length (linesFrom [] recording)) (openingOf (linesFrom [] recording)) (opening-opens (linesFrom [] recording)) (omega (arith, k, lines-few [] recording))
+
+-- fresh took the settings of a recording that is played
+pub fresh-took : (recording : List ℕ) (g : Settings) (events : List Line) → openingOf (linesOf recording) ≡ opened g events
+    → (freshOf g) .answer ≡ 0
+unfolding Opens
+fresh-took recording g events e = (rw e at (opening-opens (linesOf recording))) .0

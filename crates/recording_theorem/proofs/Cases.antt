@@ -1,0 +1,22 @@
+-- The worked recordings compute. Assumes nothing.
+use mathlib.Core.Path.{refl}
+use Rattle.recording_theorem.specs.Cases as Cases
+use Rattle.recording_theorem.proofs.Unfolded.{opened}
+
+pub cases : Cases.Cases
+unfolding opened
+cases =
+    record {
+      empty = refl;
+      blank = refl;
+      second = refl;
+      third = refl;
+      missing = refl;
+      unended = refl;
+      refused = refl;
+      quiet = refl;
+      some-bad = refl;
+      started = refl;
+      two-replies = refl;
+      refused-reply = refl;
+    }

@@ -1,0 +1,265 @@
+-- What the player does with a line that has ended is what the whole recording says of that line. Assumes nothing.
+use Prim.Native.Nat.{ℕ, zero, suc, _≤_, _<_}
+use native.Mathlib.Omega.{arith}
+use mathlib.Core.Path.{_≡_, refl, sym, ap, _∙_, subst}
+use mathlib.Core.Bool.{Bool, true, false, cond, _&&_, false≢true}
+use mathlib.Core.List.{List, [], _∷_, map, append-nil}
+use lib.Dec.{leb, ltb, eqb}
+use lib.ListN.{take}
+use borrow.Author.Tests.{ltb-true, ltb-false, le-ltb, leb-true, eqb-true}
+use Rattle.checks.specs.Lists.{join}
+use Rattle.checks.proofs.Laws.{and-right, cond-elim}
+use Rattle.text.specs.Text.{text, decimal, dotted}
+use Rattle.neighbour.specs.declared.Settings.{Settings}
+use Rattle.gateway_state.specs.declared.Outcome.{Outcome}
+use Rattle.gateway_slots.specs.Calls.{freshOf}
+use Rattle.text_values.specs.declared.Number.{Number}
+use Rattle.text_values.specs.declared.Number.the-variants.{Bad, Is}
+use Rattle.text_values.specs.Numbers.{whenNumber}
+use Rattle.recording_lines.specs.Lines.{Event, bad, add, remove, start, stop, tick, rx, eventOf, ownAsOf, ownOf, capabilityOf, netOf}
+use Rattle.recording_lines.specs.Claims.{isAddress, isGood, inRange}
+use Rattle.recording_lines.proofs.Events.{events, settings}
+use Rattle.recording_bad_line.specs.BadLine.{badText, oneMore}
+use Rattle.model.specs.Model as M
+use Rattle.model.specs.Theorem.{Gateway, gatewayStep, gatewayFrom, begun, run, emptyTable}
+use Rattle.model.proofs.Represent.{Good}
+use Rattle.model.proofs.Simulation.{represent, good-step}
+use Rattle.model.proofs.Theorem.{step-is, begun-is, empty-good}
+use Rattle.recording_call.specs.Told.{lent, callText, on}
+use Rattle.recording_player.specs.declared.Player.{Player}
+use Rattle.recording_player.specs.Player.{nextLine, breaking, due, settled, having, Step, badStep, brokenStep, quietStep, withAs, withOwn, withCapability, withNet, settingStep, freshStep, netStep, headStep, callStep, eventStep, lineStep}
+use Rattle.recording_theorem.specs.Output.{Line, ended, eventIn, valueIn, Opening, broken, opened, takenBy, fromNet, fromCapability, fromOwn, openingOf, ticks, callsOf}
+use Rattle.recording_theorem.proofs.ByCalls.{badLine, callsTold, eventTold, toldText, openingText}
+use Rattle.recording_theorem.proofs.Short.{event-short, number-short}
+use Rattle.recording_theorem.proofs.Due.{Due, saying, silence, eventsDue, callsDue, finalOf, openingDue, openingFrom, remaining, remaining-early, remaining-late, line-due}
+
+-- ---- what every step keeps
+
+-- the state and the table are those of a good model, so checks 1 and 2 pass
+pub record Stands (b : Gateway) : Type 0 where
+  pub model : M.Model
+  pub good : Good model
+  pub is : b ≡ represent model
+
+pub stands-call : (b : Gateway) (call : M.Call) → Stands b → Stands (gatewayStep call b)
+stands-call b call h =
+    record {
+      model = (M.step call (h .model)) .model;
+      good = good-step (h .model) (h .good) call;
+      is = ap (gatewayStep call) (h .is) ∙ step-is (h .model) (h .good) call;
+    }
+
+-- before the events no tick is due, and until then, or once the player is broken, the table is as it was lent
+pub record Kept (p : Player) (table : List ℕ) : Type 0 where
+  pub idle : p .lines < 4 → p .ticks ≡ 0
+  pub early : p .lines < 4 → table ≡ emptyTable
+  pub still : p .broken ≡ true → table ≡ emptyTable
+  pub stands : p .broken ≡ false → 4 ≤ p .lines → Stands (on (p .state) table)
+  -- 02: "count 1 to 86,400"
+  pub few : p .ticks ≤ 86400
+
+pub kept-early : (p : Player) → p .ticks ≡ 0 → (p .broken ≡ false → 4 ≤ p .lines → Stands (on (p .state) emptyTable)) → Kept p emptyTable
+kept-early p e s = record { idle = λ h. e; early = λ h. refl; still = λ h. refl; stands = s; few = omega (arith, e) }
+
+pub kept-late : (p : Player) (table : List ℕ) → 4 ≤ p .lines → p .broken ≡ false → p .ticks ≤ 86400 → Stands (on (p .state) table) → Kept p table
+kept-late p table h e t s =
+    record {
+      idle = λ k. absurd (omega (arith, h, k));
+      early = λ k. absurd (omega (arith, h, k));
+      still = λ k. absurd (false≢true (sym e ∙ k));
+      stands = λ f l. s;
+      few = t;
+    }
+
+-- a step after which no octet of a line is held does its part of what was due
+pub record Follows (s : Step) (d : Due) (l : List Line) : Type 0 where
+  pub kept : Kept (s .player) (s .table)
+  pub none : (s .player) .held ≡ 0
+  pub same : d ≡ saying (s .text) (remaining (s .player) (s .table) l)
+
+-- ---- one of the first four lines
+
+module _ (p : Player) (l : List Line) (z : p .ticks ≡ 0) where
+  broken-follows : (answer : ℕ) → Follows (brokenStep p emptyTable answer) (openingDue (broken (oneMore (p .lines)))) l
+  unfolding brokenStep breaking nextLine openingDue openingText finalOf remaining saying silence
+  broken-follows answer =
+      record {
+        kept = kept-early (breaking (nextLine p)) z (λ e h. absurd (false≢true (sym e)));
+        none = refl;
+        same = λ i. record { text = sym (append-nil (badText (oneMore (p .lines)))) i; final = finalOf (broken (oneMore (p .lines))) };
+      }
+
+  module _ (f : p .broken ≡ false) where
+    setting-follows : (set : Settings → ℕ → Settings) (next : ℕ → Opening) → oneMore (p .lines) < 4
+        → ((n : ℕ) → next n ≡ openingFrom (oneMore (p .lines)) (set (p .settings) n) l)
+        → (value : Number) → Follows (settingStep p emptyTable value set) (openingDue (whenNumber value (broken (oneMore (p .lines))) next)) l
+    unfolding settingStep whenNumber quietStep settled nextLine saying
+    setting-follows set next k h Bad = broken-follows 19
+    setting-follows set next k h (Is n) =
+        record {
+          kept = kept-early (settled (nextLine p) (set (p .settings) n)) z (λ e g. absurd (omega (arith, k, g)));
+          none = refl;
+          same = ap openingDue (h n) ∙ sym (remaining-early (settled (nextLine p) (set (p .settings) n)) emptyTable l f k);
+        }
+
+-- fresh starts the gateway, and the events follow
+opened-due : (g : Settings) (l : List Line)
+    → openingDue (opened g l) ≡ callsDue 4 (on ((freshOf g) .state) emptyTable) [] l
+unfolding openingDue openingText finalOf run begun on callsDue callsTold gatewayFrom eventsDue saying join
+opened-due g l = refl
+
+-- what it starts with is that of the empty model
+stands-fresh : (g : Settings) → (freshOf g) .answer ≡ 0
+    → Stands (on ((freshOf g) .state) emptyTable)
+unfolding begun on
+stands-fresh g e = record { model = M.empty g; good = empty-good g e; is = begun-is g e }
+
+module _ (p : Player) (l : List Line) (z : p .ticks ≡ 0) (f : p .broken ≡ false) (four : oneMore (p .lines) ≡ 4) where
+  net-broken : (answer : ℕ) → Follows (brokenStep p emptyTable answer) (openingDue (broken 4)) l
+  net-broken answer = subst (λ (number : ℕ). Follows (brokenStep p emptyTable answer) (openingDue (broken number)) l) four (broken-follows p l z answer)
+
+  fresh-follows : (g : Settings) → Follows (freshStep p emptyTable g) (openingDue (takenBy g l)) l
+  unfolding freshStep takenBy quietStep settled having nextLine saying ticks
+  fresh-follows g = go (eqb (fresh .answer) 0) refl
+    where
+      fresh : Outcome
+      fresh = freshOf g
+
+      go : (b : Bool) → eqb (fresh .answer) 0 ≡ b
+          → Follows (cond b (quietStep (having (settled (nextLine p) g) (fresh .state)) emptyTable 0) (brokenStep p emptyTable (fresh .answer)))
+          (openingDue (cond b (opened g l) (broken 4))) l
+      go true e =
+          record {
+            kept = kept-early (having (settled (nextLine p) g) (fresh .state)) z (λ _ _. stands-fresh g (eqb-true (fresh .answer) 0 e));
+            none = refl;
+            same = opened-due g l ∙ sym (remaining-late (having (settled (nextLine p) g) (fresh .state)) emptyTable l f (omega (arith, four)) ∙ rw (four, z));
+          }
+      go false e = net-broken (fresh .answer)
+
+  net-follows : (value : Number) → Follows (netStep p emptyTable value)
+      (openingDue (whenNumber value (broken 4) (λ net. takenBy (withNet (p .settings) net) l))) l
+  unfolding netStep whenNumber
+  net-follows Bad = net-broken 19
+  net-follows (Is net) = fresh-follows (withNet (p .settings) net)
+
+-- which of the four it is
+module _ (p : Player) (f : p .broken ≡ false) (z : p .ticks ≡ 0) (line : List ℕ) (l : List Line) where
+  abbrev behindLines : ℕ → Player
+  behindLines lines =
+      record { lines = lines; held = p .held; broken = p .broken; address = p .address; ticks = p .ticks; settings = p .settings; state = p .state }
+
+  first-follows : Follows (lineStep (behindLines 0) emptyTable (take 4118 line)) (openingDue (openingFrom 0 (p .settings) (ended line ∷ l))) l
+  unfolding lineStep headStep oneMore openingFrom openingOf valueIn withAs
+  first-follows =
+      rw (number-short ownAsOf (text "ownas=") decimal 65535 (settings .own-as) line)
+      (setting-follows (behindLines 0) l z f withAs (λ asn. fromOwn asn l) (omega arith) (λ n. refl) (ownAsOf line))
+
+  second-follows : Follows (lineStep (behindLines 1) emptyTable (take 4118 line)) (openingDue (openingFrom 1 (p .settings) (ended line ∷ l))) l
+  unfolding lineStep headStep oneMore openingFrom fromOwn valueIn withOwn
+  second-follows =
+      rw (number-short ownOf (text "own=") dotted 4294967295 (settings .own) line)
+      (setting-follows (behindLines 1) l z f withOwn (λ own. fromCapability (p .settings .asn) own l) (omega arith) (λ n. refl) (ownOf line))
+
+  third-follows : Follows (lineStep (behindLines 2) emptyTable (take 4118 line)) (openingDue (openingFrom 2 (p .settings) (ended line ∷ l))) l
+  unfolding lineStep headStep oneMore openingFrom fromCapability valueIn withCapability
+  third-follows =
+      rw (number-short capabilityOf (text "cap=") decimal 255 (settings .capability) line)
+      (setting-follows (behindLines 2) l z f withCapability (λ capability. fromNet (p .settings .asn) (p .settings .own) capability l) (omega arith)
+      (λ n. refl) (capabilityOf line))
+
+  fourth-follows : Follows (lineStep (behindLines 3) emptyTable (take 4118 line)) (openingDue (openingFrom 3 (p .settings) (ended line ∷ l))) l
+  unfolding lineStep headStep oneMore openingFrom fromNet valueIn withNet
+  fourth-follows =
+      rw (number-short netOf (text "net=") dotted 4294967295 (settings .net) line)
+      (net-follows (behindLines 3) l z f refl (netOf line))
+
+  one-of-four : (lines : ℕ) → lines < 4
+      → Follows (lineStep (behindLines lines) emptyTable (take 4118 line)) (openingDue (openingFrom lines (p .settings) (ended line ∷ l))) l
+  one-of-four zero k = first-follows
+  one-of-four (suc zero) k = second-follows
+  one-of-four (suc (suc zero)) k = third-follows
+  one-of-four (suc (suc (suc zero))) k = fourth-follows
+  one-of-four (suc (suc (suc (suc lines)))) k = absurd (omega (arith, k))
+
+  pub head-follows : p .lines < 4 → Follows (lineStep p emptyTable (take 4118 line)) (remaining p emptyTable (ended line ∷ l)) l
+  head-follows k = rw (remaining-early p emptyTable (ended line ∷ l) f k) (one-of-four (p .lines) k)
+
+-- ---- one of the events
+
+-- no tick is due: what is due are the events
+pub then-events : (p : Player) (table : List ℕ) (l : List Line) → p .broken ≡ false → 4 ≤ p .lines → p .ticks ≡ 0
+    → remaining p table l ≡ eventsDue (p .lines) (on (p .state) table) l
+unfolding callsDue callsTold gatewayFrom ticks join saying
+then-events p table l f late z = remaining-late p table l f late ∙ rw z
+
+module _ (p : Player) (table : List ℕ) (l : List Line) (f : p .broken ≡ false) (late : 4 ≤ oneMore (p .lines)) (z : p .ticks ≡ 0) (stand : Stands (on (p .state) table)) where
+  abbrev here : Gateway
+  here = on (p .state) table
+
+  abbrev lines : ℕ
+  lines = oneMore (p .lines)
+
+  bad-follows : Follows (badStep p table) (saying (join (map toldText (badLine lines ∷ []))) (eventsDue lines here l)) l
+  unfolding badStep nextLine join toldText
+  bad-follows =
+      record {
+        kept = kept-late (nextLine p) table late f (omega (arith, z)) stand;
+        none = refl;
+        same = rw (append-nil (badText lines), then-events (nextLine p) table l f late z);
+      }
+
+  call-follows : (call : M.Call)
+      → Follows (callStep (nextLine p) table call)
+      (saying (join (map toldText (callsTold here (call ∷ [])))) (eventsDue lines (gatewayFrom here (call ∷ [])) l)) l
+  unfolding callStep nextLine having join toldText callsTold callText gatewayFrom gatewayStep on
+  call-follows call =
+      let s = callStep (nextLine p) table call in
+      record {
+        kept = kept-late (s .player) (s .table) late f (omega (arith, z)) (stands-call here call stand);
+        none = refl;
+        same = rw (append-nil (callText call here), then-events (s .player) (s .table) l f late z);
+      }
+
+  tick-follows : (a count : ℕ) → count ≤ 86400
+      → Follows (quietStep (due (nextLine p) a count) table 0)
+      (saying (join (map toldText (callsTold here (ticks a count)))) (eventsDue lines (gatewayFrom here (ticks a count)) l)) l
+  unfolding quietStep due nextLine saying callsDue
+  tick-follows a count few =
+      record {
+        kept = kept-late (due (nextLine p) a count) table late f few stand;
+        none = refl;
+        same = sym (remaining-late (due (nextLine p) a count) table l f late);
+      }
+
+  event-follows : (e : Event) → (isGood e ≡ true → inRange e ≡ true)
+      → Follows (eventStep p table e)
+      (saying (join (map toldText (eventTold lines here e))) (eventsDue lines (gatewayFrom here (callsOf e)) l)) l
+  unfolding eventStep eventTold callsOf gatewayFrom isGood inRange
+  event-follows bad r = bad-follows
+  event-follows (add a asn) r = call-follows (M.add a asn)
+  event-follows (remove a) r = call-follows (M.remove a)
+  event-follows (start a) r = call-follows (M.start a lent)
+  event-follows (stop a) r = call-follows (M.stop a lent)
+  event-follows (tick a count) r =
+      tick-follows a count (leb-true count 86400 (and-right (leb 1 count) (leb count 86400) (and-right (isAddress a) (leb 1 count && leb count 86400) (r refl))))
+  event-follows (rx a octets) r = call-follows (M.receive a octets [] lent)
+
+-- one line more is one line more, and 4 stays behind
+pub more-lines : (lines : ℕ) → 4 ≤ lines → 4 ≤ oneMore lines
+unfolding oneMore
+more-lines lines h = cond-elim (λ (n : ℕ). 4 ≤ n) (ltb lines 18446744073709551615) (suc lines) lines (λ e. omega (arith, h)) (λ e. h)
+
+module _ (p : Player) (table line : List ℕ) (l : List Line) (f : p .broken ≡ false) (z : p .ticks ≡ 0) (k : Kept p table) where
+  events-follow : 4 ≤ p .lines → Follows (lineStep p table (take 4118 line)) (remaining p table (ended line ∷ l)) l
+  unfolding lineStep eventIn
+  events-follow late =
+      rw (le-ltb (p .lines) 4 late, event-short line, then-events p table (ended line ∷ l) f late z, line-due (p .lines) (on (p .state) table) (ended line) l)
+      (event-follows p table l f (more-lines (p .lines) late) z (k .stands f late) (eventOf line) (events .range line))
+
+  -- any line that has ended
+  pub line-follows : Follows (lineStep p table (take 4118 line)) (remaining p table (ended line ∷ l)) l
+  line-follows = go (ltb (p .lines) 4) refl
+    where
+      go : (b : Bool) → ltb (p .lines) 4 ≡ b → Follows (lineStep p table (take 4118 line)) (remaining p table (ended line ∷ l)) l
+      go true e = rw (k .early (ltb-true (p .lines) 4 e)) (head-follows p f z line l (ltb-true (p .lines) 4 e))
+      go false e = events-follow (ltb-false (p .lines) 4 e)

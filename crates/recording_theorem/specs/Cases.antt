@@ -1,0 +1,42 @@
+-- Worked recordings. The proofs are in proofs/Cases.antt.
+use Prim.Native.Nat.{ℕ}
+use mathlib.Core.Path.{_≡_}
+use mathlib.Core.List.{List, _++_}
+use Rattle.text.specs.Text.{text}
+use Rattle.recording_theorem.specs.Output.{outputOf}
+
+-- settings that fresh takes
+unfoldable pub head : List ℕ
+head = text "ownas=9\nown=128.9.0.1\ncap=1\nnet=128.9.0.0\n"
+
+pub record Cases : Type 0 where
+  -- the first of the four that is bad or missing, alone
+  pub empty : outputOf (text "") ≡ text "bad=1\n"
+  pub blank : outputOf (text "\n") ≡ text "bad=1\n"
+  pub second : outputOf (text "ownas=9\nown=128.9.0\ncap=256\n") ≡ text "bad=2\n"
+  pub third : outputOf (text "ownas=9\nown=128.9.0.1\ncap=256\nnet=128.9.0.0\nadd=128.9.0.5/7\n") ≡ text "bad=3\n"
+  pub missing : outputOf (text "ownas=9\nown=128.9.0.1\ncap=1\n") ≡ text "bad=4\n"
+  pub unended : outputOf (text "ownas=9\nown=128.9.0.1\ncap=1\nnet=128.9.0.0") ≡ text "bad=4\n"
+  -- good lines, but fresh refuses: capability 3
+  pub refused : outputOf (text "ownas=9\nown=128.9.0.1\ncap=3\nnet=128.9.0.0\nadd=128.9.0.5/7\n") ≡ text "bad=4\n"
+  -- nothing happens
+  pub quiet : outputOf head ≡ text "neighbours=0\n"
+  -- line 5 is good, 6 bad, 7 good though its call is refused, 8 bad since it does not end
+  pub some-bad :
+      outputOf (head ++ text "add=128.9.0.5/7\nadd=128.9.0.6/08\nadd=128.9.0.5/7\nadd=128.9.0.6/8")
+      ≡ text "bad=6\nbad=8\nneighbours=1\nslot=0\naddr=128.9.0.5\nas=7\nstate=idle\nmode=none\nrows=0\n"
+  -- a Start, and the Request again after 30 ticks; Stop in Acquisition sends nothing
+  pub started :
+      outputOf (head ++ text "add=128.9.0.5/7\nstart=128.9.0.5\ntick=128.9.0.5/31\nstop=128.9.0.5\n")
+      ≡ text "tx=128.9.0.5/02030001FD5C00090000001E0078\ntx=128.9.0.5/02030001FD5C00090000001E0078\n"
+      ++ text "neighbours=1\nslot=0\naddr=128.9.0.5\nas=7\nstate=idle\nmode=none\nrows=0\n"
+  -- a Request at an active gateway draws a Confirm and a Hello: two lines, in that order
+  pub two-replies :
+      outputOf (head ++ text "add=128.9.0.5/7\nrx=128.9.0.5/02030000FCE800070009003C00C8\n")
+      ≡ text "tx=128.9.0.5/02030101FC5300090009001E0078\ntx=128.9.0.5/02050002FDEF00090000\n"
+      ++ text "neighbours=1\nslot=0\naddr=128.9.0.5\nas=7\nstate=down\nmode=active\nrows=0\n"
+  -- a message that is refused draws its reply too: a Refuse to a Request of another AS
+  pub refused-reply :
+      outputOf (head ++ text "add=128.9.0.5/7\nrx=128.9.0.5/02030000FD51000C0009001E0078\n")
+      ≡ text "tx=128.9.0.5/02030204FBE600090009\n"
+      ++ text "neighbours=1\nslot=0\naddr=128.9.0.5\nas=7\nstate=idle\nmode=none\nrows=0\n"

@@ -1,0 +1,136 @@
+-- What playing a recording writes, told of the whole recording at once: its lines, the calls of its good lines, and
+-- what the model says of each.
+use Prim.Native.Nat.{ℕ, zero, suc}
+use mathlib.Core.Bool.{cond}
+use mathlib.Core.List.{List, [], _∷_, _++_, map}
+use lib.Dec.{eqb}
+use lib.ListN.{length}
+use Rattle.checks.specs.Lists.{join}
+use Rattle.neighbour.specs.declared.Settings.{Settings}
+use Rattle.gateway_slots.specs.Calls.{freshOf}
+use Rattle.listing_lines.specs.Lines.{listingText}
+use Rattle.text_values.specs.declared.Number.{Number}
+use Rattle.text_values.specs.declared.Number.the-variants.{Bad}
+use Rattle.text_values.specs.Numbers.{whenNumber}
+use Rattle.recording_lines.specs.Lines.{Event, bad, add, remove, start, stop, tick, rx, eventOf, ownAsOf, ownOf, capabilityOf, netOf}
+use Rattle.recording_bad_line.specs.BadLine.{badText}
+use Rattle.model.specs.Model as M
+use Rattle.recording_call.specs.Told.{lent, txText, addressOf}
+
+-- ---- lines
+
+-- octets up to an octet 10, or what is left behind the last one
+pub data Line : Type 0 where
+  ended : List ℕ → Line
+  unended : List ℕ → Line
+
+-- the lines of these octets, behind those of a line that has begun
+unfoldable pub linesFrom : List ℕ → List ℕ → List Line
+linesFrom begun [] = cond (eqb (length begun) 0) [] (unended begun ∷ [])
+linesFrom begun (octet ∷ rest) = cond (eqb octet 10) (ended begun ∷ linesFrom [] rest) (linesFrom (begun ++ (octet ∷ [])) rest)
+
+unfoldable pub linesOf : List ℕ → List Line
+linesOf recording = linesFrom [] recording
+
+-- "an unended last line is bad"
+unfoldable pub eventIn : Line → Event
+eventIn (ended line) = eventOf line
+eventIn (unended line) = bad
+
+unfoldable pub valueIn : (List ℕ → Number) → Line → Number
+valueIn read (ended line) = read line
+valueIn read (unended line) = Bad
+
+-- ---- the first four lines
+
+-- the settings and the events after them; or the first line that is bad or missing
+pub data Opening : Type 0 where
+  broken : ℕ → Opening
+  opened : Settings → List Line → Opening
+
+-- "or fresh refuses them, the first such line (the fourth for fresh) alone is so reported"
+unfoldable pub takenBy : Settings → List Line → Opening
+takenBy g events = cond (eqb ((freshOf g) .answer) 0) (opened g events) (broken 4)
+
+unfoldable pub fromNet : ℕ → ℕ → ℕ → List Line → Opening
+fromNet asn own capability [] = broken 4
+fromNet asn own capability (line ∷ events) =
+    whenNumber (valueIn netOf line) (broken 4) (λ net. takenBy (record { asn = asn; own = own; capability = capability; net = net }) events)
+
+unfoldable pub fromCapability : ℕ → ℕ → List Line → Opening
+fromCapability asn own [] = broken 3
+fromCapability asn own (line ∷ rest) = whenNumber (valueIn capabilityOf line) (broken 3) (λ capability. fromNet asn own capability rest)
+
+unfoldable pub fromOwn : ℕ → List Line → Opening
+fromOwn asn [] = broken 2
+fromOwn asn (line ∷ rest) = whenNumber (valueIn ownOf line) (broken 2) (λ own. fromCapability asn own rest)
+
+-- "in a fixed order: ownas, own, cap, net, then events"
+unfoldable pub openingOf : List Line → Opening
+openingOf [] = broken 1
+openingOf (line ∷ rest) = whenNumber (valueIn ownAsOf line) (broken 1) (λ asn. fromOwn asn rest)
+
+-- ---- the calls of the good lines
+
+unfoldable pub ticks : ℕ → ℕ → List M.Call
+ticks a zero = []
+ticks a (suc count) = M.tick a lent ∷ ticks a count
+
+-- "with an empty home list"
+unfoldable pub callsOf : Event → List M.Call
+callsOf bad = []
+callsOf (add a asn) = M.add a asn ∷ []
+callsOf (remove a) = M.remove a ∷ []
+callsOf (start a) = M.start a lent ∷ []
+callsOf (stop a) = M.stop a lent ∷ []
+callsOf (tick a count) = ticks a count
+callsOf (rx a octets) = M.receive a octets [] lent ∷ []
+
+unfoldable pub goodCalls : List Line → List M.Call
+goodCalls [] = []
+goodCalls (line ∷ rest) = callsOf (eventIn line) ++ goodCalls rest
+
+-- ---- what is told, in order
+
+-- a bad line, or a call and what the model says of it
+pub data Told : Type 0 where
+  badLine : ℕ → Told
+  called : M.Call → M.Said → Told
+
+unfoldable pub callsTold : M.Model → List M.Call → List Told
+callsTold m [] = []
+callsTold m (call ∷ rest) = called call ((M.step call m) .said) ∷ callsTold ((M.step call m) .model) rest
+
+-- "A bad event line is reported in its place as `bad=` and its line number, from 1"
+unfoldable pub eventTold : ℕ → M.Model → Event → List Told
+eventTold number m bad = badLine number ∷ []
+eventTold number m (add a asn) = callsTold m (callsOf (add a asn))
+eventTold number m (remove a) = callsTold m (callsOf (remove a))
+eventTold number m (start a) = callsTold m (callsOf (start a))
+eventTold number m (stop a) = callsTold m (callsOf (stop a))
+eventTold number m (tick a count) = callsTold m (callsOf (tick a count))
+eventTold number m (rx a octets) = callsTold m (callsOf (rx a octets))
+
+-- these lines, behind so many
+unfoldable pub toldFrom : ℕ → M.Model → List Line → List Told
+toldFrom lines m [] = []
+toldFrom lines m (line ∷ rest) =
+    eventTold (suc lines) m (eventIn line) ++ toldFrom (suc lines) (M.modelFrom m (callsOf (eventIn line))) rest
+
+-- as text: "each reply message as a `tx` line"
+unfoldable pub toldText : Told → List ℕ
+toldText (badLine number) = badText number
+toldText (called call said) = txText (addressOf call) (said .first) ++ txText (addressOf call) (said .second)
+
+unfoldable pub eventsText : ℕ → M.Model → List Line → List ℕ
+eventsText lines m events = join (map toldText (toldFrom lines m events))
+
+-- ---- the whole, from the model alone
+
+-- "the listing at the end", and "nothing is played or listed" where one of the first four lines is not good
+unfoldable pub openingText : Opening → List ℕ
+openingText (broken number) = badText number
+openingText (opened g events) = eventsText 4 (M.empty g) events ++ listingText (M.listed (M.model g (goodCalls events)))
+
+unfoldable pub outputOf : List ℕ → List ℕ
+outputOf recording = openingText (openingOf (linesOf recording))

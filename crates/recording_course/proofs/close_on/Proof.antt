@@ -4,6 +4,7 @@ use Rattle.recording_course.specs.Course.{closeOn, endedBy}
 use borrow.Author.Needs.{needs}
 use Rattle.recording_course.proofs.close_on.Statement.{statement}
 use Rattle.recording_course.proofs.close_on.Tie as tie
+use Rattle.recording_course.specs.declared.Stage.the-variants.{List as Listing}
 
 close-requires : tie.Need-close-requires
 close-requires c κs = search needs

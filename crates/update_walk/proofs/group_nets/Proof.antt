@@ -58,6 +58,9 @@ use Rattle.update_walk.proofs.nets_of.Met as nets-of-thm
 use Rattle.update_walk.proofs.group_nets as group-nets
 use Rattle.update_walk.proofs.group_nets.Statement as stated
 use Rattle.update_walk.proofs.group_nets.Code as code
+use Rattle.update_walk.proofs.read_group.Symbol.{name as #update-walk·read-group}
+use Rattle.update_walk.proofs.nets_of.Symbol.{name as #update-walk·nets-of}
+use Rattle.update_walk.proofs.group_nets.Key.{name as #update-walk·group-nets}
 
 -- the struct's type, over the signature's lifetimes
 abbrev B : Lfts 1 → RattleType
@@ -204,5 +207,5 @@ group-nets-spec 𝓤 H 𝓜 𝓖 𝓡 =
     entered 𝓤 H (tripleOf 𝓤 H (𝓖 .A) group-nets.signature (group-nets.spec 𝓤 H (𝓖 .A) (𝓜 .mem) (𝓡 .run)))
     (tables 𝓤 H 𝓜 𝓡 code.env .C) (tables 𝓤 H 𝓜 𝓡 code.env .Λ) #update-walk·group-nets code.function (code.unfolded 𝓤 H 𝓜 𝓡)
     (group-nets-meets 𝓤 H (𝓖 .A) (givenOf 𝓤 H 𝓜 𝓖) (𝓜 .mem) (𝓡 .run) (tablesOf 𝓤 H 𝓜 (tables 𝓤 H 𝓜 𝓡 code.env))
-    (cited 𝓤 H (ReadGroup 𝓤 H (𝓖 .A) (𝓜 .mem) (𝓡 .run)) 𝓜 𝓡 code.env #update-walk·read-group read-group-def.routine code.calls-walk·read-group (read-group-thm.met 𝓤 H 𝓜 𝓖 𝓡))
-    (cited 𝓤 H (NetsOf 𝓤 H (𝓖 .A) (𝓜 .mem) (𝓡 .run)) 𝓜 𝓡 code.env #update-walk·nets-of nets-of-def.routine code.calls-walk·nets-of (nets-of-thm.met 𝓤 H 𝓜 𝓖 𝓡)))
+    (cited 𝓤 H (ReadGroup 𝓤 H (𝓖 .A) (𝓜 .mem) (𝓡 .run)) 𝓜 𝓡 code.env #update-walk·read-group read-group-def.routine code.calls-update-walk·read-group (read-group-thm.met 𝓤 H 𝓜 𝓖 𝓡))
+    (cited 𝓤 H (NetsOf 𝓤 H (𝓖 .A) (𝓜 .mem) (𝓡 .run)) 𝓜 𝓡 code.env #update-walk·nets-of nets-of-def.routine code.calls-update-walk·nets-of (nets-of-thm.met 𝓤 H 𝓜 𝓖 𝓡)))

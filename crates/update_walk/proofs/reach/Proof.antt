@@ -41,6 +41,7 @@ use Rattle.update_walk.proofs.Skip.Laws as S′
 use Rattle.update_walk.proofs.reach as reach
 use Rattle.update_walk.proofs.reach.Statement as stated
 use Rattle.update_walk.proofs.reach.Code as code
+use Rattle.update_walk.proofs.reach.Key.{name as #update-walk·reach}
 
 -- the struct's type, over the signature's lifetimes
 abbrev B : Lfts 1 → RattleType

@@ -55,6 +55,9 @@ use Rattle.update_walk.proofs.reach.Met as reach-thm
 use Rattle.update_walk.proofs.skip_group as skip-group
 use Rattle.update_walk.proofs.skip_group.Statement as stated
 use Rattle.update_walk.proofs.skip_group.Code as code
+use Rattle.update_walk.proofs.group_nets.Symbol.{name as #update-walk·group-nets}
+use Rattle.update_walk.proofs.reach.Symbol.{name as #update-walk·reach}
+use Rattle.update_walk.proofs.skip_group.Key.{name as #update-walk·skip-group}
 
 -- the struct's type, over the signature's lifetimes
 abbrev B : Lfts 1 → RattleType
@@ -159,5 +162,5 @@ skip-group-spec 𝓤 H 𝓜 𝓖 𝓡 =
     entered 𝓤 H (tripleOf 𝓤 H (𝓖 .A) skip-group.signature (skip-group.spec 𝓤 H (𝓖 .A) (𝓜 .mem) (𝓡 .run)))
     (tables 𝓤 H 𝓜 𝓡 code.env .C) (tables 𝓤 H 𝓜 𝓡 code.env .Λ) #update-walk·skip-group code.function (code.unfolded 𝓤 H 𝓜 𝓡)
     (skip-group-meets 𝓤 H (𝓖 .A) (givenOf 𝓤 H 𝓜 𝓖) (𝓜 .mem) (𝓡 .run) (tablesOf 𝓤 H 𝓜 (tables 𝓤 H 𝓜 𝓡 code.env))
-    (cited 𝓤 H (GroupNets 𝓤 H (𝓖 .A) (𝓜 .mem) (𝓡 .run)) 𝓜 𝓡 code.env #update-walk·group-nets group-nets-def.routine code.calls-walk·group-nets (group-nets-thm.met 𝓤 H 𝓜 𝓖 𝓡))
-    (cited 𝓤 H (Reach 𝓤 H (𝓖 .A) (𝓜 .mem) (𝓡 .run)) 𝓜 𝓡 code.env #update-walk·reach reach-def.routine code.calls-walk·reach (reach-thm.met 𝓤 H 𝓜 𝓖 𝓡)))
+    (cited 𝓤 H (GroupNets 𝓤 H (𝓖 .A) (𝓜 .mem) (𝓡 .run)) 𝓜 𝓡 code.env #update-walk·group-nets group-nets-def.routine code.calls-update-walk·group-nets (group-nets-thm.met 𝓤 H 𝓜 𝓖 𝓡))
+    (cited 𝓤 H (Reach 𝓤 H (𝓖 .A) (𝓜 .mem) (𝓡 .run)) 𝓜 𝓡 code.env #update-walk·reach reach-def.routine code.calls-update-walk·reach (reach-thm.met 𝓤 H 𝓜 𝓖 𝓡)))

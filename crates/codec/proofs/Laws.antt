@@ -18,7 +18,7 @@ use Rattle.message.specs.Kinds.{kindOf, statusOf, statusAllowed}
 use Rattle.message.specs.declared.Message.{Message}
 use Rattle.message.specs.declared.Message.the-variants.{Request, Confirm, Refuse, Cease, CeaseAck, Hello, IHeardYou, Poll, Update, Error}
 use Rattle.message.proofs.Message.{the-type}
-use Rattle.codec_writing.specs.Octets.{octetsOf}
+use Rattle.codec_writing.specs.Octets.{messageOctets}
 use Rattle.codec_writing.specs.Room.{rowsFit}
 use Rattle.codec_writing.proofs.Laws.{room-most, octets-fit}
 use Rattle.codec.specs.Writing.{rowsAllowed, writable, writeAnswer, writeOctets, writeOf}
@@ -57,7 +57,7 @@ allowed-fits (Error a q s r x y z) numbers w = refl
 -- ---- the writer's two checks
 
 -- no message that may be written is longer than 1,168 octets
-pub octets-short : (m : Message) (numbers : List ℕ) → rowsAllowed m numbers ≡ true → length (octetsOf m (rowsOf numbers)) ≤ 1168
+pub octets-short : (m : Message) (numbers : List ℕ) → rowsAllowed m numbers ≡ true → length (messageOctets m (rowsOf numbers)) ≤ 1168
 octets-short m numbers w = omega (arith, octets-fit m numbers (allowed-fits m numbers w), room-most m)
 
 -- one of writing's answers, with what it leaves
@@ -74,8 +74,8 @@ module _ (m : Message) (numbers buffer : List ℕ) where
   unfolding writeAnswer
   write-16 h w = answered 16 (check-holds (leb 2048 (length buffer)) 3 _ (le-leb 2048 (length buffer) h) ∙ check-fails (writable m numbers) 16 0 w) (λ z. absurd (omega arith))
 
-  pub write-0 : 2048 ≤ length buffer → writable m numbers ≡ true → (n : ℕ) (x : List ℕ) → n ≡ length (octetsOf m (rowsOf numbers))
-      → x ≡ over (octetsOf m (rowsOf numbers)) buffer → (record { answer = 0; length = n } ≡ writeOf m numbers buffer) × (x ≡ over (writeOctets m numbers buffer) buffer)
+  pub write-0 : 2048 ≤ length buffer → writable m numbers ≡ true → (n : ℕ) (x : List ℕ) → n ≡ length (messageOctets m (rowsOf numbers))
+      → x ≡ over (messageOctets m (rowsOf numbers)) buffer → (record { answer = 0; length = n } ≡ writeOf m numbers buffer) × (x ≡ over (writeOctets m numbers buffer) buffer)
   unfolding writeOf writeOctets ifOk writeAnswer
   write-0 h w n x e f =
       let z = check-holds (leb 2048 (length buffer)) 3 (check (writable m numbers) 16 0) (le-leb 2048 (length buffer) h) ∙ check-holds (writable m numbers) 16 0 w in

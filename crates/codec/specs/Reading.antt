@@ -26,9 +26,9 @@ abbrev pub mostReadNumbers : ℕ
 mostReadNumbers = 384
 
 -- 01's number for each case of the reader's answer
-unfoldable pub numberOf : Meaning → ℕ
-numberOf (Good m) = 0
-numberOf (Refused number) = number
+unfoldable pub readNumber : Meaning → ℕ
+readNumber (Good m) = 0
+readNumber (Refused number) = number
 
 -- a refusal hands back no row
 unfoldable pub refusal : ℕ → Reading
@@ -41,8 +41,8 @@ rowless m = record { meaning = Good m; count = 0; rows = zeros mostReadNumbers }
 -- an Update: exactly its rows, then zeros
 unfoldable pub updateReading : Message → UpdateRead → Reading
 updateReading m (accepted rs) = record { meaning = Good m; count = length rs; rows = padded mostReadNumbers (flat rs) }
-updateReading m (brokenAt offset) = refusal (Walk.numberOf (brokenAt offset))
-updateReading m tooMany = refusal (Walk.numberOf tooMany)
+updateReading m (brokenAt offset) = refusal (Walk.updateNumber (brokenAt offset))
+updateReading m tooMany = refusal (Walk.updateNumber tooMany)
 
 -- what a message says, with its rows
 unfoldable pub meaningReading : ℕ → List ℕ → Message → Reading
@@ -60,9 +60,9 @@ meaningReading net o (Error a q s reason x y z) = rowless (Error a q s reason x 
 -- 10 to 12, then 14 and 15
 unfoldable pub kindReading : ℕ → List ℕ → Decoded → Reading
 kindReading net o (D.Good m) = meaningReading net o m
-kindReading net o D.UnknownKind = refusal (Wire.numberOf D.UnknownKind)
-kindReading net o D.BadStatus = refusal (Wire.numberOf D.BadStatus)
-kindReading net o D.BadLength = refusal (Wire.numberOf D.BadLength)
+kindReading net o D.UnknownKind = refusal (Wire.decodedNumber D.UnknownKind)
+kindReading net o D.BadStatus = refusal (Wire.decodedNumber D.BadStatus)
+kindReading net o D.BadLength = refusal (Wire.decodedNumber D.BadLength)
 
 -- 6 to 8 first
 unfoldable pub readOf : ℕ → List ℕ → Reading

@@ -9,9 +9,9 @@ use Rattle.nets.specs.Rows.{rowsOf}
 use Rattle.message.specs.Kinds.{typeOf, kindOf, statusOf, statusAllowed}
 use Rattle.message.specs.declared.Kind.the-variants as K
 use Rattle.message.specs.declared.Message.{Message}
-use Rattle.codec_writing.specs.Octets.{octetsOf}
+use Rattle.codec_writing.specs.Octets.{messageOctets}
 use Rattle.codec_writing.specs.Room.{rowsFit}
-use Rattle.codec.specs.declared.Written.{Written}
+use Rattle.codec.specs.declared.WriteAnswer.{WriteAnswer}
 
 -- rows stand beside an Update alone
 abbrev pub hasRows : Message → Bool
@@ -32,9 +32,9 @@ writeAnswer m numbers buffer = check (leb 2048 (length buffer)) 3 (check (writab
 
 -- the octets that the call writes: none where it refuses
 unfoldable pub writeOctets : Message → List ℕ → List ℕ → List ℕ
-writeOctets m numbers buffer = ifOk (writeAnswer m numbers buffer) (octetsOf m (rowsOf numbers)) []
+writeOctets m numbers buffer = ifOk (writeAnswer m numbers buffer) (messageOctets m (rowsOf numbers)) []
 
 -- 01's answer and the length
-unfoldable pub writeOf : Message → List ℕ → List ℕ → Written
+unfoldable pub writeOf : Message → List ℕ → List ℕ → WriteAnswer
 writeOf m numbers buffer =
     record { answer = writeAnswer m numbers buffer; length = length (writeOctets m numbers buffer) }

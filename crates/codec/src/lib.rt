@@ -22,7 +22,7 @@ pub struct Reading {
 }
 
 // The writer's answer, and how many octets it wrote.
-pub struct Written {
+pub struct WriteAnswer {
     pub answer: u8,
     pub length: u16,
 }
@@ -56,24 +56,24 @@ fn is_writable(message: Message, rows: &[u32]) -> bool
 }
 
 // Writes a message of any kind: 3 for a short buffer, 16 for what the reader never gives.
-pub fn write(buffer: &mut [u8], message: Message, rows: &[u32]) -> Written
+pub fn write(buffer: &mut [u8], message: Message, rows: &[u32]) -> WriteAnswer
     ensures { λ r. ⌜ r ≡ writeOf message (now (rows .entry)) (now (buffer .entry)) ⌝ }
     ensures { λ _. ⌜ now (buffer .exit) ≡ over (writeOctets message (now (rows .entry)) (now (buffer .entry))) (now (buffer .entry)) ⌝ }
 {
     if buffer.len() < 2048 {
-        return Written {
+        return WriteAnswer {
             answer: 3,
             length: 0,
         };
     }
     if !is_writable(message, rows) {
-        return Written {
+        return WriteAnswer {
             answer: 16,
             length: 0,
         };
     }
     let length = codec_writing::write_message(buffer, message, rows);
-    Written {
+    WriteAnswer {
         answer: 0,
         length: length as u16,
     }
@@ -96,7 +96,7 @@ fn read_update(net: u32, m: Message, message: &[u8]) -> Reading
 {
     let walked = update_walk::walk(net, message, 128);
     let Walked::Rows(count) = walked else {
-        return refuse(update_walk::number_of(walked));
+        return refuse(update_walk::update_number(walked));
     };
     let mut rows = [0u32; 384];
     update_rows::store_rows(&mut rows, net, message);
@@ -136,7 +136,7 @@ pub fn read(net: u32, message: &[u8]) -> Reading
     }
     let decoded = message_reading::decode(message);
     let Decoded::Good(m) = decoded else {
-        return refuse(message_reading::number_of(decoded));
+        return refuse(message_reading::decoded_number(decoded));
     };
     read_rows(net, m, message)
 }

@@ -29,17 +29,17 @@ use Rattle.message_reading.specs.declared.Decoded.{Decoded}
 use Rattle.message_reading.specs.declared.Decoded.the-variants as D
 use Rattle.message_reading.specs.Reading.{statusAt, asnAt, sequenceAt, headerAnswer, meaningOf, decodeAs, decodeOf}
 use Rattle.message_writing.specs.Writing.{headOf}
-use Rattle.codec_writing.specs.Octets.{plainOctets, octetsOf}
+use Rattle.codec_writing.specs.Octets.{plainOctets, messageOctets}
 use Rattle.codec_writing.specs.Room.{rowsFit}
 use Rattle.codec_writing.proofs.Laws.{writable-rows, rows-few, blocks-few}
 use Rattle.message_reading.proofs.Laws.{header-passed}
-use Rattle.update_walk.specs.Body.{digits, got, bothSides, whole, nothingLeft, bodyOf, further, netAt, UpdateRead, accepted, brokenAt, tooMany, updateOf}
+use Rattle.update_walk.specs.Body.{extended, got, bothSides, whole, nothingLeft, bodyOf, further, netAt, UpdateRead, accepted, brokenAt, tooMany, updateOf}
 use Rattle.update_walk.specs.Body as Walk
 use Rattle.update_walk.proofs.Digits.{octets-drop}
 use Rattle.update_walk.proofs.Accepted.{whole-is, accepted-is, accepted-of}
 use Rattle.update_rows.specs.Storing.{zeros, padded}
 use Rattle.update_rows.proofs.Laws.{flat-length}
-use Rattle.update_writing.specs.Blocks.{sideOf, sideRows, gatewayRuns, distanceRuns, blocksOf, internalBlocks, externalBlocks}
+use Rattle.update_writing.specs.Blocks.{sideOf, sideRows, gatewayRuns, distanceRuns, blocksWritten, internalBlocks, externalBlocks}
 use Rattle.update_writing.specs.Writable.{writableRows, writableNumbers}
 use Rattle.update_writing.proofs.Claims.{counts}
 use Rattle.update_theorem.specs.Canonical.{canonical}
@@ -52,7 +52,7 @@ use Rattle.codec.specs.declared.Meaning.the-variants.{Good}
 use Rattle.codec.specs.declared.Reading.{Reading}
 use Rattle.codec.proofs.Laws.{octets-short}
 use Rattle.codec.proofs.ReadLaws.{read-kind-good}
-use Rattle.codec_theorem.specs.Widths.{HeadFits, Fits}
+use Rattle.codec_theorem.specs.Widths.{HeadFits, InWidths}
 use Rattle.codec_theorem.specs.Exchange.{handedBack, Common, MeaningsReadBack, Reads, ComesBack, OctetsComeBack, handedOver, CallsUndoEachOther, Bound}
 use Rattle.codec_theorem.proofs.Fixed.{Allowed, ReservedZero, word-back, quad-back, sealed-passes, passes, decodes, ReadAs, read-as, spell, high, low, first-of, second-of, third-of, fourth-of, kind-read, read-allowed, fixed-back}
 
@@ -108,71 +108,71 @@ rowless-is m = refl
 
 -- ---- a meaning that was written, of a kind without rows
 
-rowless-back : (net : ℕ) (m : Message) (numbers : List ℕ) → 1 < typeOf (kindOf m) → Fits m → Allowed m → eqb (length numbers) 0 ≡ true
-    → ((o : List ℕ) → meaningReading net o m ≡ rowless m) → readOf net (octetsOf m (rowsOf numbers)) ≡ handedBack m (length (rowsOf numbers)) numbers
+rowless-back : (net : ℕ) (m : Message) (numbers : List ℕ) → 1 < typeOf (kindOf m) → InWidths m → Allowed m → eqb (length numbers) 0 ≡ true
+    → ((o : List ℕ) → meaningReading net o m ≡ rowless m) → readOf net (messageOctets m (rowsOf numbers)) ≡ handedBack m (length (rowsOf numbers)) numbers
 unfolding rowsOf
 rowless-back net m numbers t f w z r =
     let u : kindOf m ≡ K.Update → ⊥ = λ e. omega (arith, ap typeOf e) in
     let n : numbers ≡ [] = none-of numbers (eqb-true (length numbers) 0 z) in
-    passed net (octetsOf m (rowsOf numbers)) m (passes m (rowsOf numbers) u) (decodes m (rowsOf numbers) u f w)
-    ∙ r (octetsOf m (rowsOf numbers)) ∙ rowless-is m ∙ ap (λ (l : List ℕ). handedBack m (length (rowsOf l)) l) (sym n)
+    passed net (messageOctets m (rowsOf numbers)) m (passes m (rowsOf numbers) u) (decodes m (rowsOf numbers) u f w)
+    ∙ r (messageOctets m (rowsOf numbers)) ∙ rowless-is m ∙ ap (λ (l : List ℕ). handedBack m (length (rowsOf l)) l) (sym n)
 
 -- ---- an Update that was written
 
 module _ (a q s net : ℕ) (rows : List Row) where
-  at-ten : getD (octetsOf (Update a q s net) rows) 10 0 ≡ internalBlocks rows
-  unfolding octetsOf plainOctets headOf sealed
+  at-ten : getD (messageOctets (Update a q s net) rows) 10 0 ≡ internalBlocks rows
+  unfolding messageOctets plainOctets headOf sealed
   at-ten = refl
 
-  at-eleven : getD (octetsOf (Update a q s net) rows) 11 0 ≡ externalBlocks rows
-  unfolding octetsOf plainOctets headOf sealed
+  at-eleven : getD (messageOctets (Update a q s net) rows) 11 0 ≡ externalBlocks rows
+  unfolding messageOctets plainOctets headOf sealed
   at-eleven = refl
 
-  after-head : drop 16 (octetsOf (Update a q s net) rows) ≡ blocksOf net rows
-  unfolding octetsOf plainOctets headOf sealed
+  after-head : drop 16 (messageOctets (Update a q s net) rows) ≡ blocksWritten net rows
+  unfolding messageOctets plainOctets headOf sealed
   after-head = refl
 
-  update-long : 16 ≤ length (octetsOf (Update a q s net) rows)
-  unfolding octetsOf plainOctets headOf sealed
+  update-long : 16 ≤ length (messageOctets (Update a q s net) rows)
+  unfolding messageOctets plainOctets headOf sealed
   update-long = omega arith
 
-  net-said : net < 4294967296 → netAt (octetsOf (Update a q s net) rows) ≡ net
-  unfolding octetsOf plainOctets headOf sealed netAt digits
+  net-said : net < 4294967296 → netAt (messageOctets (Update a q s net) rows) ≡ net
+  unfolding messageOctets plainOctets headOf sealed netAt extended
   net-said h = rw (zero-add (net / 16777216 % 256)) (quad-back net h)
 
-  update-passes : length (blocksOf net rows) ≤ 1152 → headerAnswer (octetsOf (Update a q s net) rows) ≡ 0
-  unfolding octetsOf plainOctets headOf
+  update-passes : length (blocksWritten net rows) ≤ 1152 → headerAnswer (messageOctets (Update a q s net) rows) ≡ 0
+  unfolding messageOctets plainOctets headOf
   update-passes h = sealed-passes _ (omega arith) (omega arith) refl
 
-  update-decodes : HeadFits a q s → net < 4294967296 → statusAllowed K.Update s ≡ true → decodeOf (octetsOf (Update a q s net) rows) ≡ D.Good (Update a q s net)
-  unfolding decodeOf decodeAs meaningOf kindAt octetsOf plainOctets headOf sealed
+  update-decodes : HeadFits a q s → net < 4294967296 → statusAllowed K.Update s ≡ true → decodeOf (messageOctets (Update a q s net) rows) ≡ D.Good (Update a q s net)
+  unfolding decodeOf decodeAs meaningOf kindAt messageOctets plainOctets headOf sealed
   update-decodes f n e =
-      let l : leb 16 (length (octetsOf (Update a q s net) rows)) ≡ true = le-leb 16 (length (octetsOf (Update a q s net) rows)) update-long in
+      let l : leb 16 (length (messageOctets (Update a q s net) rows)) ≡ true = le-leb 16 (length (messageOctets (Update a q s net) rows)) update-long in
       rw (e, l, word-back a (f .asn16), word-back q (f .sequence16), quad-back net n)
 
 -- the blocks behind a head that says these counts and the common net
 blocks-whole : (net internal external : ℕ) (o blocks : List ℕ) (rs : List Row) → 16 ≤ length o → goodNet net ≡ true → netAt o ≡ net
-    → getD o 10 0 ≡ internal → getD o 11 0 ≡ external → drop 16 o ≡ blocks → bodyOf net internal external blocks ≡ whole rs → Walk.blocksOf net o ≡ whole rs
-unfolding Walk.blocksOf further
+    → getD o 10 0 ≡ internal → getD o 11 0 ≡ external → drop 16 o ≡ blocks → bodyOf net internal external blocks ≡ whole rs → Walk.walkedBlocks net o ≡ whole rs
+unfolding Walk.walkedBlocks further
 blocks-whole net internal external o blocks rs l g n p q d b =
     rw (le-ltb (length o) 16 l, g, eq-eqb (netAt o) net n, p, q, d, b)
 
 update-back : (a q s net : ℕ) (numbers : List ℕ) → HeadFits a q s → net < 4294967296 → statusAllowed K.Update s ≡ true → goodNet net ≡ true → writableNumbers net numbers ≡ true
-    → readOf net (octetsOf (Update a q s net) (rowsOf numbers)) ≡ handedBack (Update a q s net) (length (rowsOf numbers)) numbers
+    → readOf net (messageOctets (Update a q s net) (rowsOf numbers)) ≡ handedBack (Update a q s net) (length (rowsOf numbers)) numbers
 unfolding meaningReading updateReading handedBack
 update-back a q s net numbers f n e g w =
     let rows = rowsOf numbers in
-    let o = octetsOf (Update a q s net) (rowsOf numbers) in
-    let b : Walk.blocksOf net (octetsOf (Update a q s net) (rowsOf numbers)) ≡ whole (rowsOf numbers) =
-    blocks-whole net (internalBlocks rows) (externalBlocks rows) o (blocksOf net rows) rows (update-long a q s net rows) g (net-said a q s net rows n)
+    let o = messageOctets (Update a q s net) (rowsOf numbers) in
+    let b : Walk.walkedBlocks net (messageOctets (Update a q s net) (rowsOf numbers)) ≡ whole (rowsOf numbers) =
+    blocks-whole net (internalBlocks rows) (externalBlocks rows) o (blocksWritten net rows) rows (update-long a q s net rows) g (net-said a q s net rows n)
     (at-ten a q s net rows) (at-eleven a q s net rows) (after-head a q s net rows) (Trip.writes-read-back .rows net g rows (writable-rows net numbers w)) in
-    let u : updateOf 128 net (octetsOf (Update a q s net) (rowsOf numbers)) ≡ accepted (rowsOf numbers) =
+    let u : updateOf 128 net (messageOctets (Update a q s net) (rowsOf numbers)) ≡ accepted (rowsOf numbers) =
     accepted-of 128 net o rows (record { is = b; fits = rows-few net numbers w }) in
     passed net o (Update a q s net) (update-passes a q s net rows (blocks-few net numbers g w)) (update-decodes a q s net rows f n e)
     ∙ rw (u, whole-numbers net numbers w)
 
-same : (net : ℕ) (m : Message) (numbers : List ℕ) → Fits m → Allowed m → rowsAllowed m numbers ≡ true → Common net m
-    → readOf net (octetsOf m (rowsOf numbers)) ≡ handedBack m (length (rowsOf numbers)) numbers
+same : (net : ℕ) (m : Message) (numbers : List ℕ) → InWidths m → Allowed m → rowsAllowed m numbers ≡ true → Common net m
+    → readOf net (messageOctets m (rowsOf numbers)) ≡ handedBack m (length (rowsOf numbers)) numbers
 unfolding rowsAllowed rowsFit meaningReading
 same net (Request a q s h p) numbers f w z c = rowless-back net (Request a q s h p) numbers (omega arith) f w z (λ o. refl)
 same net (Confirm a q s h p) numbers f w z c = rowless-back net (Confirm a q s h p) numbers (omega arith) f w z (λ o. refl)
@@ -286,16 +286,16 @@ unfolding rowless handedBack
 rowless-none m rs e = none-of rs (sym (ap (λ (r : Reading). r .count) e))
 
 module _ (net : ℕ) (o : List ℕ) (m : Message) (rs : List Row) (oct : Octets o) (r : Reads net o m rs) where
-  reserved-back : (kindOf m ≡ K.Update → ⊥) → (octetsOf m rs ≡ o) ↔ ReservedZero m o
+  reserved-back : (kindOf m ≡ K.Update → ⊥) → (messageOctets m rs ≡ o) ↔ ReservedZero m o
   reserved-back u = let f = reads-good net o m rs r in fixed-back o m oct (f .header) (f .kind) u rs
 
-  other-back : 2 < typeOf (kindOf m) → (octetsOf m rs ≡ o) ↔ Unit {0}
+  other-back : 2 < typeOf (kindOf m) → (messageOctets m rs ≡ o) ↔ Unit {0}
   other-back h = let k = others (kindOf m) h in (λ e. tt, λ z. reserved-back (k .0) .1 (λ i. absurd (k .1 i)))
 
-  good-allowed : Fits m × Allowed m
+  good-allowed : InWidths m × Allowed m
   good-allowed = read-allowed o m oct (reads-good net o m rs r .kind)
 
-  other-writes : meaningReading net o m ≡ rowless m → rowsAllowed m [] ≡ true → Common net m → Fits m × Common net m × (writable m (flat rs) ≡ true)
+  other-writes : meaningReading net o m ≡ rowless m → rowsAllowed m [] ≡ true → Common net m → InWidths m × Common net m × (writable m (flat rs) ≡ true)
   unfolding writable flat
   other-writes n w c =
       let z : rs ≡ [] = rowless-none m rs (sym (reads-good net o m rs r .is ∙ n) ∙ r) in
@@ -327,9 +327,9 @@ spell-front (suc n) i l h =
     ∙ ap (λ (k : ℕ). getD l i 0 ∷ (spell n (suc i) l ++ drop k l)) e
 
 net-at : (o : List ℕ) → 16 ≤ length o → netAt o ≡ word32 o 12
-unfolding netAt digits spell
+unfolding netAt extended spell
 net-at o h =
-    ap (λ (l : List ℕ). digits 0 (take 4 (drop 12 l))) (spell-front 16 0 o h)
+    ap (λ (l : List ℕ). extended 0 (take 4 (drop 12 l))) (spell-front 16 0 o h)
     ∙ rw (zero-add (getD o 12 0))
 
 -- an Update's octets, but for the checksum's field
@@ -407,23 +407,23 @@ update-found net o a q s own rs oct r =
     }
 
 module _ (net : ℕ) (o : List ℕ) (a q s own : ℕ) (rs : List Row) (oct : Octets o) (f : UpdateFound net o a q s own rs) where
-  update-comes : canonical net (getD o 10 0) (getD o 11 0) (drop 16 o) ≡ true → octetsOf (Update a q s own) rs ≡ o
-  unfolding octetsOf plainOctets
+  update-comes : canonical net (getD o 10 0) (getD o 11 0) (drop 16 o) ≡ true → messageOctets (Update a q s own) rs ≡ o
+  unfolding messageOctets plainOctets
   update-comes full =
       let w = Trip.reads-write-back .grouped net (getD o 10 0) (getD o 11 0) (drop 16 o) rs (f .read) full in
       let six : 6 ≤ length o = omega (arith, f .long) in
-      let b : blocksOf own rs ≡ drop 16 o = ap (λ (n : ℕ). blocksOf n rs) (f .common) ∙ w .blocks in
+      let b : blocksWritten own rs ≡ drop 16 o = ap (λ (n : ℕ). blocksWritten n rs) (f .common) ∙ w .blocks in
       let h : headOf (internalBlocks rs) (externalBlocks rs) a q s own ≡ headOf (getD o 10 0) (getD o 11 0) (asnAt o) (sequenceAt o) (statusAt o) (word32 o 12) =
       rw (w .inside, w .outside, f .asn, f .sequence, f .status, f .said) in
       ap sealed (rw (h, b) (head-back o oct (f .long) (f .version) (f .number) (f .code)))
       ∙ sealed-blanked o six
       ∙ sealed-right o six (oct 4) (oct 5) (f .field)
 
-  update-only : octetsOf (Update a q s own) rs ≡ o → canonical net (getD o 10 0) (getD o 11 0) (drop 16 o) ≡ true
+  update-only : messageOctets (Update a q s own) rs ≡ o → canonical net (getD o 10 0) (getD o 11 0) (drop 16 o) ≡ true
   update-only e =
       Trip.reads-write-back .only net (getD o 10 0) (getD o 11 0) (drop 16 o) rs (f .read)
       (record {
-        blocks = ap (λ (n : ℕ). blocksOf n rs) (sym (f .common)) ∙ sym (after-head a q s own rs) ∙ ap (drop 16) e;
+        blocks = ap (λ (n : ℕ). blocksWritten n rs) (sym (f .common)) ∙ sym (after-head a q s own rs) ∙ ap (drop 16) e;
         inside = sym (at-ten a q s own rs) ∙ ap (λ (l : List ℕ). getD l 10 0) e;
         outside = sym (at-eleven a q s own rs) ∙ ap (λ (l : List ℕ). getD l 11 0) e;
       })
@@ -436,7 +436,7 @@ module _ (net : ℕ) (o : List ℕ) (a q s own : ℕ) (rs : List Row) (oct : Oct
 
 -- ---- octets that were read, of any kind
 
-writes : (net : ℕ) (o : List ℕ) (m : Message) (rs : List Row) → Octets o → Reads net o m rs → Fits m × Common net m × (writable m (flat rs) ≡ true)
+writes : (net : ℕ) (o : List ℕ) (m : Message) (rs : List Row) → Octets o → Reads net o m rs → InWidths m × Common net m × (writable m (flat rs) ≡ true)
 unfolding meaningReading rowsAllowed rowsFit writable
 writes net o (Request a q s h p) rs oct r = other-writes net o (Request a q s h p) rs oct r refl refl tt
 writes net o (Confirm a q s h p) rs oct r = other-writes net o (Confirm a q s h p) rs oct r refl refl tt
@@ -452,7 +452,7 @@ writes net o (Update a q s own) rs oct r =
     (k .0, sym (f .common), and-both (statusAllowed K.Update s) (goodNet own && writableNumbers own (flat rs)) (k .1) (update-writable net o a q s own rs oct f))
 writes net o (Error a q s n x y z) rs oct r = other-writes net o (Error a q s n x y z) rs oct r refl refl tt
 
-back : (net : ℕ) (o : List ℕ) (m : Message) (rs : List Row) → Octets o → Reads net o m rs → (octetsOf m rs ≡ o) ↔ ComesBack net o m
+back : (net : ℕ) (o : List ℕ) (m : Message) (rs : List Row) → Octets o → Reads net o m rs → (messageOctets m rs ≡ o) ↔ ComesBack net o m
 back net o (Request a q s h p) rs oct r = other-back net o (Request a q s h p) rs oct r (omega arith)
 back net o (Confirm a q s h p) rs oct r = other-back net o (Confirm a q s h p) rs oct r (omega arith)
 back net o (Refuse a q s) rs oct r = other-back net o (Refuse a q s) rs oct r (omega arith)
@@ -488,13 +488,13 @@ module _ (m : Message) (numbers buffer : List ℕ) where
       check-holds (leb 2048 (length buffer)) 3 (check (writable m numbers) 16 0) (le-leb 2048 (length buffer) h)
       ∙ check-holds (writable m numbers) 16 0 w
 
-  handed-over : writeAnswer m numbers buffer ≡ 0 → handedOver m numbers buffer ≡ octetsOf m (rowsOf numbers)
+  handed-over : writeAnswer m numbers buffer ≡ 0 → handedOver m numbers buffer ≡ messageOctets m (rowsOf numbers)
   unfolding writeOf over writeOctets
   handed-over e =
-      rw (ifOk-new (writeAnswer m numbers buffer) (octetsOf m (rowsOf numbers)) [] e)
-      (take-at (octetsOf m (rowsOf numbers)) (drop (length (octetsOf m (rowsOf numbers))) buffer) (length (octetsOf m (rowsOf numbers))) refl)
+      rw (ifOk-new (writeAnswer m numbers buffer) (messageOctets m (rowsOf numbers)) [] e)
+      (take-at (messageOctets m (rowsOf numbers)) (drop (length (messageOctets m (rowsOf numbers))) buffer) (length (messageOctets m (rowsOf numbers))) refl)
 
-calls-written : (net : ℕ) (m : Message) (numbers buffer : List ℕ) → Fits m → Common net m → (writeOf m numbers buffer) .answer ≡ 0
+calls-written : (net : ℕ) (m : Message) (numbers buffer : List ℕ) → InWidths m → Common net m → (writeOf m numbers buffer) .answer ≡ 0
     → readOf net (handedOver m numbers buffer) ≡ handedBack m (length (rowsOf numbers)) numbers
 unfolding writeOf
 calls-written net m numbers buffer f c e =
@@ -508,8 +508,8 @@ calls-taken net o m rs buffer oct r h = answers-0 m (flat rs) buffer h (writes n
 calls-read : (net : ℕ) (o : List ℕ) (m : Message) (rs : List Row) (buffer : List ℕ) → Octets o → Reads net o m rs
     → 2048 ≤ length buffer → (handedOver m (flat rs) buffer ≡ o) ↔ ComesBack net o m
 calls-read net o m rs buffer oct r h =
-    let e : handedOver m (flat rs) buffer ≡ octetsOf m rs =
-    handed-over m (flat rs) buffer (answers-0 m (flat rs) buffer h (writes net o m rs oct r .2)) ∙ ap (octetsOf m) (rows-flat rs) in
+    let e : handedOver m (flat rs) buffer ≡ messageOctets m rs =
+    handed-over m (flat rs) buffer (answers-0 m (flat rs) buffer h (writes net o m rs oct r .2)) ∙ ap (messageOctets m) (rows-flat rs) in
     let b = back net o m rs oct r in
     (λ k. b .0 (sym e ∙ k), λ k. e ∙ b .1 k)
 

@@ -24,8 +24,8 @@ use Rattle.message_reading.specs.declared.Decoded.the-variants.{Good, BadStatus
 use Rattle.message_reading.specs.Reading.{statusAt, asnAt, sequenceAt, headerAnswer, meaningOf, decodeAs, decodeOf}
 use Rattle.nets.specs.Rows.{Row}
 use Rattle.message_writing.specs.Writing.{headed, headOf}
-use Rattle.codec_writing.specs.Octets.{plainOctets, octetsOf}
-use Rattle.codec_theorem.specs.Widths.{HeadFits, Fits}
+use Rattle.codec_writing.specs.Octets.{plainOctets, messageOctets}
+use Rattle.codec_theorem.specs.Widths.{HeadFits, InWidths}
 use Rattle.message_reading.proofs.Laws.{header-good, header-passed}
 
 -- the status is one that the reader lets through
@@ -56,8 +56,8 @@ sealed-passes l low high v =
     sym (header-good (sealed l) (rw (sealed-length l) low) (rw (sealed-length l) high) (getD (sealed l) 0 0) refl (sealed-first l six ∙ v)
     (word16 (sealed l) 4) (checksumOf (sealed l)) refl refl (field-sealed l six))
 
-pub passes : (m : Message) (rows : List Row) → (kindOf m ≡ K.Update → ⊥) → headerAnswer (octetsOf m rows) ≡ 0
-unfolding octetsOf plainOctets
+pub passes : (m : Message) (rows : List Row) → (kindOf m ≡ K.Update → ⊥) → headerAnswer (messageOctets m rows) ≡ 0
+unfolding messageOctets plainOctets
 passes (Request a q s h p) rows u = sealed-passes _ (omega arith) (omega arith) refl
 passes (Confirm a q s h p) rows u = sealed-passes _ (omega arith) (omega arith) refl
 passes (Refuse a q s) rows u = sealed-passes _ (omega arith) (omega arith) refl
@@ -71,8 +71,8 @@ passes (Error a q s r x y z) rows u = sealed-passes _ (omega arith) (omega arith
 
 -- ---- and reads to the same meaning
 
-pub decodes : (m : Message) (rows : List Row) → (kindOf m ≡ K.Update → ⊥) → Fits m → Allowed m → decodeOf (octetsOf m rows) ≡ Good m
-unfolding decodeOf decodeAs meaningOf kindAt octetsOf plainOctets sealed
+pub decodes : (m : Message) (rows : List Row) → (kindOf m ≡ K.Update → ⊥) → InWidths m → Allowed m → decodeOf (messageOctets m rows) ≡ Good m
+unfolding decodeOf decodeAs meaningOf kindAt messageOctets plainOctets sealed
 decodes (Request a q s h p) rows u f e = rw (e, word-back a (f .0 .asn16), word-back q (f .0 .sequence16), word-back h (f .1), word-back p (f .2))
 decodes (Confirm a q s h p) rows u f e = rw (e, word-back a (f .0 .asn16), word-back q (f .0 .sequence16), word-back h (f .1), word-back p (f .2))
 decodes (Refuse a q s) rows u f e = rw (e, word-back a (f .asn16), word-back q (f .sequence16))
@@ -214,8 +214,8 @@ status-read K.Update o = refl
 status-read K.Error o = refl
 
 -- a Poll is written with reserved octets 0
-poll-zero : (m : Message) (rows : List Row) (o : List ℕ) → octetsOf m rows ≡ o → ReservedZero m o
-unfolding octetsOf plainOctets sealed
+poll-zero : (m : Message) (rows : List Row) (o : List ℕ) → messageOctets m rows ≡ o → ReservedZero m o
+unfolding messageOctets plainOctets sealed
 poll-zero (Request a q s h p) rows o e i = let z : _≡_ {A = ℕ} 0 1 = cc in absurd (omega arith)
 poll-zero (Confirm a q s h p) rows o e i = let z : _≡_ {A = ℕ} 0 1 = cc in absurd (omega arith)
 poll-zero (Refuse a q s) rows o e i = let z : _≡_ {A = ℕ} 0 1 = cc in absurd (omega arith)
@@ -229,8 +229,8 @@ poll-zero (Poll a q s n) rows o e i = (ap (λ (l : List ℕ). getD l 10 0) (sym 
 
 -- octets that were read come back where no reserved octet was lost
 come-back : (o : List ℕ) (m : Message) → Octets o → headerAnswer o ≡ 0 → (k : Kind) → ReadAs o m k → (kindOf m ≡ K.Update → ⊥)
-    → (rows : List Row) → ReservedZero m o → octetsOf m rows ≡ o
-unfolding octetsOf
+    → (rows : List Row) → ReservedZero m o → messageOctets m rows ≡ o
+unfolding messageOctets
 come-back o m oct h k r u rows z =
     let g = header-passed o h in
     let six : 6 ≤ length o = omega (arith, g .low) in
@@ -251,7 +251,7 @@ word-fits o oct i = omega (arith, oct i, oct (i + 1))
 quad-fits : (o : List ℕ) → Octets o → (i : ℕ) → word32 o i < 4294967296
 quad-fits o oct i = omega (arith, oct i, oct (i + 1), oct (i + 2), oct (i + 3))
 
-read-fits : (k : Kind) (o : List ℕ) → Octets o → Fits (meaningOf k o)
+read-fits : (k : Kind) (o : List ℕ) → Octets o → InWidths (meaningOf k o)
 unfolding meaningOf
 read-fits K.Request o oct = (head-fits o oct, word-fits o oct 10, word-fits o oct 12)
 read-fits K.Confirm o oct = (head-fits o oct, word-fits o oct 10, word-fits o oct 12)
@@ -264,15 +264,15 @@ read-fits K.Poll o oct = (head-fits o oct, quad-fits o oct 12)
 read-fits K.Update o oct = (head-fits o oct, quad-fits o oct 12)
 read-fits K.Error o oct = (head-fits o oct, word-fits o oct 10, quad-fits o oct 12, quad-fits o oct 16, quad-fits o oct 20)
 
-as-allowed : (o : List ℕ) (m : Message) (k : Kind) → Octets o → ReadAs o m k → Fits m × Allowed m
+as-allowed : (o : List ℕ) (m : Message) (k : Kind) → Octets o → ReadAs o m k → InWidths m × Allowed m
 as-allowed o m k oct r =
     rw (r .meaning) (read-fits k o oct, rw (kind-read k o, status-read k o) (r .status))
 
 -- whatever was read may be written
-pub read-allowed : (o : List ℕ) (m : Message) → Octets o → decodeOf o ≡ Good m → Fits m × Allowed m
+pub read-allowed : (o : List ℕ) (m : Message) → Octets o → decodeOf o ≡ Good m → InWidths m × Allowed m
 read-allowed o m oct e = as-allowed o m (read-as o m e .0) oct (read-as o m e .1)
 
 -- writing what was read gives the octets back, exactly where no reserved octet was lost
 pub fixed-back : (o : List ℕ) (m : Message) → Octets o → headerAnswer o ≡ 0 → decodeOf o ≡ Good m → (kindOf m ≡ K.Update → ⊥)
-    → (rows : List Row) → (octetsOf m rows ≡ o) ↔ ReservedZero m o
+    → (rows : List Row) → (messageOctets m rows ≡ o) ↔ ReservedZero m o
 fixed-back o m oct h e u rows = (poll-zero m rows o, λ z. come-back o m oct h (read-as o m e .0) (read-as o m e .1) u rows z)

@@ -15,12 +15,12 @@ use Rattle.message.specs.declared.Message.the-variants.{Request, Confirm, Refus
 use Rattle.update_rows.specs.Storing.{padded}
 use Rattle.update_writing.specs.Blocks.{sideRows, gatewayRuns, distanceRuns, internalBlocks, externalBlocks}
 use Rattle.update_theorem.specs.Canonical.{canonical}
-use Rattle.codec_writing.specs.Octets.{octetsOf}
+use Rattle.codec_writing.specs.Octets.{messageOctets}
 use Rattle.codec.specs.Writing.{writable, writeOf, writeOctets}
 use Rattle.codec.specs.Reading.{readOf, mostReadNumbers}
 use Rattle.codec.specs.declared.Meaning.the-variants.{Good}
 use Rattle.codec.specs.declared.Reading.{Reading}
-use Rattle.codec_theorem.specs.Widths.{Fits}
+use Rattle.codec_theorem.specs.Widths.{InWidths}
 
 -- a good reading: this message, the number of its rows, and the rows' numbers with zeros after them
 unfoldable pub handedBack : Message → ℕ → List ℕ → Reading
@@ -41,8 +41,8 @@ Common net (Error a q s reason x y z) = Unit {0}
 
 -- 01: "Otherwise reading gives back exactly the rows": a meaning that the writer takes reads back the same, with its rows
 pub record MeaningsReadBack : Type 0 where
-  pub same : (net : ℕ) (m : Message) (numbers : List ℕ) → Fits m → writable m numbers ≡ true → Common net m
-      → readOf net (octetsOf m (rowsOf numbers)) ≡ handedBack m (length (rowsOf numbers)) numbers
+  pub same : (net : ℕ) (m : Message) (numbers : List ℕ) → InWidths m → writable m numbers ≡ true → Common net m
+      → readOf net (messageOctets m (rowsOf numbers)) ≡ handedBack m (length (rowsOf numbers)) numbers
 
 -- these octets are read as this message with these rows
 abbrev pub Reads : ℕ → List ℕ → Message → List Row → Type 0
@@ -66,10 +66,10 @@ pub record OctetsComeBack : Type 0 where
   pub rows : (net : ℕ) (o : List ℕ) (m : Message) → (readOf net o) .meaning ≡ Good m → (rs : List Row) × Reads net o m rs
   -- 01: the writer refuses what the reader "would refuse or never gives": not what it gave
   pub writes : (net : ℕ) (o : List ℕ) (m : Message) (rs : List Row) → Octets o → Reads net o m rs
-      → Fits m × Common net m × (writable m (flat rs) ≡ true)
+      → InWidths m × Common net m × (writable m (flat rs) ≡ true)
   -- writing it gives the octets back exactly there
   pub back : (net : ℕ) (o : List ℕ) (m : Message) (rs : List Row) → Octets o → Reads net o m rs
-      → (octetsOf m rs ≡ o) ↔ ComesBack net o m
+      → (messageOctets m rs ≡ o) ↔ ComesBack net o m
 
 -- the octets that a call of `write` hands over: of the buffer that it leaves, as many as it answers
 abbrev pub handedOver : Message → List ℕ → List ℕ → List ℕ
@@ -78,7 +78,7 @@ handedOver m numbers buffer = take ((writeOf m numbers buffer) .length) (over (w
 -- The round trip through the public calls, in the words of their promises, whatever buffer was lent
 pub record CallsUndoEachOther : Type 0 where
   -- what `write` answered with 0 and left in the buffer, `read` gives back: the message, how many rows, and the rows
-  pub written : (net : ℕ) (m : Message) (numbers buffer : List ℕ) → Fits m → Common net m → (writeOf m numbers buffer) .answer ≡ 0
+  pub written : (net : ℕ) (m : Message) (numbers buffer : List ℕ) → InWidths m → Common net m → (writeOf m numbers buffer) .answer ≡ 0
       → readOf net (handedOver m numbers buffer) ≡ handedBack m (length (rowsOf numbers)) numbers
   -- what `read` gave, `write` takes into any buffer of 2,048 octets
   pub taken : (net : ℕ) (o : List ℕ) (m : Message) (rs : List Row) (buffer : List ℕ) → Octets o → Reads net o m rs
@@ -89,7 +89,7 @@ pub record CallsUndoEachOther : Type 0 where
 
 -- 01 refuses "more than 128 rows" and has no refusal for a length or a count: neither can be too large
 pub record Bound : Type 0 where
-  pub long : (m : Message) (numbers : List ℕ) → writable m numbers ≡ true → length (octetsOf m (rowsOf numbers)) ≤ 1168
+  pub long : (m : Message) (numbers : List ℕ) → writable m numbers ≡ true → length (messageOctets m (rowsOf numbers)) ≤ 1168
   -- the counts of gateways, of distances in a block, of nets in a group; side 0 is internal, 1 external
   pub internal : (a q s net : ℕ) (numbers : List ℕ) → writable (Update a q s net) numbers ≡ true → internalBlocks (rowsOf numbers) ≤ 128
   pub external : (a q s net : ℕ) (numbers : List ℕ) → writable (Update a q s net) numbers ≡ true → externalBlocks (rowsOf numbers) ≤ 128

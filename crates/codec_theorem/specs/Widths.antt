@@ -10,14 +10,14 @@ pub record HeadFits (asn sequence status : ℕ) : Type 0 where
   pub status8 : status < 256
 
 -- each number of a meaning is in its width
-abbrev pub Fits : Message → Type 0
-Fits (Request a q s hello poll) = HeadFits a q s × (hello < 65536) × (poll < 65536)
-Fits (Confirm a q s hello poll) = HeadFits a q s × (hello < 65536) × (poll < 65536)
-Fits (Refuse a q s) = HeadFits a q s
-Fits (Cease a q s) = HeadFits a q s
-Fits (CeaseAck a q s) = HeadFits a q s
-Fits (Hello a q s) = HeadFits a q s
-Fits (IHeardYou a q s) = HeadFits a q s
-Fits (Poll a q s net) = HeadFits a q s × (net < 4294967296)
-Fits (Update a q s net) = HeadFits a q s × (net < 4294967296)
-Fits (Error a q s reason x y z) = HeadFits a q s × (reason < 65536) × (x < 4294967296) × (y < 4294967296) × (z < 4294967296)
+abbrev pub InWidths : Message → Type 0
+InWidths (Request a q s hello poll) = HeadFits a q s × (hello < 65536) × (poll < 65536)
+InWidths (Confirm a q s hello poll) = HeadFits a q s × (hello < 65536) × (poll < 65536)
+InWidths (Refuse a q s) = HeadFits a q s
+InWidths (Cease a q s) = HeadFits a q s
+InWidths (CeaseAck a q s) = HeadFits a q s
+InWidths (Hello a q s) = HeadFits a q s
+InWidths (IHeardYou a q s) = HeadFits a q s
+InWidths (Poll a q s net) = HeadFits a q s × (net < 4294967296)
+InWidths (Update a q s net) = HeadFits a q s × (net < 4294967296)
+InWidths (Error a q s reason x y z) = HeadFits a q s × (reason < 65536) × (x < 4294967296) × (y < 4294967296) × (z < 4294967296)

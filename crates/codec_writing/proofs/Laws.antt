@@ -18,10 +18,10 @@ use Rattle.nets.specs.Rows.{Row, rowsOf}
 use Rattle.message.specs.declared.Message.{Message}
 use Rattle.message.specs.declared.Message.the-variants.{Request, Confirm, Refuse, Cease, CeaseAck, Hello, IHeardYou, Poll, Update, Error}
 use Rattle.message_writing.specs.Writing.{headOf}
-use Rattle.update_writing.specs.Blocks.{blocksOf, internalBlocks, externalBlocks}
+use Rattle.update_writing.specs.Blocks.{blocksWritten, internalBlocks, externalBlocks}
 use Rattle.update_writing.specs.Writable.{writableNumbers, writableRows}
 use Rattle.update_writing.proofs.Claims.{short, rows-most}
-use Rattle.codec_writing.specs.Octets.{plainOctets, octetsOf}
+use Rattle.codec_writing.specs.Octets.{plainOctets, messageOctets}
 use Rattle.codec_writing.specs.Room.{rowsFit, roomFor}
 
 -- ---- blocks first, then the head, then the checksum
@@ -60,34 +60,34 @@ pub rows-few : (net : ℕ) (numbers : List ℕ) → writableNumbers net numbers 
 rows-few net numbers w = rows-most net (rowsOf numbers) (writable-rows net numbers w)
 
 -- 01: an Update of 128 rows is at most 1,168 octets long
-pub blocks-few : (net : ℕ) (numbers : List ℕ) → goodNet net ≡ true → writableNumbers net numbers ≡ true → length (blocksOf net (rowsOf numbers)) ≤ 1152
+pub blocks-few : (net : ℕ) (numbers : List ℕ) → goodNet net ≡ true → writableNumbers net numbers ≡ true → length (blocksWritten net (rowsOf numbers)) ≤ 1152
 blocks-few net numbers g w = short .most net g (rowsOf numbers) (writable-rows net numbers w)
 
-pub update-length : (a q s net : ℕ) (rows : List Row) → length (octetsOf (Update a q s net) rows) ≡ 16 + length (blocksOf net rows)
-unfolding octetsOf plainOctets
+pub update-length : (a q s net : ℕ) (rows : List Row) → length (messageOctets (Update a q s net) rows) ≡ 16 + length (blocksWritten net rows)
+unfolding messageOctets plainOctets
 update-length a q s net rows =
-    sealed-length _ ∙ length-append (headOf (internalBlocks rows) (externalBlocks rows) a q s net) (blocksOf net rows)
+    sealed-length _ ∙ length-append (headOf (internalBlocks rows) (externalBlocks rows) a q s net) (blocksWritten net rows)
     ∙ rw (head-length (internalBlocks rows) (externalBlocks rows) a q s net)
 
 -- the same along the code: what each step leaves in the buffer
 module _ (b x y numbers : List ℕ) (a q s net i e end : ℕ) (g : goodNet net ≡ true) (w : writableNumbers net numbers ≡ true) (room : 1168 ≤ length b)
-    (blocks : x ≡ sets b 16 (blocksOf net (rowsOf numbers))) (ends : end ≡ 16 + length (blocksOf net (rowsOf numbers)))
+    (blocks : x ≡ sets b 16 (blocksWritten net (rowsOf numbers))) (ends : end ≡ 16 + length (blocksWritten net (rowsOf numbers)))
     (inside : i ≡ internalBlocks (rowsOf numbers)) (outside : e ≡ externalBlocks (rowsOf numbers)) (head : y ≡ over (headOf i e a q s net) x) where
-  enough : 16 + length (blocksOf net (rowsOf numbers)) ≤ length b
+  enough : 16 + length (blocksWritten net (rowsOf numbers)) ≤ length b
   enough = omega (arith, blocks-few net numbers g w)
 
   pub end-fits : end ≤ length y
-  end-fits = rw ends (head-fits b (blocksOf net (rowsOf numbers)) (headOf i e a q s net) x y blocks head (head-length i e a q s net) enough)
+  end-fits = rw ends (head-fits b (blocksWritten net (rowsOf numbers)) (headOf i e a q s net) x y blocks head (head-length i e a q s net) enough)
 
-  pub update-end : end ≡ length (octetsOf (Update a q s net) (rowsOf numbers))
+  pub update-end : end ≡ length (messageOctets (Update a q s net) (rowsOf numbers))
   update-end = ends ∙ sym (update-length a q s net (rowsOf numbers))
 
-  pub update-written : sealed (take end y) ++ drop end y ≡ over (octetsOf (Update a q s net) (rowsOf numbers)) b
-  unfolding octetsOf plainOctets
+  pub update-written : sealed (take end y) ++ drop end y ≡ over (messageOctets (Update a q s net) (rowsOf numbers)) b
+  unfolding messageOctets plainOctets
   update-written =
       let h = headOf i e a q s net in
-      let l = blocksOf net (rowsOf numbers) in
-      over-sealed (headOf i e a q s net ++ blocksOf net (rowsOf numbers)) b y end
+      let l = blocksWritten net (rowsOf numbers) in
+      over-sealed (headOf i e a q s net ++ blocksWritten net (rowsOf numbers)) b y end
       (assembled b l h x y blocks head (head-length i e a q s net) enough) (ends ∙ sym (long b l h x y blocks head (head-length i e a q s net) enough))
       ∙ rw (inside, outside)
 
@@ -106,8 +106,8 @@ room-most (Poll a q s n) = omega arith
 room-most (Update a q s n) = omega arith
 room-most (Error a q s r x y z) = omega arith
 
-pub octets-fit : (m : Message) (numbers : List ℕ) → rowsFit m numbers ≡ true → length (octetsOf m (rowsOf numbers)) ≤ roomFor m
-unfolding octetsOf plainOctets rowsFit roomFor
+pub octets-fit : (m : Message) (numbers : List ℕ) → rowsFit m numbers ≡ true → length (messageOctets m (rowsOf numbers)) ≤ roomFor m
+unfolding messageOctets plainOctets rowsFit roomFor
 octets-fit (Request a q s h p) numbers w = rw sealed-length (omega arith)
 octets-fit (Confirm a q s h p) numbers w = rw sealed-length (omega arith)
 octets-fit (Refuse a q s) numbers w = rw sealed-length (omega arith)

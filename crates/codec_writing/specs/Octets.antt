@@ -8,7 +8,7 @@ use Rattle.message.specs.declared.Kind.the-variants as K
 use Rattle.message.specs.declared.Message.{Message}
 use Rattle.message.specs.declared.Message.the-variants.{Request, Confirm, Refuse, Cease, CeaseAck, Hello, IHeardYou, Poll, Update, Error}
 use Rattle.message_writing.specs.Writing.{headed, headOf}
-use Rattle.update_writing.specs.Blocks.{blocksOf, internalBlocks, externalBlocks}
+use Rattle.update_writing.specs.Blocks.{blocksWritten, internalBlocks, externalBlocks}
 
 -- a message's octets before its checksum is filled in; 01: "Poll's reserved octets are ignored and written 0"; an
 -- Update's blocks stand behind its head, which counts them
@@ -21,9 +21,9 @@ plainOctets (CeaseAck a q s) rows = headed K.CeaseAck a q s []
 plainOctets (Hello a q s) rows = headed K.Hello a q s []
 plainOctets (IHeardYou a q s) rows = headed K.IHeardYou a q s []
 plainOctets (Poll a q s net) rows = headed K.Poll a q s (0 ∷ 0 ∷ octets32 net [])
-plainOctets (Update a q s net) rows = headOf (internalBlocks rows) (externalBlocks rows) a q s net ++ blocksOf net rows
+plainOctets (Update a q s net) rows = headOf (internalBlocks rows) (externalBlocks rows) a q s net ++ blocksWritten net rows
 plainOctets (Error a q s reason x y z) rows = headed K.Error a q s (octets16 reason (octets32 x (octets32 y (octets32 z []))))
 
 -- a message's octets, the checksum over all of them
-unfoldable pub octetsOf : Message → List Row → List ℕ
-octetsOf m rows = sealed (plainOctets m rows)
+unfoldable pub messageOctets : Message → List Row → List ℕ
+messageOctets m rows = sealed (plainOctets m rows)

@@ -10,7 +10,7 @@ ghost use Rattle.nets.specs.Classes.{goodNet};
 ghost use Rattle.nets.specs.Rows.{rowsOf};
 ghost use Rattle.message.specs.declared.Message.the-variants.{Update};
 ghost use Rattle.update_writing.specs.Writable.{writableNumbers};
-ghost use Rattle.codec_writing.specs.Octets.{octetsOf};
+ghost use Rattle.codec_writing.specs.Octets.{messageOctets};
 ghost use Rattle.codec_writing.specs.Room.{rowsFit, roomFor};
 
 // Writes an Update, its rows given as numbers, three a row, and says how long it is.
@@ -24,8 +24,8 @@ fn write_update(
 ) -> usize
     requires { ⌜ (goodNet net ≡ true) × (writableNumbers net (now rows) ≡ true) ⌝ }
     requires { ⌜ 1168 ≤ length (now buffer) ⌝ }
-    ensures { λ r. ⌜ r ≡ length (octetsOf (Update asn sequence status net) (rowsOf (now (rows .entry)))) ⌝ }
-    ensures { λ _. ⌜ now (buffer .exit) ≡ over (octetsOf (Update asn sequence status net) (rowsOf (now (rows .entry)))) (now (buffer .entry)) ⌝ }
+    ensures { λ r. ⌜ r ≡ length (messageOctets (Update asn sequence status net) (rowsOf (now (rows .entry)))) ⌝ }
+    ensures { λ _. ⌜ now (buffer .exit) ≡ over (messageOctets (Update asn sequence status net) (rowsOf (now (rows .entry)))) (now (buffer .entry)) ⌝ }
 {
     let blocks = update_writing::write_blocks(buffer, 16, net, rows);
     message_writing::store_head(
@@ -44,8 +44,8 @@ fn write_update(
 pub fn write_message(buffer: &mut [u8], message: Message, rows: &[u32]) -> usize
     requires { ⌜ rowsFit message (now rows) ≡ true ⌝ }
     requires { ⌜ roomFor message ≤ length (now buffer) ⌝ }
-    ensures { λ r. ⌜ r ≡ length (octetsOf message (rowsOf (now (rows .entry)))) ⌝ }
-    ensures { λ _. ⌜ now (buffer .exit) ≡ over (octetsOf message (rowsOf (now (rows .entry)))) (now (buffer .entry)) ⌝ }
+    ensures { λ r. ⌜ r ≡ length (messageOctets message (rowsOf (now (rows .entry)))) ⌝ }
+    ensures { λ _. ⌜ now (buffer .exit) ≡ over (messageOctets message (rowsOf (now (rows .entry)))) (now (buffer .entry)) ⌝ }
 {
     match message {
         Message::Request {

@@ -11,7 +11,7 @@ use Rattle.checks.proofs.Laws.{part-from}
 use Rattle.octets.specs.Numbers.{word32, octets32}
 use Rattle.octets.specs.Buffer.{over}
 use Rattle.octets.proofs.Numbers.{sets-append, sets-over}
-use Rattle.driver_records.specs.Numbers.{numbersOf, octetsOf, filled}
+use Rattle.driver_records.specs.Numbers.{numbersOf, numberOctets, filled}
 
 sets-all : (l vs : List ℕ) → length vs ≡ length l → sets l 0 vs ≡ vs
 sets-all l vs h =
@@ -20,29 +20,29 @@ sets-all l vs h =
 
 -- ---- numbers, four octets each
 
-octets-length : (numbers : List ℕ) → length (octetsOf numbers) ≡ length numbers * 4
-unfolding octetsOf
+octets-length : (numbers : List ℕ) → length (numberOctets numbers) ≡ length numbers * 4
+unfolding numberOctets
 octets-length [] = refl
 octets-length (n ∷ rest) = omega (arith, octets-length rest)
 
 pub numbers-turn : (l new : List ℕ) (at : ℕ) (numbers : List ℕ) (i : ℕ) → i < length numbers → new ≡ sets l at (octets32 (getD numbers i 0) [])
-    → sets l at (octetsOf (drop i numbers)) ≡ sets new (at + 4) (octetsOf (drop (i + 1) numbers))
-unfolding octetsOf
+    → sets l at (numberOctets (drop i numbers)) ≡ sets new (at + 4) (numberOctets (drop (i + 1) numbers))
+unfolding numberOctets
 numbers-turn l new at numbers i h e =
-    ap (λ (s : List ℕ). sets l at (octetsOf s)) (drop-cons numbers i 0 h)
-    ∙ sets-append l at (octets32 (getD numbers i 0) []) (octetsOf (drop (suc i) numbers))
-    ∙ ap (λ (k : ℕ). sets (sets l at (octets32 (getD numbers i 0) [])) (at + 4) (octetsOf (drop k numbers))) (sym (add-one i))
-    ∙ ap (λ (m : List ℕ). sets m (at + 4) (octetsOf (drop (i + 1) numbers))) (sym e)
+    ap (λ (s : List ℕ). sets l at (numberOctets s)) (drop-cons numbers i 0 h)
+    ∙ sets-append l at (octets32 (getD numbers i 0) []) (numberOctets (drop (suc i) numbers))
+    ∙ ap (λ (k : ℕ). sets (sets l at (octets32 (getD numbers i 0) [])) (at + 4) (numberOctets (drop k numbers))) (sym (add-one i))
+    ∙ ap (λ (m : List ℕ). sets m (at + 4) (numberOctets (drop (i + 1) numbers))) (sym e)
 
 pub number-kept : (l new : List ℕ) (at n : ℕ) → new ≡ sets l at (octets32 n []) → length new ≡ length l
 number-kept l new at n e = ap length e ∙ length-sets l at (octets32 n [])
 
-pub numbers-done : (l : List ℕ) (at : ℕ) (numbers : List ℕ) (i : ℕ) → length numbers ≤ i → sets l at (octetsOf (drop i numbers)) ≡ l
-unfolding octetsOf
-numbers-done l at numbers i h = ap (λ (s : List ℕ). sets l at (octetsOf s)) (drop-of-length-le numbers h)
+pub numbers-done : (l : List ℕ) (at : ℕ) (numbers : List ℕ) (i : ℕ) → length numbers ≤ i → sets l at (numberOctets (drop i numbers)) ≡ l
+unfolding numberOctets
+numbers-done l at numbers i h = ap (λ (s : List ℕ). sets l at (numberOctets s)) (drop-of-length-le numbers h)
 
-pub numbers-over : (l numbers : List ℕ) → length numbers * 4 ≤ length l → sets l 0 (octetsOf numbers) ≡ over (octetsOf numbers) l
-numbers-over l numbers h = sets-over l (octetsOf numbers) (omega (arith, octets-length numbers))
+pub numbers-over : (l numbers : List ℕ) → length numbers * 4 ≤ length l → sets l 0 (numberOctets numbers) ≡ over (numberOctets numbers) l
+numbers-over l numbers h = sets-over l (numberOctets numbers) (omega (arith, octets-length numbers))
 
 -- reading them, along a loop over tails
 

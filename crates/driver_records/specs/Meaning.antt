@@ -22,8 +22,8 @@ plainAt l kind =
     (cond (eqb kind 4) (CeaseAck (word16 l 2) (word16 l 4) (getD l 1 0))
     (cond (eqb kind 5) (Hello (word16 l 2) (word16 l 4) (getD l 1 0)) (IHeardYou (word16 l 2) (word16 l 4) (getD l 1 0)))))
 
-unfoldable pub netAt : List ℕ → ℕ → Message
-netAt l kind =
+unfoldable pub netMessageAt : List ℕ → ℕ → Message
+netMessageAt l kind =
     cond (eqb kind 7) (Poll (word16 l 2) (word16 l 4) (getD l 1 0) (word32 l 12))
     (Update (word16 l 2) (word16 l 4) (getD l 1 0) (word32 l 12))
 
@@ -33,7 +33,7 @@ errorAt l = Error (word16 l 2) (word16 l 4) (getD l 1 0) (word16 l 6) (word32 l 
 unfoldable pub meaningAt : List ℕ → Message
 meaningAt l =
     cond (ltb (getD l 0 0) 2) (intervalsAt l (getD l 0 0))
-    (cond (ltb (getD l 0 0) 7) (plainAt l (getD l 0 0)) (cond (ltb (getD l 0 0) 9) (netAt l (getD l 0 0)) (errorAt l)))
+    (cond (ltb (getD l 0 0) 7) (plainAt l (getD l 0 0)) (cond (ltb (getD l 0 0) 9) (netMessageAt l (getD l 0 0)) (errorAt l)))
 
 -- the same fields in the same places; a field that the kind has not is 0
 unfoldable pub fieldOctets : ℕ → ℕ → ℕ → ℕ → ℕ → ℕ → ℕ → ℕ → ℕ → List ℕ

@@ -10,9 +10,9 @@ numbersOf zero l = []
 numbersOf (suc n) l = word32 l 0 ∷ numbersOf n (drop 4 l)
 
 -- the octets of numbers, four each
-unfoldable pub octetsOf : List ℕ → List ℕ
-octetsOf [] = []
-octetsOf (n ∷ rest) = octets32 n (octetsOf rest)
+unfoldable pub numberOctets : List ℕ → List ℕ
+numberOctets [] = []
+numberOctets (n ∷ rest) = octets32 n (numberOctets rest)
 
 -- n octets, all the same
 unfoldable pub filled : ℕ → ℕ → List ℕ

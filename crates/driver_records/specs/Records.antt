@@ -4,11 +4,11 @@ use mathlib.Core.List.{List, [], _∷_}
 use lib.ListN.{getD}
 use Rattle.octets.specs.Numbers.{word16, word32, octets16, octets32}
 use Rattle.neighbour.specs.declared.Settings.{Settings}
-use Rattle.driver_records.specs.declared.Head.{Head}
+use Rattle.driver_records.specs.declared.RecordHead.{RecordHead}
 
 -- kind (1), capability or fill (1), AS (2), address (4), net (4), buffer (4), times (4), octets (4), numbers (4)
-unfoldable pub headAt : List ℕ → Head
-headAt l =
+unfoldable pub recordHead : List ℕ → RecordHead
+recordHead l =
     record {
       kind = getD l 0 0;
       octet = getD l 1 0;
@@ -22,7 +22,7 @@ headAt l =
     }
 
 -- fresh is told own AS, own address, capability and common net
-abbrev pub settingsIn : Head → Settings
+abbrev pub settingsIn : RecordHead → Settings
 settingsIn head = record { asn = head .asn; own = head .address; capability = head .octet; net = head .net }
 
 -- zero (1), answer (1), first length (2), second length (2), zero (2), buffer (4), numbers in the table (4)

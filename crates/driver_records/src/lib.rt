@@ -11,12 +11,12 @@ ghost use mathlib.Core.Path.{_≡_};
 ghost use Prim.Native.Nat.{_*_, _≤_};
 ghost use lib.ListN.{length};
 ghost use Rattle.octets.specs.Buffer.{over};
-ghost use Rattle.driver_records.specs.Numbers.{numbersOf, octetsOf, filled};
-ghost use Rattle.driver_records.specs.Records.{headAt, settingsIn, answerOctets};
-ghost use Rattle.driver_records.specs.Meaning.{intervalsAt, plainAt, netAt, errorAt, meaningAt, fieldOctets, meaningOctets};
+ghost use Rattle.driver_records.specs.Numbers.{numbersOf, numberOctets, filled};
+ghost use Rattle.driver_records.specs.Records.{recordHead, settingsIn, answerOctets};
+ghost use Rattle.driver_records.specs.Meaning.{intervalsAt, plainAt, netMessageAt, errorAt, meaningAt, fieldOctets, meaningOctets};
 
 // A record's head: which call, its plain arguments, and how much follows.
-pub struct Head {
+pub struct RecordHead {
     pub kind: u8,
     // The capability, or the octet that fills the buffer.
     pub octet: u8,
@@ -33,10 +33,10 @@ pub struct Head {
 }
 
 // A record's head as it stands in its 32 octets.
-pub fn read_head(octets: &[u8]) -> Head
-    ensures { λ r. ⌜ r ≡ headAt (now (octets .entry)) ⌝ }
+pub fn read_head(octets: &[u8]) -> RecordHead
+    ensures { λ r. ⌜ r ≡ recordHead (now (octets .entry)) ⌝ }
 {
-    Head {
+    RecordHead {
         kind: octets::octet(octets, 0),
         octet: octets::octet(octets, 1),
         asn: octets::word16_at(octets, 2),
@@ -50,7 +50,7 @@ pub fn read_head(octets: &[u8]) -> Head
 }
 
 // The settings that a record's head names for fresh: the host's numbers become settings here alone.
-pub fn settings_in(head: Head) -> Settings
+pub fn settings_in(head: RecordHead) -> Settings
     ensures { λ r. ⌜ r ≡ settingsIn head ⌝ }
 {
     Settings {
@@ -102,7 +102,7 @@ pub fn read_numbers(numbers: &mut [u32], octets: &[u8])
 // Writes numbers at the front of out, four octets each.
 pub fn write_numbers(out: &mut [u8], numbers: &[u32])
     requires { ⌜ length (now numbers) * 4 ≤ length (now out) ⌝ }
-    ensures { λ _. ⌜ now (out .exit) ≡ over (octetsOf (now (numbers .entry))) (now (out .entry)) ⌝ }
+    ensures { λ _. ⌜ now (out .exit) ≡ over (numberOctets (now (numbers .entry))) (now (out .entry)) ⌝ }
 {
     let mut i = 0;
     let mut at = 0;
@@ -192,7 +192,7 @@ fn plain_at(octets: &[u8], kind: u8) -> Message
 }
 
 fn net_at(octets: &[u8], kind: u8) -> Message
-    ensures { λ r. ⌜ r ≡ netAt (now (octets .entry)) kind ⌝ }
+    ensures { λ r. ⌜ r ≡ netMessageAt (now (octets .entry)) kind ⌝ }
 {
     let status = octets::octet(octets, 1);
     let asn = octets::word16_at(octets, 2);

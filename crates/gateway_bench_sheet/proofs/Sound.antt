@@ -15,7 +15,7 @@ use Rattle.codec.specs.declared.Meaning.{Meaning}
 use Rattle.codec.specs.declared.Meaning.the-variants.{Good, Refused}
 use Rattle.codec.specs.declared.Reading.{Reading}
 use Rattle.codec.specs.Reading.{readOf}
-use Rattle.codec_writing.specs.Octets.{octetsOf}
+use Rattle.codec_writing.specs.Octets.{messageOctets}
 use Rattle.codec.specs.Writing.{writable}
 use Rattle.neighbour.specs.declared.Phase.{Phase}
 use Rattle.neighbour.specs.declared.Phase.the-variants as Phase
@@ -33,7 +33,8 @@ use Rattle.gateway_rules.specs.declared.Effect.{Effect}
 use Rattle.gateway_rules.specs.declared.Effect.the-variants.{Keep, Clear, Replace}
 use Rattle.gateway_rules.specs.declared.Verdict.{Verdict}
 use Rattle.gateway_rules.specs.Calls.{messageOutcome, messageTable, messageBuffer}
-use Rattle.gateway_bench_sheet.specs.Same.{sameNumbers, messageNumbers, sameMessage, sameMeaning, sameReading, phaseNumber, modeNumber, neighbourNumbers, sameNeighbour, sameReply, sameEffect, sameVerdict, sameSlot, sameSlots, sameSettings, sameState, sameOutcome}
+use Rattle.neighbour.specs.Record.{phaseNumber, modeNumber}
+use Rattle.gateway_bench_sheet.specs.Same.{sameNumbers, messageNumbers, sameMessage, sameMeaning, sameReading, neighbourNumbers, sameNeighbour, sameReply, sameEffect, sameVerdict, sameSlot, sameSlots, sameSettings, sameState, sameOutcome}
 use Rattle.gateway_bench_sheet.specs.Cases.{reads, refused, received, happens, called, goodReading, badReading, zeroTable, zeroBuffer, leaves, passes, PassingHolds}
 
 never : {A : Type 0} → false ≡ true → A
@@ -250,9 +251,9 @@ unfolding passes leaves
 passing-holds (reads net octets m rows) e =
     let a = sameReading (readOf net octets) (goodReading m rows) in
     let b = writable m (flat rows) in
-    let p = both (a && b) (sameNumbers (octetsOf m rows) octets) e in
+    let p = both (a && b) (sameNumbers (messageOctets m rows) octets) e in
     let q = both a b (p .0) in
-    (same-reading (readOf net octets) (goodReading m rows) (q .0), q .1, same-numbers (octetsOf m rows) octets (p .1))
+    (same-reading (readOf net octets) (goodReading m rows) (q .0), q .1, same-numbers (messageOctets m rows) octets (p .1))
 passing-holds (refused net octets number) e = same-reading (readOf net octets) (badReading number) e
 passing-holds (received g asn n octets v) e = same-verdict _ v e
 passing-holds (happens g asn n event v) e = same-verdict _ v e

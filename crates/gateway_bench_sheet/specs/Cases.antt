@@ -10,7 +10,7 @@ use Rattle.update_rows.specs.Storing.{padded}
 use Rattle.codec.specs.declared.Meaning.the-variants.{Good, Refused}
 use Rattle.codec.specs.declared.Reading.{Reading}
 use Rattle.codec.specs.Reading.{mostReadNumbers, readOf}
-use Rattle.codec_writing.specs.Octets.{octetsOf}
+use Rattle.codec_writing.specs.Octets.{messageOctets}
 use Rattle.codec.specs.Writing.{writable}
 use Rattle.neighbour.specs.declared.Settings.{Settings}
 use Rattle.neighbour.specs.declared.Neighbour.{Neighbour}
@@ -24,7 +24,7 @@ use Rattle.gateway_rules.specs.Calls.{noHead, messageOutcome, messageTable, mes
 use Rattle.gateway_bench_sheet.specs.Same.{sameNumbers, sameReading, sameVerdict, sameOutcome}
 
 -- what a message call must leave: answer, lengths and state, the octets at the buffer's front, the numbers at the table's
-pub record Left : Type 0 where
+pub record MessageLeft : Type 0 where
   pub outcome : Outcome
   pub reply : List ℕ
   pub rows : List ℕ
@@ -40,7 +40,7 @@ pub data Case : Type 0 where
   -- the same for an event that is already a meaning
   happens : Settings → ℕ → Neighbour → Event → Verdict → Case
   -- the whole message call: the state, the address that the octets come from, no home list, a table and a buffer of zeros
-  called : State → ℕ → List ℕ → Left → Case
+  called : State → ℕ → List ℕ → MessageLeft → Case
 
 -- what reading alone must give: the meaning and exactly the rows, zeros after them
 unfoldable pub goodReading : Message → List Row → Reading
@@ -58,7 +58,7 @@ unfoldable pub zeroBuffer : List ℕ
 zeroBuffer = padded 2048 []
 
 -- a whole message call leaves exactly this, in state, buffer and table
-unfoldable pub leaves : State → ℕ → List ℕ → Left → Bool
+unfoldable pub leaves : State → ℕ → List ℕ → MessageLeft → Bool
 leaves st address octets left =
     sameOutcome (messageOutcome st zeroTable zeroBuffer [] address octets) (left .outcome)
     && sameNumbers (messageBuffer st zeroTable zeroBuffer [] address octets) (padded 2048 (left .reply))
@@ -67,7 +67,7 @@ leaves st address octets left =
 -- the test of a case, by the project's own definitions
 unfoldable pub passes : Case → Bool
 passes (reads net octets m rows) =
-    sameReading (readOf net octets) (goodReading m rows) && writable m (flat rows) && sameNumbers (octetsOf m rows) octets
+    sameReading (readOf net octets) (goodReading m rows) && writable m (flat rows) && sameNumbers (messageOctets m rows) octets
 passes (refused net octets number) = sameReading (readOf net octets) (badReading number)
 passes (received g asn n octets v) = sameVerdict (verdictOf (receiveRuling 128 g asn n octets)) v
 passes (happens g asn n event v) = sameVerdict (verdictOf (stepped n (stepOf g asn n event noHead))) v
@@ -75,7 +75,7 @@ passes (called st address octets left) = leaves st address octets left
 
 -- what a case says, as equations: what is computed is what must come out
 abbrev pub Holds : Case → Type 0
-Holds (reads net octets m rows) = (readOf net octets ≡ goodReading m rows) × (writable m (flat rows) ≡ true) × (octetsOf m rows ≡ octets)
+Holds (reads net octets m rows) = (readOf net octets ≡ goodReading m rows) × (writable m (flat rows) ≡ true) × (messageOctets m rows ≡ octets)
 Holds (refused net octets number) = readOf net octets ≡ badReading number
 Holds (received g asn n octets v) = verdictOf (receiveRuling 128 g asn n octets) ≡ v
 Holds (happens g asn n event v) = verdictOf (stepped n (stepOf g asn n event noHead)) ≡ v

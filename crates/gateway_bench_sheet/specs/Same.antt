@@ -8,12 +8,9 @@ use Rattle.message.specs.declared.Message.the-variants.{Request, Confirm, Refus
 use Rattle.codec.specs.declared.Meaning.{Meaning}
 use Rattle.codec.specs.declared.Meaning.the-variants.{Good, Refused}
 use Rattle.codec.specs.declared.Reading.{Reading}
-use Rattle.neighbour.specs.declared.Phase.{Phase}
-use Rattle.neighbour.specs.declared.Phase.the-variants as Phase
-use Rattle.neighbour.specs.declared.Mode.{Mode}
-use Rattle.neighbour.specs.declared.Mode.the-variants.{Unset, Active, Passive}
 use Rattle.neighbour.specs.declared.Settings.{Settings}
 use Rattle.neighbour.specs.declared.Neighbour.{Neighbour}
+use Rattle.neighbour.specs.Record.{phaseNumber, modeNumber}
 use Rattle.neighbour_machine.specs.declared.Reply.{Reply}
 use Rattle.neighbour_machine.specs.declared.Reply.the-variants.{Nothing, One, Two}
 use Rattle.gateway_state.specs.declared.Slot.{Slot}
@@ -58,24 +55,10 @@ sameMeaning (Refused k) (Refused l) = eqb k l
 unfoldable pub sameReading : Reading → Reading → Bool
 sameReading a b = sameMeaning (a .meaning) (b .meaning) && eqb (a .count) (b .count) && sameNumbers (a .rows) (b .rows)
 
--- 01's states in its order: Idle, Acquisition, Down, Up, Cease
-unfoldable pub phaseNumber : Phase → ℕ
-phaseNumber Phase.Idle = 0
-phaseNumber Phase.Acquisition = 1
-phaseNumber Phase.Down = 2
-phaseNumber Phase.Up = 3
-phaseNumber Phase.Cease = 4
-
--- 01: M, "active or passive", 0 elsewhere
-unfoldable pub modeNumber : Mode → ℕ
-modeNumber Unset = 0
-modeNumber Active = 1
-modeNumber Passive = 2
-
 -- a neighbour's record, all twelve fields
 unfoldable pub neighbourNumbers : Neighbour → List ℕ
 neighbourNumbers n =
-    n .s ∷ n .r ∷ n .hello ∷ n .poll ∷ n .t1 ∷ n .t2 ∷ n .t3 ∷ phaseNumber (n .phase) ∷ modeNumber (n .mode)
+    n .s ∷ n .r ∷ n .period1 ∷ n .period2 ∷ n .t1 ∷ n .t2 ∷ n .t3 ∷ phaseNumber (n .phase) ∷ modeNumber (n .mode)
     ∷ n .register ∷ n .heard ∷ n .cause ∷ []
 
 -- the same in all twelve fields

@@ -60,8 +60,8 @@ unfoldable pub agreedOn : ℕ → Mode → Neighbour
 agreedOn hello mode = neighbourAs Down mode 0 0 hello 122 hello 0 120 0 0
 
 -- on 30 and 120 seconds
-unfoldable pub agreeing : Mode → Neighbour
-agreeing mode = agreedOn 32 mode
+unfoldable pub agreedOnThirty : Mode → Neighbour
+agreedOnThirty mode = agreedOn 32 mode
 
 -- a neighbour in Down
 unfoldable pub reached : Neighbour
@@ -76,8 +76,8 @@ unfoldable pub vacant : Slot
 vacant = record { address = 0; asn = 0; neighbour = resting; rows = 0 }
 
 -- 01's U: one neighbour, in slot 0, at 128.9.0.5 with AS 7, with this record and row count; the other slots free
-unfoldable pub holding : Neighbour → ℕ → State
-holding n rows =
+unfoldable pub oneNeighbour : Neighbour → ℕ → State
+oneNeighbour n rows =
     record {
       settings = nine;
       slots =
@@ -159,16 +159,16 @@ sheet =
     }) ∷
     -- M: 7 is active, by 9's Request and by 9's Confirm
     happens seven 9 resting (Received (Request 9 0 0 30 120))
-    (record { answer = 0; reply = Two (Confirm 7 0 0 30 120) (Hello 7 0 2); neighbour = agreeing Active; effect = Keep }) ∷
+    (record { answer = 0; reply = Two (Confirm 7 0 0 30 120) (Hello 7 0 2); neighbour = agreedOnThirty Active; effect = Keep }) ∷
     happens seven 9 asked (Received (Confirm 9 0 0 30 120))
-    (record { answer = 0; reply = One (Hello 7 0 2); neighbour = agreeing Active; effect = Keep }) ∷
+    (record { answer = 0; reply = One (Hello 7 0 2); neighbour = agreedOnThirty Active; effect = Keep }) ∷
     -- M: 9 is passive, by 7's Request and by 7's Confirm
     happens nine 7 resting (Received (Request 7 0 0 30 120))
-    (record { answer = 0; reply = One (Confirm 9 0 0 30 120); neighbour = agreeing Passive; effect = Keep }) ∷
+    (record { answer = 0; reply = One (Confirm 9 0 0 30 120); neighbour = agreedOnThirty Passive; effect = Keep }) ∷
     happens nine 7 asked (Received (Confirm 7 0 0 30 120))
-    (record { answer = 0; reply = Nothing; neighbour = agreeing Passive; effect = Keep }) ∷
+    (record { answer = 0; reply = Nothing; neighbour = agreedOnThirty Passive; effect = Keep }) ∷
     -- U, the whole call in Up: its rows are stored, and it is an indication in active mode
-    called (holding polling 0) theirs
+    called (oneNeighbour polling 0) theirs
     (2 ∷ 1 ∷ 0 ∷ 1 ∷ 179 ∷ 215 ∷ 0 ∷ 7 ∷ 0 ∷ 1 ∷ 1 ∷ 0 ∷ 128 ∷ 9 ∷ 0 ∷ 0 ∷ 0 ∷ 5 ∷ 1 ∷ 0 ∷ 2 ∷ 10 ∷ 192 ∷ 5 ∷ 6 ∷ [])
     (record {
       outcome =
@@ -177,7 +177,7 @@ sheet =
             first = 0;
             second = 0;
             state =
-                holding
+                oneNeighbour
                 (neighbourAs Up Active 1 4 32 122 20 100 3600 7 1)
                 2;
           };
@@ -185,10 +185,10 @@ sheet =
       rows = tenNet ∷ theirs ∷ 0 ∷ cNet ∷ theirs ∷ 0 ∷ [];
     }) ∷
     -- V, the whole call in Up: Error 2, 02 08 00 01 41 06 00 09 00 04 00 02 and V's first 12 octets
-    called (holding polling 0) theirs
+    called (oneNeighbour polling 0) theirs
     (2 ∷ 1 ∷ 0 ∷ 1 ∷ 185 ∷ 215 ∷ 0 ∷ 7 ∷ 0 ∷ 1 ∷ 1 ∷ 0 ∷ 128 ∷ 9 ∷ 0 ∷ 0 ∷ 0 ∷ 5 ∷ 1 ∷ 0 ∷ 2 ∷ 10 ∷ 192 ∷ 5 ∷ [])
     (record {
-      outcome = record { answer = 14; first = 24; second = 0; state = holding polling 0 };
+      outcome = record { answer = 14; first = 24; second = 0; state = oneNeighbour polling 0 };
       reply = 2 ∷ 8 ∷ 0 ∷ 1 ∷ 65 ∷ 6 ∷ 0 ∷ 9 ∷ 0 ∷ 4 ∷ 0 ∷ 2 ∷ 2 ∷ 1 ∷ 0 ∷ 1 ∷ 185 ∷ 215 ∷ 0 ∷ 7 ∷ 0 ∷ 1 ∷ 1 ∷ 0 ∷ [];
       rows = [];
     }) ∷

@@ -11,8 +11,8 @@ use Rattle.nets.specs.Rows.{Row, rowsOf}
 use Rattle.message_reading.specs.Reading.{decodeOf}
 use Rattle.message_reading.specs.Reading as Wire
 use Rattle.message_reading.proofs.Decoded as DecodedType
-use Rattle.update_walk.specs.Body.{blocksOf}
-use Rattle.update_rows.specs.Storing.{rowsIn}
+use Rattle.update_walk.specs.Body.{walkedBlocks}
+use Rattle.update_rows.specs.Storing.{walkedRows}
 use Rattle.neighbour_machine.specs.declared.Event.{Event}
 use Rattle.neighbour_machine.specs.declared.After.{After}
 use Rattle.neighbour_machine.specs.declared.Reply.{Reply}
@@ -66,7 +66,7 @@ module _ (event : Event) (st : State) (table buffer : List ℕ) (a k : ℕ) (c :
     module _ (i : ℕ) (slot : Slot) (after : After) (v : Verdict) (p : i ≡ slotOf st a) (s : slot ≡ slotAt st i)
         (m : after ≡ stepOf (st .settings) (slot .asn) (slot .neighbour) event (record { first = 0; second = 0; third = 0 })) (w : v ≡ verdictOf (stepped (slot .neighbour) after)) where
       pub event-asked : (o : List ℕ)
-          → ((i < 8) × (length table ≡ 3072) × (2048 ≤ length buffer)) × ((sendable (v .reply) [] ≡ true) × (takes (v .effect) (blocksOf (st .settings .net) o) ≡ true))
+          → ((i < 8) × (length table ≡ 3072) × (2048 ≤ length buffer)) × ((sendable (v .reply) [] ≡ true) × (takes (v .effect) (walkedBlocks (st .settings .net) o) ≡ true))
       unfolding verdictOf
       event-asked o =
           let g = st .settings in
@@ -82,12 +82,12 @@ module _ (event : Event) (st : State) (table buffer : List ℕ) (a k : ℕ) (c :
       unfolding eventRuling noHead
       ruled e q = rw (m, s, p, q)
 
-      module _ (o : List ℕ) (out : Outcome) (t b : List ℕ) (f : out ≡ outcomeAfter st i (rulingOf v (rowsIn (blocksOf (st .settings .net) o))) (rowsOf []))
-          (r : t ≡ tableAfter table (rowCounts st) i (changeOf (v .effect) (rowsIn (blocksOf (st .settings .net) o)))) (h : b ≡ bufferAfter buffer (v .reply) (rowsOf [])) where
-        back : rulingOf v (rowsIn (blocksOf (st .settings .net) o)) ≡ stepped (slot .neighbour) after
+      module _ (o : List ℕ) (out : Outcome) (t b : List ℕ) (f : out ≡ outcomeAfter st i (rulingOf v (walkedRows (walkedBlocks (st .settings .net) o))) (rowsOf []))
+          (r : t ≡ tableAfter table (rowCounts st) i (changeOf (v .effect) (walkedRows (walkedBlocks (st .settings .net) o)))) (h : b ≡ bufferAfter buffer (v .reply) (rowsOf [])) where
+        back : rulingOf v (walkedRows (walkedBlocks (st .settings .net) o)) ≡ stepped (slot .neighbour) after
         back = rw w (ruling-back (st .settings .net) o (stepped (slot .neighbour) after) (stepped-backed 128 (st .settings .net) o (slot .neighbour) after))
 
-        rule : (e : Intrinsic) → event ≡ asEvent e → rulingOf v (rowsIn (blocksOf (st .settings .net) o)) ≡ eventRuling e st a
+        rule : (e : Intrinsic) → event ≡ asEvent e → rulingOf v (walkedRows (walkedBlocks (st .settings .net) o)) ≡ eventRuling e st a
         rule e q = back ∙ ruled e q
 
         pub event-done : Happened st table buffer a event out t b
@@ -157,14 +157,14 @@ module _ (st : State) (table buffer home : List ℕ) (a : ℕ) (o : List ℕ) (k
       pub head-is : (head : ℕ) → head ≡ headNumber (slot .asn) o → (head ≡ 0 → ⊥) → messageNumber 128 (st .settings) (slot .asn) (slot .neighbour) o ≡ head
       head-is head h x = head-number 128 (st .settings) (slot .asn) (slot .neighbour) o (λ q. x (h ∙ q)) ∙ sym h
 
-      pub kind-is : headNumber (slot .asn) o ≡ 0 → (number : ℕ) → number ≡ Wire.numberOf (decodeOf o) → OneOf (1 ∷ 2 ∷ 3 ∷ []) (tagOf DecodedType.the-type (decodeOf o))
+      pub kind-is : headNumber (slot .asn) o ≡ 0 → (number : ℕ) → number ≡ Wire.decodedNumber (decodeOf o) → OneOf (1 ∷ 2 ∷ 3 ∷ []) (tagOf DecodedType.the-type (decodeOf o))
           → (number ≡ 0 → ⊥) × (messageNumber 128 (st .settings) (slot .asn) (slot .neighbour) o ≡ number)
       kind-is h number f t =
           let q = kind-number 128 (st .settings) (slot .asn) (slot .neighbour) o h t in (λ y. q .1 (sym f ∙ y), q .0 ∙ sym f)
 
       module _ (v : Verdict) (w : v ≡ verdictOf (receiveRuling 128 (st .settings) (slot .asn) (slot .neighbour) o)) where
         pub message-asked : ((i < 8) × (length table ≡ 3072) × (2048 ≤ length buffer))
-            × ((sendable (v .reply) home ≡ true) × (takes (v .effect) (blocksOf (st .settings .net) o) ≡ true))
+            × ((sendable (v .reply) home ≡ true) × (takes (v .effect) (walkedBlocks (st .settings .net) o) ≡ true))
         unfolding verdictOf
         message-asked = (
           (rw p (met .found), met .long, met .room),
@@ -174,14 +174,14 @@ module _ (st : State) (table buffer home : List ℕ) (a : ℕ) (o : List ℕ) (k
           ),
         )
 
-        rule-is : rulingOf v (rowsIn (blocksOf (st .settings .net) o)) ≡ messageRuling st a o
+        rule-is : rulingOf v (walkedRows (walkedBlocks (st .settings .net) o)) ≡ messageRuling st a o
         unfolding messageRuling updateRoom
         rule-is =
             let x = receiveRuling 128 (st .settings) (slot .asn) (slot .neighbour) o in
             rw w (ruling-back (st .settings .net) o x (receive-backed 128 (st .settings) (slot .asn) (slot .neighbour) o) ∙ rw (s, p))
 
-        pub message-done : (out : Outcome) (t b : List ℕ) → out ≡ outcomeAfter st i (rulingOf v (rowsIn (blocksOf (st .settings .net) o))) (rowsOf home)
-            → t ≡ tableAfter table (rowCounts st) i (changeOf (v .effect) (rowsIn (blocksOf (st .settings .net) o))) → b ≡ bufferAfter buffer (v .reply) (rowsOf home)
+        pub message-done : (out : Outcome) (t b : List ℕ) → out ≡ outcomeAfter st i (rulingOf v (walkedRows (walkedBlocks (st .settings .net) o))) (rowsOf home)
+            → t ≡ tableAfter table (rowCounts st) i (changeOf (v .effect) (walkedRows (walkedBlocks (st .settings .net) o))) → b ≡ bufferAfter buffer (v .reply) (rowsOf home)
             → Received st table buffer home a o out t b
         unfolding messageOutcome messageTable messageBuffer rulingOf
         message-done out t b f g h =

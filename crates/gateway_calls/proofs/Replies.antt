@@ -12,9 +12,9 @@ use Rattle.nets.specs.Classes.{goodNet}
 use Rattle.nets.specs.Rows.{Row}
 use Rattle.message.specs.declared.Message.{Message}
 use Rattle.message.specs.declared.Message.the-variants as M
-use Rattle.update_walk.specs.Body.{Walk, whole, accepted, updateOf, blocksOf}
+use Rattle.update_walk.specs.Body.{Walk, whole, accepted, updateOf, walkedBlocks}
 use Rattle.update_walk.proofs.Accepted.{accepted-is}
-use Rattle.update_rows.specs.Storing.{rowsIn}
+use Rattle.update_rows.specs.Storing.{walkedRows}
 use Rattle.update_writing.specs.Writable.{writableNumbers}
 use Rattle.codec_writing.specs.Room.{rowsFit, roomFor}
 use Rattle.neighbour.specs.declared.Settings.{Settings}
@@ -54,7 +54,7 @@ ready g home good fits =
 -- ---- the rows
 
 module _ (net : ℕ) (o : List ℕ) where
-  pub backed-takes : (change : Change) → Backed 128 net o change → takes (effectOf change) (blocksOf net o) ≡ true
+  pub backed-takes : (change : Change) → Backed 128 net o change → takes (effectOf change) (walkedBlocks net o) ≡ true
   unfolding Backed effectOf takes
   backed-takes keep b = refl
   backed-takes clear b = refl
@@ -62,13 +62,13 @@ module _ (net : ℕ) (o : List ℕ) where
       let a = accepted-is 128 net o rows b in
       rw (a .is, eq-eqb (length rows) (length rows) refl, le-leb (length rows) 128 (a .fits))
 
-  change-back : (change : Change) → Backed 128 net o change → changeOf (effectOf change) (rowsIn (blocksOf net o)) ≡ change
-  unfolding Backed effectOf changeOf rowsIn
+  change-back : (change : Change) → Backed 128 net o change → changeOf (effectOf change) (walkedRows (walkedBlocks net o)) ≡ change
+  unfolding Backed effectOf changeOf walkedRows
   change-back keep b = refl
   change-back clear b = refl
-  change-back (replace rows) b = ap (λ (w : Walk). replace (rowsIn w)) (accepted-is 128 net o rows b .is)
+  change-back (replace rows) b = ap (λ (w : Walk). replace (walkedRows w)) (accepted-is 128 net o rows b .is)
 
   -- the verdict stands for the ruling
-  pub ruling-back : (x : Ruling) → Backed 128 net o (x .change) → rulingOf (verdictOf x) (rowsIn (blocksOf net o)) ≡ x
+  pub ruling-back : (x : Ruling) → Backed 128 net o (x .change) → rulingOf (verdictOf x) (walkedRows (walkedBlocks net o)) ≡ x
   unfolding rulingOf verdictOf
   ruling-back x b = λ k. record { answer = x .answer; reply = x .reply; neighbour = x .neighbour; change = change-back (x .change) b k }

@@ -143,7 +143,7 @@ pub fn receive(
     }
     let decoded = message_reading::decode(message);
     let Decoded::Good(m) = decoded else {
-        let number = message_reading::number_of(decoded);
+        let number = message_reading::decoded_number(decoded);
         let named = gateway_stages::reply_to(settings, n, message, number);
         return gateway_carry::refuse(st, number, reply, named, home);
     };

@@ -12,8 +12,8 @@ use lib.ListN.{length, take, drop, length-drop}
 use lib.Seq.{drop-drop, length-take-le}
 use Rattle.checks.proofs.Laws.{and-left, and-right}
 use Rattle.nets.specs.Rows.{Row, flat}
-use Rattle.update_walk.specs.Body.{Walk, whole, broken, blocksOf}
-use Rattle.update_rows.specs.Storing.{zeros, padded, isWhole, rowsIn, Storable}
+use Rattle.update_walk.specs.Body.{Walk, whole, broken, walkedBlocks}
+use Rattle.update_rows.specs.Storing.{zeros, padded, isWhole, walkedRows, Storable}
 use Rattle.gateway_state.specs.declared.Slot.{Slot}
 use Rattle.gateway_state.specs.Places.{place, withPart, writeRows}
 use Rattle.gateway_rules.specs.declared.Effect.{Effect}
@@ -30,8 +30,8 @@ module _ (count : ℕ) where
   taken-whole (whole rows) e = refl
   taken-whole (broken offset) e = absurd (false≢true e)
 
-  taken-count : (walk : Walk) → takes (Replace count) walk ≡ true → (count ≡ length (rowsIn walk)) × (length (rowsIn walk) ≤ 128)
-  unfolding takes rowsIn
+  taken-count : (walk : Walk) → takes (Replace count) walk ≡ true → (count ≡ length (walkedRows walk)) × (length (walkedRows walk) ≤ 128)
+  unfolding takes walkedRows
   taken-count (whole rows) e = (
     eqb-true count (length rows) (and-left (eqb count (length rows)) (leb (length rows) 128) e),
     leb-true (length rows) 128 (and-right (eqb count (length rows)) (leb (length rows) 128) e),
@@ -67,39 +67,39 @@ module _ (table : List ℕ) (i : ℕ) (h : i < 8) (long : length table ≡ 3072)
     unfolding tableAfter changeOf writeRows padded flat
     change-clear e x f counts = part-put x ∙ rw (e, f, part-length)
 
-  module _ (effect : Effect) (count net : ℕ) (o : List ℕ) (e : effect ≡ Replace count) (t : takes effect (blocksOf net o) ≡ true) where
-    taken : takes (Replace count) (blocksOf net o) ≡ true
+  module _ (effect : Effect) (count net : ℕ) (o : List ℕ) (e : effect ≡ Replace count) (t : takes effect (walkedBlocks net o) ≡ true) where
+    taken : takes (Replace count) (walkedBlocks net o) ≡ true
     taken = rw e at t
 
     pub change-asked : Storable net o (take (start + 384 - start) (drop start table))
     change-asked =
         record {
-          sound = taken-whole count (blocksOf net o) taken;
-          room = omega (arith, part-length, taken-count count (blocksOf net o) taken .1);
+          sound = taken-whole count (walkedBlocks net o) taken;
+          room = omega (arith, part-length, taken-count count (walkedBlocks net o) taken .1);
         }
 
-    pub change-replace : (x : List ℕ) → x ≡ padded (length (take (start + 384 - start) (drop start table))) (flat (rowsIn (blocksOf net o)))
-        → (counts : List ℕ) → putMid start (start + 384 - start) table x ≡ tableAfter table counts i (changeOf effect (rowsIn (blocksOf net o)))
+    pub change-replace : (x : List ℕ) → x ≡ padded (length (take (start + 384 - start) (drop start table))) (flat (walkedRows (walkedBlocks net o)))
+        → (counts : List ℕ) → putMid start (start + 384 - start) table x ≡ tableAfter table counts i (changeOf effect (walkedRows (walkedBlocks net o)))
     unfolding tableAfter changeOf writeRows
     change-replace x f counts = part-put x ∙ rw (e, f, part-length)
 
 -- ---- the count
 
 module _ (count : ℕ) (effect : Effect) where
-  pub count-keep : effect ≡ Keep → (walk : Walk) → takes effect walk ≡ true → count ≡ countAfter count (changeOf effect (rowsIn walk))
+  pub count-keep : effect ≡ Keep → (walk : Walk) → takes effect walk ≡ true → count ≡ countAfter count (changeOf effect (walkedRows walk))
   unfolding countAfter changeOf
   count-keep e walk t = rw e
 
-  pub count-clear : effect ≡ Clear → (walk : Walk) → takes effect walk ≡ true → 0 ≡ countAfter count (changeOf effect (rowsIn walk))
+  pub count-clear : effect ≡ Clear → (walk : Walk) → takes effect walk ≡ true → 0 ≡ countAfter count (changeOf effect (walkedRows walk))
   unfolding countAfter changeOf
   count-clear e walk t = rw e
 
-  pub count-replace : (new : ℕ) → effect ≡ Replace new → (walk : Walk) → takes effect walk ≡ true → new ≡ countAfter count (changeOf effect (rowsIn walk))
+  pub count-replace : (new : ℕ) → effect ≡ Replace new → (walk : Walk) → takes effect walk ≡ true → new ≡ countAfter count (changeOf effect (walkedRows walk))
   unfolding countAfter changeOf
   count-replace new e walk t = rw e (taken-count new walk (rw e at t) .0)
 
-pub slot-is : (slot : Slot) (v : Verdict) (count : ℕ) → ((walk : Walk) → takes (v .effect) walk ≡ true → count ≡ countAfter (slot .rows) (changeOf (v .effect) (rowsIn walk)))
+pub slot-is : (slot : Slot) (v : Verdict) (count : ℕ) → ((walk : Walk) → takes (v .effect) walk ≡ true → count ≡ countAfter (slot .rows) (changeOf (v .effect) (walkedRows walk)))
     → (walk : Walk) → takes (v .effect) walk ≡ true
-    → _≡_ {A = Slot} (record { address = slot .address; asn = slot .asn; neighbour = v .neighbour; rows = count }) (slotAfter slot (rulingOf v (rowsIn walk)))
+    → _≡_ {A = Slot} (record { address = slot .address; asn = slot .asn; neighbour = v .neighbour; rows = count }) (slotAfter slot (rulingOf v (walkedRows walk)))
 unfolding slotAfter rulingOf
 slot-is slot v count f walk t = rw (f walk t)

@@ -14,7 +14,7 @@ use Rattle.octets.proofs.Buffer.{over-length, over-nothing}
 use Rattle.nets.specs.Rows.{rowsOf}
 use Rattle.message.specs.declared.Message.{Message}
 use Rattle.message.specs.declared.Message.the-variants.{Request, Confirm, Refuse, Cease, CeaseAck, Hello, IHeardYou, Poll, Update, Error}
-use Rattle.codec_writing.specs.Octets.{octetsOf}
+use Rattle.codec_writing.specs.Octets.{messageOctets}
 use Rattle.codec_writing.specs.Room.{rowsFit, roomFor}
 use Rattle.codec_writing.proofs.Laws.{octets-fit, room-most}
 use Rattle.neighbour_machine.specs.declared.Reply.{Reply}
@@ -64,7 +64,7 @@ brief-fits (Error a q s r x y z) home e = refl
 
 -- ---- each kind of reply
 
-pub message-short : (m : Message) (home : List ℕ) → rowsFit m home ≡ true → length (octetsOf m (rowsOf home)) ≤ 1168
+pub message-short : (m : Message) (home : List ℕ) → rowsFit m home ≡ true → length (messageOctets m (rowsOf home)) ≤ 1168
 message-short m home e = omega (arith, octets-fit m home e, room-most m)
 
 module _ (reply : Reply) (home b : List ℕ) (s : sendable reply home ≡ true) (long : 2048 ≤ length b) where
@@ -80,13 +80,13 @@ module _ (reply : Reply) (home b : List ℕ) (s : sendable reply home ≡ true) 
     pub one-asked : (rowsFit m home ≡ true) × (roomFor m ≤ length b)
     one-asked = (one-fits, omega (arith, room-most m))
 
-    pub one-short : (n : ℕ) → n ≡ length (octetsOf m (rowsOf home)) → n < 65536
+    pub one-short : (n : ℕ) → n ≡ length (messageOctets m (rowsOf home)) → n < 65536
     one-short n f = omega (arith, message-short m home one-fits)
 
-    pub send-one : (n : ℕ) (x : List ℕ) → n ≡ length (octetsOf m (rowsOf home)) → x ≡ over (octetsOf m (rowsOf home)) b
+    pub send-one : (n : ℕ) (x : List ℕ) → n ≡ length (messageOctets m (rowsOf home)) → x ≡ over (messageOctets m (rowsOf home)) b
         → (_≡_ {A = Lengths} (record { first = n; second = 0 }) (lengthsOf reply (rowsOf home))) × (x ≡ bufferAfter b reply (rowsOf home))
     unfolding lengthsOf bufferAfter replyOctets firstOctets secondOctets
-    send-one n x f w = (rw (e, f), rw (e, append-nil (octetsOf m (rowsOf home))) w)
+    send-one n x f w = (rw (e, f), rw (e, append-nil (messageOctets m (rowsOf home))) w)
 
   module _ (m next : Message) (e : reply ≡ Two m next) where
     pub first-brief : brief m ≡ true
@@ -103,12 +103,12 @@ module _ (reply : Reply) (home b : List ℕ) (s : sendable reply home ≡ true) 
     pub second-fits : rowsFit next home ≡ true
     second-fits = brief-fits next home second-brief
 
-    module _ (n : ℕ) (x : List ℕ) (f : n ≡ length (octetsOf m (rowsOf home))) (w : x ≡ over (octetsOf m (rowsOf home)) b) where
+    module _ (n : ℕ) (x : List ℕ) (f : n ≡ length (messageOctets m (rowsOf home))) (w : x ≡ over (messageOctets m (rowsOf home)) b) where
       pub first-short : n ≤ 24
       first-short = omega (arith, f, octets-fit m home (first-asked .0), brief-room m first-brief)
 
       same : length x ≡ length b
-      same = ap length w ∙ over-length (octetsOf m (rowsOf home)) b (omega (arith, f, first-short))
+      same = ap length w ∙ over-length (messageOctets m (rowsOf home)) b (omega (arith, f, first-short))
 
       pub first-within : n ≤ length x
       first-within = omega (arith, same, first-short)
@@ -116,16 +116,16 @@ module _ (reply : Reply) (home b : List ℕ) (s : sendable reply home ≡ true) 
       pub second-asked : (rowsFit next home ≡ true) × (roomFor next ≤ length (take (length x - n) (drop n x)))
       second-asked = (second-fits, rw (part-from n x) (simp length-drop (omega (arith, same, first-short, brief-room next second-brief))))
 
-      rest : drop n x ≡ drop (length (octetsOf m (rowsOf home))) b
-      rest = rw (f, w) (over-end (octetsOf m (rowsOf home)) b)
+      rest : drop n x ≡ drop (length (messageOctets m (rowsOf home))) b
+      rest = rw (f, w) (over-end (messageOctets m (rowsOf home)) b)
 
-      module _ (k : ℕ) (y : List ℕ) (g : k ≡ length (octetsOf next (rowsOf home))) (v : y ≡ over (octetsOf next (rowsOf home)) (take (length x - n) (drop n x))) where
+      module _ (k : ℕ) (y : List ℕ) (g : k ≡ length (messageOctets next (rowsOf home))) (v : y ≡ over (messageOctets next (rowsOf home)) (take (length x - n) (drop n x))) where
         pub second-short : k < 65536
         second-short = omega (arith, message-short next home second-fits)
 
-        laid : y ≡ over (octetsOf next (rowsOf home)) (drop (length (octetsOf m (rowsOf home))) b)
-        laid = v ∙ ap (over (octetsOf next (rowsOf home))) (part-from n x ∙ rest)
+        laid : y ≡ over (messageOctets next (rowsOf home)) (drop (length (messageOctets m (rowsOf home))) b)
+        laid = v ∙ ap (over (messageOctets next (rowsOf home))) (part-from n x ∙ rest)
 
         pub send-two : (_≡_ {A = Lengths} (record { first = n; second = k }) (lengthsOf reply (rowsOf home))) × (putMid n (length x - n) x y ≡ bufferAfter b reply (rowsOf home))
         unfolding lengthsOf bufferAfter replyOctets firstOctets secondOctets
-        send-two = (rw (e, f, g), rw (e, laid, f, w) (over-twice (octetsOf m (rowsOf home)) (octetsOf next (rowsOf home)) b))
+        send-two = (rw (e, f, g), rw (e, laid, f, w) (over-twice (messageOctets m (rowsOf home)) (messageOctets next (rowsOf home)) b))

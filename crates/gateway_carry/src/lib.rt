@@ -11,8 +11,8 @@ ghost use mathlib.Core.List.{List};
 ghost use Prim.Native.Nat.{ℕ, _≤_, _<_};
 ghost use lib.ListN.{length};
 ghost use Rattle.nets.specs.Rows.{rowsOf};
-ghost use Rattle.update_walk.specs.Body.{Walk, blocksOf};
-ghost use Rattle.update_rows.specs.Storing.{rowsIn};
+ghost use Rattle.update_walk.specs.Body.{Walk, walkedBlocks};
+ghost use Rattle.update_rows.specs.Storing.{walkedRows};
 ghost use Rattle.gateway_state.specs.Places.{rowCounts};
 ghost use Rattle.gateway_rules.specs.Carried.{tableAfter, countAfter, slotAfter, outcomeAfter, refusedWith, bufferAfter};
 ghost use Rattle.gateway_carry.specs.Asked.{sendable, lengthsOf, takes, changeOf, rulingOf};
@@ -55,8 +55,8 @@ fn send(buffer: &mut [u8], reply: Reply, home: &[u32]) -> Lengths
 // Leaves, zeroes or replaces the rows of slot i, in its part of the table.
 fn change_rows(table: &mut [u32], i: usize, effect: Effect, net: u32, message: &[u8])
     requires { ⌜ (i < 8) × (length (now table) ≡ 3072) ⌝ }
-    requires { ⌜ takes effect (blocksOf net (now message)) ≡ true ⌝ }
-    ensures { λ _. ⌜ ((counts : List ℕ) → now (table .exit) ≡ tableAfter (now (table .entry)) counts i (changeOf effect (rowsIn (blocksOf net (now (message .entry)))))) ⌝ }
+    requires { ⌜ takes effect (walkedBlocks net (now message)) ≡ true ⌝ }
+    ensures { λ _. ⌜ ((counts : List ℕ) → now (table .exit) ≡ tableAfter (now (table .entry)) counts i (changeOf effect (walkedRows (walkedBlocks net (now (message .entry)))))) ⌝ }
 {
     let start = gateway_state::place(i);
     let end = start + gateway_state::SLOT_NUMBERS;
@@ -69,7 +69,7 @@ fn change_rows(table: &mut [u32], i: usize, effect: Effect, net: u32, message: &
 
 // The row count after a verdict.
 fn count_after(count: u16, effect: Effect) -> u16
-    ensures { λ r. ⌜ ((walk : Walk) → takes effect walk ≡ true → r ≡ countAfter count (changeOf effect (rowsIn walk))) ⌝ }
+    ensures { λ r. ⌜ ((walk : Walk) → takes effect walk ≡ true → r ≡ countAfter count (changeOf effect (walkedRows walk))) ⌝ }
 {
     match effect {
         Effect::Keep => count,
@@ -79,7 +79,7 @@ fn count_after(count: u16, effect: Effect) -> u16
 }
 
 fn slot_after(slot: Slot, v: Verdict) -> Slot
-    ensures { λ r. ⌜ ((walk : Walk) → takes (v .effect) walk ≡ true → r ≡ slotAfter slot (rulingOf v (rowsIn walk))) ⌝ }
+    ensures { λ r. ⌜ ((walk : Walk) → takes (v .effect) walk ≡ true → r ≡ slotAfter slot (rulingOf v (walkedRows walk))) ⌝ }
 {
     let next = v.neighbour;
     let effect = v.effect;
@@ -102,9 +102,9 @@ pub fn apply(
     message: &[u8],
 ) -> Outcome
     requires { ⌜ (i < 8) × (length (now table) ≡ 3072) × (2048 ≤ length (now buffer)) ⌝ }
-    requires { ⌜ (sendable (v .reply) (now home) ≡ true) × (takes (v .effect) (blocksOf (st .settings .net) (now message)) ≡ true) ⌝ }
-    ensures { λ r. ⌜ r ≡ outcomeAfter st i (rulingOf v (rowsIn (blocksOf (st .settings .net) (now (message .entry))))) (rowsOf (now (home .entry))) ⌝ }
-    ensures { λ _. ⌜ now (table .exit) ≡ tableAfter (now (table .entry)) (rowCounts st) i (changeOf (v .effect) (rowsIn (blocksOf (st .settings .net) (now (message .entry))))) ⌝ }
+    requires { ⌜ (sendable (v .reply) (now home) ≡ true) × (takes (v .effect) (walkedBlocks (st .settings .net) (now message)) ≡ true) ⌝ }
+    ensures { λ r. ⌜ r ≡ outcomeAfter st i (rulingOf v (walkedRows (walkedBlocks (st .settings .net) (now (message .entry))))) (rowsOf (now (home .entry))) ⌝ }
+    ensures { λ _. ⌜ now (table .exit) ≡ tableAfter (now (table .entry)) (rowCounts st) i (changeOf (v .effect) (walkedRows (walkedBlocks (st .settings .net) (now (message .entry))))) ⌝ }
     ensures { λ _. ⌜ now (buffer .exit) ≡ bufferAfter (now (buffer .entry)) (v .reply) (rowsOf (now (home .entry))) ⌝ }
 {
     let reply = v.reply;

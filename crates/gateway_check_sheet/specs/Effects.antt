@@ -14,13 +14,13 @@ use Rattle.neighbour_machine.specs.Intrinsics.{Intrinsic, Start, Stop, Tick}
 use Rattle.gateway_state.specs.declared.State.{State}
 use Rattle.gateway_state.specs.declared.Outcome.{Outcome}
 use Rattle.gateway_rules.specs.Calls.{eventOutcome, eventTable, eventBuffer, messageOutcome, messageTable, messageBuffer}
-use Rattle.gateway_check_sheet.specs.Given.{hex, ip, ours, theirs, others, set, made, resting, asking, falling, reporting, ceasing, slot, vacant, state, at}
+use Rattle.gateway_check_sheet.specs.Given.{hex, ip, ours, theirs, others, set, made, resting, asking, falling, reporting, ceasing, slot, vacant, state, inSlotTwo}
 
 -- a call about the neighbour in slot 2: the state; the two lengths, the octets of the reply, the state after it, the numbers of slot 2's part
-pub data Call : Type 0 where
-  event : Intrinsic → State → ℕ → ℕ → List ℕ → State → List ℕ → Call
+pub data WorkedCall : Type 0 where
+  event : Intrinsic → State → ℕ → ℕ → List ℕ → State → List ℕ → WorkedCall
   -- a message with a home list
-  message : List ℕ → List ℕ → State → ℕ → ℕ → List ℕ → State → List ℕ → Call
+  message : List ℕ → List ℕ → State → ℕ → ℕ → List ℕ → State → List ℕ → WorkedCall
 
 pub record Left : Type 0 where
   pub outcome : Outcome
@@ -33,7 +33,7 @@ eights = replicate 3072 8
 unfoldable pub sevens : List ℕ
 sevens = replicate 2048 7
 
-unfoldable pub computed : Call → Left
+unfoldable pub computed : WorkedCall → Left
 computed (event e st first second reply after part) =
     record {
       outcome = eventOutcome e st eights sevens theirs;
@@ -56,7 +56,7 @@ carried first second reply after part =
       table = replicate 768 8 ++ (part ++ replicate 1920 8);
     }
 
-unfoldable pub written : Call → Left
+unfoldable pub written : WorkedCall → Left
 written (event e st first second reply after part) = carried first second reply after part
 written (message octets home st first second reply after part) = carried first second reply after part
 
@@ -68,53 +68,53 @@ unfoldable pub zeroed : List ℕ
 zeroed = replicate 384 0
 
 -- the neighbour heard, without a home list
-unfoldable pub hears : String → State → ℕ → String → State → List ℕ → Call
-hears octets st first reply after part = message (hex octets) [] st first 0 (hex reply) after part
+unfoldable pub heardAlone : String → State → ℕ → String → State → List ℕ → WorkedCall
+heardAlone octets st first reply after part = message (hex octets) [] st first 0 (hex reply) after part
 
 -- the same gateway with capability 1
 unfoldable pub atActive : State → State
 atActive st = record { settings = set 9 ours 1 (ip 128 9 0 0); slots = st .slots }
 
-unfoldable pub effects : List Call
+unfoldable pub effects : List WorkedCall
 effects =
     -- left by an Update in Up: "its rows replace the slot's", "the rest zero", "the count is their number"
-    hears "02 01 00 01 73 07 00 07 00 03 01 01 80 09 00 00 00 05 01 03 01 0A 00 06 01 04 01 C0 05 06" (at reporting 3) 0 ""
-    (at (made Up 3 5 32 122 Active 20 60 3600 7 1 0) 2)
+    heardAlone "02 01 00 01 73 07 00 07 00 03 01 01 80 09 00 00 00 05 01 03 01 0A 00 06 01 04 01 C0 05 06" (inSlotTwo reporting 3) 0 ""
+    (inSlotTwo (made Up 3 5 32 122 Active 20 60 3600 7 1 0) 2)
     ((ip 10 0 0 0 ∷ ip 128 9 0 5 ∷ 3 ∷ ip 192 5 6 0 ∷ ip 128 9 0 6 ∷ 260 ∷ []) ++ replicate 378 0) ∷
     -- left by an Update without rows in Up
-    hears "02 01 00 01 7D EA 00 07 00 03 00 00 80 09 00 00" (at reporting 3) 0 "" (at (made Up 3 5 32 122 Active 20 60 3600 7 1 0) 0) zeroed ∷
+    heardAlone "02 01 00 01 7D EA 00 07 00 03 00 00 80 09 00 00" (inSlotTwo reporting 3) 0 "" (inSlotTwo (made Up 3 5 32 122 Active 20 60 3600 7 1 0) 0) zeroed ∷
     -- left on leaving Up: "zeroes t2 and the neighbour's rows and count": Stop, Start, Cease, Request acceptable and unacceptable, t3, going Down by a tick
-    event Stop (at reporting 3) 10 0 (hex "02 03 03 05 FA EB 00 09 00 03") (at (made Cease 3 5 0 0 Unset 30 0 120 0 0 5) 0) zeroed ∷
-    event Start (at reporting 3) 14 0 (hex "02 03 00 00 FD 5A 00 09 00 03 00 1E 00 78") (at (made Acquisition 3 5 0 0 Unset 30 0 120 0 0 0) 0) zeroed ∷
-    hears "02 03 03 00 FA EC 00 07 00 09" (at reporting 3) 10 "02 03 04 00 F9 EA 00 09 00 09" (at resting 0) zeroed ∷
-    hears "02 03 00 00 FD 56 00 07 00 09 00 1E 00 78" (at reporting 3) 14 "02 03 01 00 FC 54 00 09 00 09 00 1E 00 78"
-    (at (made Down 3 9 32 122 Passive 32 0 120 0 0 0) 0) zeroed ∷
-    hears "02 03 00 00 FC FB 00 07 00 09 00 79 00 78" (at reporting 3) 10 "02 03 03 06 FA EA 00 09 00 03"
-    (at (made Cease 3 9 0 0 Unset 30 0 120 0 0 6) 0) zeroed ∷
-    event Tick (at (made Up 3 5 32 122 Active 20 60 1 7 0 0) 3) 10 0 (hex "02 03 03 05 FA EB 00 09 00 03")
-    (at (made Cease 3 5 0 0 Unset 30 0 120 0 0 5) 0) zeroed ∷
-    event Tick (at (made Up 3 5 32 122 Active 1 60 100 1 0 0) 3) 10 0 (hex "02 05 00 02 FD EC 00 09 00 03")
-    (at (made Down 3 5 32 122 Active 32 0 99 2 0 0) 0) zeroed ∷
+    event Stop (inSlotTwo reporting 3) 10 0 (hex "02 03 03 05 FA EB 00 09 00 03") (inSlotTwo (made Cease 3 5 0 0 Unset 30 0 120 0 0 5) 0) zeroed ∷
+    event Start (inSlotTwo reporting 3) 14 0 (hex "02 03 00 00 FD 5A 00 09 00 03 00 1E 00 78") (inSlotTwo (made Acquisition 3 5 0 0 Unset 30 0 120 0 0 0) 0) zeroed ∷
+    heardAlone "02 03 03 00 FA EC 00 07 00 09" (inSlotTwo reporting 3) 10 "02 03 04 00 F9 EA 00 09 00 09" (inSlotTwo resting 0) zeroed ∷
+    heardAlone "02 03 00 00 FD 56 00 07 00 09 00 1E 00 78" (inSlotTwo reporting 3) 14 "02 03 01 00 FC 54 00 09 00 09 00 1E 00 78"
+    (inSlotTwo (made Down 3 9 32 122 Passive 32 0 120 0 0 0) 0) zeroed ∷
+    heardAlone "02 03 00 00 FC FB 00 07 00 09 00 79 00 78" (inSlotTwo reporting 3) 10 "02 03 03 06 FA EA 00 09 00 03"
+    (inSlotTwo (made Cease 3 9 0 0 Unset 30 0 120 0 0 6) 0) zeroed ∷
+    event Tick (inSlotTwo (made Up 3 5 32 122 Active 20 60 1 7 0 0) 3) 10 0 (hex "02 03 03 05 FA EB 00 09 00 03")
+    (inSlotTwo (made Cease 3 5 0 0 Unset 30 0 120 0 0 5) 0) zeroed ∷
+    event Tick (inSlotTwo (made Up 3 5 32 122 Active 1 60 100 1 0 0) 3) 10 0 (hex "02 05 00 02 FD EC 00 09 00 03")
+    (inSlotTwo (made Down 3 5 32 122 Active 32 0 99 2 0 0) 0) zeroed ∷
     -- left as it was, for no other call writes the table: Hello in Up, a tick in Up, Update in Down, Stop in Down
-    hears "02 05 00 01 FD E9 00 07 00 09" (at reporting 3) 10 "02 05 01 01 FC E7 00 09 00 09" (at (made Up 3 9 32 122 Active 20 60 100 7 0 0) 3) kept ∷
-    event Tick (at reporting 3) 0 0 [] (at (made Up 3 5 32 122 Active 19 59 99 7 0 0) 3) kept ∷
-    hears "02 01 00 00 7A DC 00 07 00 03 01 00 80 09 00 00 00 05 01 00 01 0A" (at falling 0) 0 "" (at falling 0) kept ∷
-    event Stop (at falling 0) 10 0 (hex "02 03 03 05 FA EB 00 09 00 03") (at (made Cease 3 5 0 0 Unset 30 0 120 0 0 5) 0) kept ∷
+    heardAlone "02 05 00 01 FD E9 00 07 00 09" (inSlotTwo reporting 3) 10 "02 05 01 01 FC E7 00 09 00 09" (inSlotTwo (made Up 3 9 32 122 Active 20 60 100 7 0 0) 3) kept ∷
+    event Tick (inSlotTwo reporting 3) 0 0 [] (inSlotTwo (made Up 3 5 32 122 Active 19 59 99 7 0 0) 3) kept ∷
+    heardAlone "02 01 00 00 7A DC 00 07 00 03 01 00 80 09 00 00 00 05 01 00 01 0A" (inSlotTwo falling 0) 0 "" (inSlotTwo falling 0) kept ∷
+    event Stop (inSlotTwo falling 0) 10 0 (hex "02 03 03 05 FA EB 00 09 00 03") (inSlotTwo (made Cease 3 5 0 0 Unset 30 0 120 0 0 5) 0) kept ∷
     -- two messages: "the second written straight after the first; two lengths are reported": Confirm and Hello; Hello and Poll, its reserved octets 0
-    message (hex "02 03 00 00 FC E8 00 07 00 09 00 3C 00 C8") [] (atActive (at resting 0)) 14 10
+    message (hex "02 03 00 00 FC E8 00 07 00 09 00 3C 00 C8") [] (atActive (inSlotTwo resting 0)) 14 10
     (hex "02 03 01 01 FC 53 00 09 00 09 00 1E 00 78 02 05 00 02 FD EF 00 09 00 00")
-    (atActive (at (made Down 0 9 62 202 Active 62 0 120 0 0 0) 0)) kept ∷
-    event Tick (at (made Down 3 5 32 122 Active 1 0 100 3 1 0) 0) 10 16
+    (atActive (inSlotTwo (made Down 0 9 62 202 Active 62 0 120 0 0 0) 0)) kept ∷
+    event Tick (inSlotTwo (made Down 3 5 32 122 Active 1 0 100 3 1 0) 0) 10 16
     (hex "02 05 00 01 FD ED 00 09 00 03 02 02 00 01 7D E6 00 09 00 04 00 00 80 09 00 00")
-    (at (made Up 4 5 32 122 Active 32 122 99 7 0 0) 0) kept ∷
+    (inSlotTwo (made Up 4 5 32 122 Active 32 122 99 7 0 0) 0) kept ∷
     -- reserved octets: "Poll's reserved octets are ignored": the Update with the home list
-    message (hex "02 02 00 00 D2 16 00 07 00 09 AB CD 80 09 00 00") (ip 10 0 0 0 ∷ ours ∷ 7 ∷ []) (at reporting 3) 22 0
+    message (hex "02 02 00 00 D2 16 00 07 00 09 AB CD 80 09 00 00") (ip 10 0 0 0 ∷ ours ∷ 7 ∷ []) (inSlotTwo reporting 3) 22 0
     (hex "02 01 00 01 7A D0 00 09 00 09 01 00 80 09 00 00 00 01 01 07 01 0A")
-    (at (made Up 3 9 32 122 Active 20 60 100 7 0 0) 3) kept ∷
+    (inSlotTwo (made Up 3 9 32 122 Active 20 60 100 7 0 0) 3) kept ∷
     -- a bad body outside Up, where 14 and 15 are not given: an Update with a bad body in Acquisition, Down and Cease
-    hears "02 01 00 00 7C EB 00 07 00 03 01 00 80 09 00 00 00" (at asking 0) 0 "" (at asking 0) kept ∷
-    hears "02 01 00 00 7C EB 00 07 00 03 01 00 80 09 00 00 00" (at falling 0) 0 "" (at falling 0) kept ∷
-    hears "02 01 00 00 7C EB 00 07 00 03 01 00 80 09 00 00 00" (at ceasing 0) 0 "" (at ceasing 0) kept ∷
+    heardAlone "02 01 00 00 7C EB 00 07 00 03 01 00 80 09 00 00 00" (inSlotTwo asking 0) 0 "" (inSlotTwo asking 0) kept ∷
+    heardAlone "02 01 00 00 7C EB 00 07 00 03 01 00 80 09 00 00 00" (inSlotTwo falling 0) 0 "" (inSlotTwo falling 0) kept ∷
+    heardAlone "02 01 00 00 7C EB 00 07 00 03 01 00 80 09 00 00 00" (inSlotTwo ceasing 0) 0 "" (inSlotTwo ceasing 0) kept ∷
     []
 
 -- an Update read alone on a common net of class C, an internal row and an external one: the meaning and every number

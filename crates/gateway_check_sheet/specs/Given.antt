@@ -16,15 +16,15 @@ use Rattle.gateway_state.specs.declared.Slot.{Slot}
 use Rattle.gateway_state.specs.declared.State.{State}
 
 -- 0 to 9 and A to F
-unfoldable pub hexDigit : ℕ → ℕ
-hexDigit letter = cond (ltb letter 58) (letter - 48) (letter - 55)
+unfoldable pub hexValue : ℕ → ℕ
+hexValue letter = cond (ltb letter 58) (letter - 48) (letter - 55)
 
 -- octets as 01 writes them: two letters each, a space between two of them
 unfoldable pub hex : String → List ℕ
 hex no-letters = []
 hex (high then no-letters) = []
-hex (high then (low then no-letters)) = (hexDigit (code high) * 16 + hexDigit (code low)) ∷ []
-hex (high then (low then (space then rest))) = (hexDigit (code high) * 16 + hexDigit (code low)) ∷ hex rest
+hex (high then (low then no-letters)) = (hexValue (code high) * 16 + hexValue (code low)) ∷ []
+hex (high then (low then (space then rest))) = (hexValue (code high) * 16 + hexValue (code low)) ∷ hex rest
 
 -- the same numbers, so many times
 unfoldable pub repeated : ℕ → List ℕ → List ℕ
@@ -92,36 +92,36 @@ unfoldable pub state : Settings → Slot → Slot → Slot → Slot → Slot →
 state g a b c d e f h i = record { settings = g; slots = a ∷ b ∷ c ∷ d ∷ e ∷ f ∷ h ∷ i ∷ [] }
 
 -- settings, and no neighbour
-unfoldable pub empty : Settings → State
-empty g = state g vacant vacant vacant vacant vacant vacant vacant vacant
+unfoldable pub withoutNeighbours : Settings → State
+withoutNeighbours g = state g vacant vacant vacant vacant vacant vacant vacant vacant
 
 -- 01: "the all-zero state"
 unfoldable pub nothing : State
-nothing = empty (set 0 0 0 0)
+nothing = withoutNeighbours (set 0 0 0 0)
 
 -- another neighbour of AS 12, Idle, in slot 0; the neighbour of AS 7 in slot 2, with this record and row count
-unfoldable pub at : Neighbour → ℕ → State
-at n rows = state nine (slot others 12 resting 0) vacant (slot theirs 7 n rows) vacant vacant vacant vacant vacant
+unfoldable pub inSlotTwo : Neighbour → ℕ → State
+inSlotTwo n rows = state nine (slot others 12 resting 0) vacant (slot theirs 7 n rows) vacant vacant vacant vacant vacant
 
 -- the neighbour in each of the five states; two rows in Up
 unfoldable pub inIdle : State
-inIdle = at resting 0
+inIdle = inSlotTwo resting 0
 
 unfoldable pub inAcquisition : State
-inAcquisition = at asking 0
+inAcquisition = inSlotTwo asking 0
 
 unfoldable pub inDown : State
-inDown = at falling 0
+inDown = inSlotTwo falling 0
 
 unfoldable pub inUp : State
-inUp = at reporting 2
+inUp = inSlotTwo reporting 2
 
 unfoldable pub inCease : State
-inCease = at ceasing 0
+inCease = inSlotTwo ceasing 0
 
 -- 01: "in Idle only address and AS may be non-zero": here S is 1, and the state is not well formed
 unfoldable pub unsound : State
-unsound = at (made Idle 1 0 0 0 Unset 0 0 0 0 0 0) 0
+unsound = inSlotTwo (made Idle 1 0 0 0 Unset 0 0 0 0 0 0) 0
 
 -- a neighbour in every slot
 unfoldable pub full : State

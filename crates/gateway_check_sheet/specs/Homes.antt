@@ -4,7 +4,7 @@
 use Prim.Native.Nat.{ℕ}
 use mathlib.Core.List.{List, [], _∷_, _++_}
 use Rattle.gateway_state.specs.declared.State.{State}
-use Rattle.gateway_check_sheet.specs.Given.{hex, repeated, ip, ours, theirs, nobody, set, empty, inIdle, inUp}
+use Rattle.gateway_check_sheet.specs.Given.{hex, repeated, ip, ours, theirs, nobody, set, withoutNeighbours, inIdle, inUp}
 use Rattle.gateway_check_sheet.specs.Line.{Line, message}
 
 -- A message from an address that no slot has answers 4 where the list is bad and else 5.
@@ -16,10 +16,10 @@ bad home = message inIdle 3072 2048 home nobody [] 4 0 0 []
 
 -- the same at a gateway on 10.0.0.0, own address 10.0.0.1, and at one on 192.5.6.0, own address 192.5.6.1
 unfoldable pub onA : State
-onA = empty (set 9 (ip 10 0 0 1) 0 (ip 10 0 0 0))
+onA = withoutNeighbours (set 9 (ip 10 0 0 1) 0 (ip 10 0 0 0))
 
 unfoldable pub onC : State
-onC = empty (set 9 (ip 192 5 6 1) 0 (ip 192 5 6 0))
+onC = withoutNeighbours (set 9 (ip 192 5 6 1) 0 (ip 192 5 6 0))
 
 unfoldable pub homes : List Line
 homes =

@@ -10,7 +10,7 @@ use Rattle.neighbour.specs.declared.Mode.the-variants.{Active, Passive}
 use Rattle.gateway_state.specs.declared.State.{State}
 use Rattle.gateway_state.specs.declared.Outcome.{Outcome}
 use Rattle.gateway_rules.specs.Calls.{messageOutcome, messageBuffer}
-use Rattle.gateway_check_sheet.specs.Given.{hex, theirs, made, resting, asking, ceasing, at}
+use Rattle.gateway_check_sheet.specs.Given.{hex, theirs, made, resting, asking, ceasing, inSlotTwo}
 
 -- a message from the neighbour: the state, the octets; the answer, the octets of the reply, the state after it
 pub data Heard : Type 0 where
@@ -40,54 +40,54 @@ hearsUpdate st octets answer reply after = line st (hex octets) answer (hex repl
 
 -- the neighbour in slot 2, not heard from in this window: t3 is 100, heard 0; two rows in Up
 unfoldable pub passiveDown : State
-passiveDown = at (made Down 3 5 32 122 Passive 20 0 100 0 0 0) 0
+passiveDown = inSlotTwo (made Down 3 5 32 122 Passive 20 0 100 0 0 0) 0
 
 unfoldable pub passiveUp : State
-passiveUp = at (made Up 3 5 32 122 Passive 20 60 100 7 0 0) 2
+passiveUp = inSlotTwo (made Up 3 5 32 122 Passive 20 60 100 7 0 0) 2
 
 unfoldable pub activeDown : State
-activeDown = at (made Down 3 5 32 122 Active 20 0 100 0 0 0) 0
+activeDown = inSlotTwo (made Down 3 5 32 122 Active 20 0 100 0 0 0) 0
 
 unfoldable pub activeUp : State
-activeUp = at (made Up 3 5 32 122 Active 20 60 100 7 0 0) 2
+activeUp = inSlotTwo (made Up 3 5 32 122 Active 20 60 100 7 0 0) 2
 
 -- statuses 0, 1, 2, 128, 129 and 130 in this order, or 1 and 129
-unfoldable pub indications : List Heard
-indications =
+unfoldable pub indicationLines : List Heard
+indicationLines =
     -- passive, Up: an Update accepted; 1 and 129 count
-    hearsUpdate passiveUp "02 01 00 00 7D EB 00 07 00 03 00 00 80 09 00 00" 0 "" (at (made Up 3 5 32 122 Passive 20 60 100 7 0 0) 0) ∷
-    hearsUpdate passiveUp "02 01 00 01 7D EA 00 07 00 03 00 00 80 09 00 00" 0 "" (at (made Up 3 5 32 122 Passive 20 60 3600 7 1 0) 0) ∷
-    hearsUpdate passiveUp "02 01 00 02 7D E9 00 07 00 03 00 00 80 09 00 00" 0 "" (at (made Up 3 5 32 122 Passive 20 60 100 7 0 0) 0) ∷
-    hearsUpdate passiveUp "02 01 00 80 7D 6B 00 07 00 03 00 00 80 09 00 00" 0 "" (at (made Up 3 5 32 122 Passive 20 60 100 7 0 0) 0) ∷
-    hearsUpdate passiveUp "02 01 00 81 7D 6A 00 07 00 03 00 00 80 09 00 00" 0 "" (at (made Up 3 5 32 122 Passive 20 60 3600 7 1 0) 0) ∷
-    hearsUpdate passiveUp "02 01 00 82 7D 69 00 07 00 03 00 00 80 09 00 00" 0 "" (at (made Up 3 5 32 122 Passive 20 60 100 7 0 0) 0) ∷
+    hearsUpdate passiveUp "02 01 00 00 7D EB 00 07 00 03 00 00 80 09 00 00" 0 "" (inSlotTwo (made Up 3 5 32 122 Passive 20 60 100 7 0 0) 0) ∷
+    hearsUpdate passiveUp "02 01 00 01 7D EA 00 07 00 03 00 00 80 09 00 00" 0 "" (inSlotTwo (made Up 3 5 32 122 Passive 20 60 3600 7 1 0) 0) ∷
+    hearsUpdate passiveUp "02 01 00 02 7D E9 00 07 00 03 00 00 80 09 00 00" 0 "" (inSlotTwo (made Up 3 5 32 122 Passive 20 60 100 7 0 0) 0) ∷
+    hearsUpdate passiveUp "02 01 00 80 7D 6B 00 07 00 03 00 00 80 09 00 00" 0 "" (inSlotTwo (made Up 3 5 32 122 Passive 20 60 100 7 0 0) 0) ∷
+    hearsUpdate passiveUp "02 01 00 81 7D 6A 00 07 00 03 00 00 80 09 00 00" 0 "" (inSlotTwo (made Up 3 5 32 122 Passive 20 60 3600 7 1 0) 0) ∷
+    hearsUpdate passiveUp "02 01 00 82 7D 69 00 07 00 03 00 00 80 09 00 00" 0 "" (inSlotTwo (made Up 3 5 32 122 Passive 20 60 100 7 0 0) 0) ∷
     -- passive, Down: an Update whose body is bad is carried out; 1 and 129 count
-    hearsUpdate passiveDown "02 01 00 00 7C EB 00 07 00 03 01 00 80 09 00 00 00" 0 "" (at (made Down 3 5 32 122 Passive 20 0 100 0 0 0) 0) ∷
-    hearsUpdate passiveDown "02 01 00 01 7C EA 00 07 00 03 01 00 80 09 00 00 00" 0 "" (at (made Down 3 5 32 122 Passive 20 0 3600 0 1 0) 0) ∷
-    hearsUpdate passiveDown "02 01 00 02 7C E9 00 07 00 03 01 00 80 09 00 00 00" 0 "" (at (made Down 3 5 32 122 Passive 20 0 100 0 0 0) 0) ∷
-    hearsUpdate passiveDown "02 01 00 80 7C 6B 00 07 00 03 01 00 80 09 00 00 00" 0 "" (at (made Down 3 5 32 122 Passive 20 0 100 0 0 0) 0) ∷
-    hearsUpdate passiveDown "02 01 00 81 7C 6A 00 07 00 03 01 00 80 09 00 00 00" 0 "" (at (made Down 3 5 32 122 Passive 20 0 3600 0 1 0) 0) ∷
-    hearsUpdate passiveDown "02 01 00 82 7C 69 00 07 00 03 01 00 80 09 00 00 00" 0 "" (at (made Down 3 5 32 122 Passive 20 0 100 0 0 0) 0) ∷
+    hearsUpdate passiveDown "02 01 00 00 7C EB 00 07 00 03 01 00 80 09 00 00 00" 0 "" (inSlotTwo (made Down 3 5 32 122 Passive 20 0 100 0 0 0) 0) ∷
+    hearsUpdate passiveDown "02 01 00 01 7C EA 00 07 00 03 01 00 80 09 00 00 00" 0 "" (inSlotTwo (made Down 3 5 32 122 Passive 20 0 3600 0 1 0) 0) ∷
+    hearsUpdate passiveDown "02 01 00 02 7C E9 00 07 00 03 01 00 80 09 00 00 00" 0 "" (inSlotTwo (made Down 3 5 32 122 Passive 20 0 100 0 0 0) 0) ∷
+    hearsUpdate passiveDown "02 01 00 80 7C 6B 00 07 00 03 01 00 80 09 00 00 00" 0 "" (inSlotTwo (made Down 3 5 32 122 Passive 20 0 100 0 0 0) 0) ∷
+    hearsUpdate passiveDown "02 01 00 81 7C 6A 00 07 00 03 01 00 80 09 00 00 00" 0 "" (inSlotTwo (made Down 3 5 32 122 Passive 20 0 3600 0 1 0) 0) ∷
+    hearsUpdate passiveDown "02 01 00 82 7C 69 00 07 00 03 01 00 80 09 00 00 00" 0 "" (inSlotTwo (made Down 3 5 32 122 Passive 20 0 100 0 0 0) 0) ∷
     -- active: every Update carried out counts, as before
-    hearsUpdate activeUp "02 01 00 00 7D EB 00 07 00 03 00 00 80 09 00 00" 0 "" (at (made Up 3 5 32 122 Active 20 60 3600 7 1 0) 0) ∷
-    hearsUpdate activeUp "02 01 00 01 7D EA 00 07 00 03 00 00 80 09 00 00" 0 "" (at (made Up 3 5 32 122 Active 20 60 3600 7 1 0) 0) ∷
-    hearsUpdate activeUp "02 01 00 02 7D E9 00 07 00 03 00 00 80 09 00 00" 0 "" (at (made Up 3 5 32 122 Active 20 60 3600 7 1 0) 0) ∷
-    hearsUpdate activeUp "02 01 00 80 7D 6B 00 07 00 03 00 00 80 09 00 00" 0 "" (at (made Up 3 5 32 122 Active 20 60 3600 7 1 0) 0) ∷
-    hearsUpdate activeUp "02 01 00 81 7D 6A 00 07 00 03 00 00 80 09 00 00" 0 "" (at (made Up 3 5 32 122 Active 20 60 3600 7 1 0) 0) ∷
-    hearsUpdate activeUp "02 01 00 82 7D 69 00 07 00 03 00 00 80 09 00 00" 0 "" (at (made Up 3 5 32 122 Active 20 60 3600 7 1 0) 0) ∷
-    hearsUpdate activeDown "02 01 00 00 7C EB 00 07 00 03 01 00 80 09 00 00 00" 0 "" (at (made Down 3 5 32 122 Active 20 0 3600 0 1 0) 0) ∷
-    hearsUpdate activeDown "02 01 00 01 7C EA 00 07 00 03 01 00 80 09 00 00 00" 0 "" (at (made Down 3 5 32 122 Active 20 0 3600 0 1 0) 0) ∷
-    hearsUpdate activeDown "02 01 00 02 7C E9 00 07 00 03 01 00 80 09 00 00 00" 0 "" (at (made Down 3 5 32 122 Active 20 0 3600 0 1 0) 0) ∷
-    hearsUpdate activeDown "02 01 00 80 7C 6B 00 07 00 03 01 00 80 09 00 00 00" 0 "" (at (made Down 3 5 32 122 Active 20 0 3600 0 1 0) 0) ∷
-    hearsUpdate activeDown "02 01 00 81 7C 6A 00 07 00 03 01 00 80 09 00 00 00" 0 "" (at (made Down 3 5 32 122 Active 20 0 3600 0 1 0) 0) ∷
-    hearsUpdate activeDown "02 01 00 82 7C 69 00 07 00 03 01 00 80 09 00 00 00" 0 "" (at (made Down 3 5 32 122 Active 20 0 3600 0 1 0) 0) ∷
+    hearsUpdate activeUp "02 01 00 00 7D EB 00 07 00 03 00 00 80 09 00 00" 0 "" (inSlotTwo (made Up 3 5 32 122 Active 20 60 3600 7 1 0) 0) ∷
+    hearsUpdate activeUp "02 01 00 01 7D EA 00 07 00 03 00 00 80 09 00 00" 0 "" (inSlotTwo (made Up 3 5 32 122 Active 20 60 3600 7 1 0) 0) ∷
+    hearsUpdate activeUp "02 01 00 02 7D E9 00 07 00 03 00 00 80 09 00 00" 0 "" (inSlotTwo (made Up 3 5 32 122 Active 20 60 3600 7 1 0) 0) ∷
+    hearsUpdate activeUp "02 01 00 80 7D 6B 00 07 00 03 00 00 80 09 00 00" 0 "" (inSlotTwo (made Up 3 5 32 122 Active 20 60 3600 7 1 0) 0) ∷
+    hearsUpdate activeUp "02 01 00 81 7D 6A 00 07 00 03 00 00 80 09 00 00" 0 "" (inSlotTwo (made Up 3 5 32 122 Active 20 60 3600 7 1 0) 0) ∷
+    hearsUpdate activeUp "02 01 00 82 7D 69 00 07 00 03 00 00 80 09 00 00" 0 "" (inSlotTwo (made Up 3 5 32 122 Active 20 60 3600 7 1 0) 0) ∷
+    hearsUpdate activeDown "02 01 00 00 7C EB 00 07 00 03 01 00 80 09 00 00 00" 0 "" (inSlotTwo (made Down 3 5 32 122 Active 20 0 3600 0 1 0) 0) ∷
+    hearsUpdate activeDown "02 01 00 01 7C EA 00 07 00 03 01 00 80 09 00 00 00" 0 "" (inSlotTwo (made Down 3 5 32 122 Active 20 0 3600 0 1 0) 0) ∷
+    hearsUpdate activeDown "02 01 00 02 7C E9 00 07 00 03 01 00 80 09 00 00 00" 0 "" (inSlotTwo (made Down 3 5 32 122 Active 20 0 3600 0 1 0) 0) ∷
+    hearsUpdate activeDown "02 01 00 80 7C 6B 00 07 00 03 01 00 80 09 00 00 00" 0 "" (inSlotTwo (made Down 3 5 32 122 Active 20 0 3600 0 1 0) 0) ∷
+    hearsUpdate activeDown "02 01 00 81 7C 6A 00 07 00 03 01 00 80 09 00 00 00" 0 "" (inSlotTwo (made Down 3 5 32 122 Active 20 0 3600 0 1 0) 0) ∷
+    hearsUpdate activeDown "02 01 00 82 7C 69 00 07 00 03 01 00 80 09 00 00 00" 0 "" (inSlotTwo (made Down 3 5 32 122 Active 20 0 3600 0 1 0) 0) ∷
     -- Idle, Acquisition and Cease note nothing
-    hearsUpdate (at resting 0) "02 01 00 01 7D EA 00 07 00 03 00 00 80 09 00 00" 0 "" (at resting 0) ∷
-    hearsUpdate (at resting 0) "02 01 00 81 7D 6A 00 07 00 03 00 00 80 09 00 00" 0 "" (at resting 0) ∷
-    hearsUpdate (at asking 0) "02 01 00 01 7D EA 00 07 00 03 00 00 80 09 00 00" 0 "" (at asking 0) ∷
-    hearsUpdate (at asking 0) "02 01 00 81 7D 6A 00 07 00 03 00 00 80 09 00 00" 0 "" (at asking 0) ∷
-    hearsUpdate (at ceasing 0) "02 01 00 01 7D EA 00 07 00 03 00 00 80 09 00 00" 0 "" (at ceasing 0) ∷
-    hearsUpdate (at ceasing 0) "02 01 00 81 7D 6A 00 07 00 03 00 00 80 09 00 00" 0 "" (at ceasing 0) ∷
+    hearsUpdate (inSlotTwo resting 0) "02 01 00 01 7D EA 00 07 00 03 00 00 80 09 00 00" 0 "" (inSlotTwo resting 0) ∷
+    hearsUpdate (inSlotTwo resting 0) "02 01 00 81 7D 6A 00 07 00 03 00 00 80 09 00 00" 0 "" (inSlotTwo resting 0) ∷
+    hearsUpdate (inSlotTwo asking 0) "02 01 00 01 7D EA 00 07 00 03 00 00 80 09 00 00" 0 "" (inSlotTwo asking 0) ∷
+    hearsUpdate (inSlotTwo asking 0) "02 01 00 81 7D 6A 00 07 00 03 00 00 80 09 00 00" 0 "" (inSlotTwo asking 0) ∷
+    hearsUpdate (inSlotTwo ceasing 0) "02 01 00 01 7D EA 00 07 00 03 00 00 80 09 00 00" 0 "" (inSlotTwo ceasing 0) ∷
+    hearsUpdate (inSlotTwo ceasing 0) "02 01 00 81 7D 6A 00 07 00 03 00 00 80 09 00 00" 0 "" (inSlotTwo ceasing 0) ∷
     -- refused, so not carried out: 13 in Down and Up, in both modes; 14 and 15 in Up
     hearsUpdate passiveDown "02 01 00 01 7D E9 00 07 00 04 00 00 80 09 00 00" 13 "" passiveDown ∷
     hearsUpdate passiveDown "02 01 00 81 7D 69 00 07 00 04 00 00 80 09 00 00" 13 "" passiveDown ∷

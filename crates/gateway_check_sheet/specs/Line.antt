@@ -6,7 +6,7 @@ use mathlib.Core.List.{List, [], _++_}
 use lib.Dec.{eqb}
 use lib.ListN.{take, drop, replicate}
 use Rattle.message.specs.declared.Message.{Message}
-use Rattle.codec.specs.Reading.{numberOf, readOf}
+use Rattle.codec.specs.Reading.{readNumber, readOf}
 use Rattle.codec.specs.Writing.{writeOf}
 use Rattle.neighbour.specs.declared.Settings.{Settings}
 use Rattle.neighbour_machine.specs.Intrinsics.{Intrinsic}
@@ -91,13 +91,13 @@ computed (message st table buffer home address octets answer first second reply)
     seen st t (messageOutcome st t b home address octets)
     (messageTable st t b home address octets) (messageBuffer st t b home address octets)
 computed (listing st table buffer answer length) = leaves (listingOutcome st table (replicate buffer 7))
-computed (reading net octets answer count) = pair (numberOf ((readOf net octets) .meaning)) ((readOf net octets) .count)
+computed (reading net octets answer count) = pair (readNumber ((readOf net octets) .meaning)) ((readOf net octets) .count)
 computed (rows net octets numbers) = holds (front ((readOf net octets) .rows))
 computed (writing m numbers buffer answer length) =
     let b : List ℕ = replicate buffer 7 in
     pair ((writeOf m numbers b) .answer) ((writeOf m numbers b) .length)
 computed (judged octets answer) =
-    pair (numberOf ((readOf common octets) .meaning))
+    pair (readNumber ((readOf common octets) .meaning))
     ((messageOutcome inIdle (replicate 3072 8) (replicate 2048 7) [] theirs octets) .answer)
 
 -- what the line says

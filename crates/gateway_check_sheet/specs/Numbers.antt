@@ -3,13 +3,13 @@ use mathlib.Core.List.{List, [], _∷_, _++_}
 use lib.ListN.{replicate}
 use Rattle.message.specs.declared.Message.the-variants.{Hello}
 use Rattle.neighbour_machine.specs.Intrinsics.{Start, Stop, Tick}
-use Rattle.gateway_check_sheet.specs.Given.{hex, ip, common, ours, theirs, others, nobody, set, nine, resting, falling, slot, vacant, state, empty, nothing, inIdle, inAcquisition, inDown, inUp, inCease, unsound, full}
+use Rattle.gateway_check_sheet.specs.Given.{hex, ip, common, ours, theirs, others, nobody, set, nine, resting, falling, slot, vacant, state, withoutNeighbours, nothing, inIdle, inAcquisition, inDown, inUp, inCease, unsound, full}
 use Rattle.gateway_check_sheet.specs.Line.{Line, fresh, add, remove, event, message, reading, writing, heard}
 
 unfoldable pub numbers : List Line
 numbers =
     -- fresh 0
-    fresh nine 0 (empty nine) ∷
+    fresh nine 0 (withoutNeighbours nine) ∷
     -- fresh 16: "bad setting"; "it then returns the all-zero state"
     fresh (set 0 ours 0 common) 16 nothing ∷
     -- add 0: "It takes the lowest free slot", here slot 1

@@ -6,7 +6,7 @@ use Rattle.message.specs.declared.Message.the-variants.{Hello, Update}
 use Rattle.neighbour.specs.declared.Phase.the-variants.{Acquisition}
 use Rattle.neighbour.specs.declared.Mode.the-variants.{Unset}
 use Rattle.neighbour_machine.specs.Intrinsics.{Start, Stop, Tick}
-use Rattle.gateway_check_sheet.specs.Given.{hex, ip, common, theirs, nobody, made, at, inIdle, inAcquisition, inDown, inUp, inCease, unsound, full}
+use Rattle.gateway_check_sheet.specs.Given.{hex, ip, common, theirs, nobody, made, inSlotTwo, inIdle, inAcquisition, inDown, inUp, inCease, unsound, full}
 use Rattle.gateway_check_sheet.specs.Line.{Line, add, remove, event, message, reading, writing, heard}
 
 unfoldable pub orders : List Line
@@ -71,7 +71,7 @@ orders =
     -- remove 1/5
     remove unsound nobody 1 unsound ∷
     -- remove 1/18; 5 and 18 exclude each other, since 18 is said of the neighbour that has the address
-    remove (at (made Acquisition 3 5 0 0 Unset 0 0 100 0 0 0) 0) theirs 1 (at (made Acquisition 3 5 0 0 Unset 0 0 100 0 0 0) 0) ∷
+    remove (inSlotTwo (made Acquisition 3 5 0 0 Unset 0 0 100 0 0 0) 0) theirs 1 (inSlotTwo (made Acquisition 3 5 0 0 Unset 0 0 100 0 0 0) 0) ∷
     -- writing 3/16
     writing (Hello 7 1 3) [] 2047 3 0 ∷
     writing (Update 7 1 1 (ip 224 0 0 0)) [] 2047 3 0 ∷

@@ -3,7 +3,7 @@
 use mathlib.Core.List.{List, [], _∷_}
 use Rattle.neighbour.specs.declared.Phase.the-variants.{Down}
 use Rattle.neighbour.specs.declared.Mode.the-variants.{Active}
-use Rattle.gateway_check_sheet.specs.Given.{made, at, inIdle, inAcquisition, inDown, inUp, inCease}
+use Rattle.gateway_check_sheet.specs.Given.{made, inSlotTwo, inIdle, inAcquisition, inDown, inUp, inCease}
 use Rattle.gateway_check_sheet.specs.Line.{Line, heard}
 
 unfoldable pub sequences : List Line
@@ -74,12 +74,12 @@ sequences =
     heard inIdle "02 01 00 00 7D E9 00 07 00 05 00 00 80 09 00 00" 0 0 0 "" ∷
     heard inIdle "02 01 00 00 7D EE 00 07 00 00 00 00 80 09 00 00" 0 0 0 "" ∷
     -- S 65,535: 0 is out of sequence, and so is 65,534
-    heard (at (made Down 65535 5 32 122 Active 20 0 100 4 0 0) 0) "02 05 01 00 FC F3 00 07 FF FF" 0 0 0 "" ∷
-    heard (at (made Down 65535 5 32 122 Active 20 0 100 4 0 0) 0) "02 05 01 00 FC F3 00 07 00 00" 13 0 0 "" ∷
-    heard (at (made Down 65535 5 32 122 Active 20 0 100 4 0 0) 0) "02 05 01 00 FC F4 00 07 FF FE" 13 0 0 "" ∷
-    heard (at (made Down 0 5 32 122 Active 20 0 100 4 0 0) 0) "02 05 01 00 FC F3 00 07 00 00" 0 0 0 "" ∷
-    heard (at (made Down 0 5 32 122 Active 20 0 100 4 0 0) 0) "02 05 01 00 FC F3 00 07 FF FF" 13 0 0 "" ∷
-    heard (at (made Down 0 5 32 122 Active 20 0 100 4 0 0) 0) "02 05 01 00 FB F3 00 07 01 00" 13 0 0 "" ∷
+    heard (inSlotTwo (made Down 65535 5 32 122 Active 20 0 100 4 0 0) 0) "02 05 01 00 FC F3 00 07 FF FF" 0 0 0 "" ∷
+    heard (inSlotTwo (made Down 65535 5 32 122 Active 20 0 100 4 0 0) 0) "02 05 01 00 FC F3 00 07 00 00" 13 0 0 "" ∷
+    heard (inSlotTwo (made Down 65535 5 32 122 Active 20 0 100 4 0 0) 0) "02 05 01 00 FC F4 00 07 FF FE" 13 0 0 "" ∷
+    heard (inSlotTwo (made Down 0 5 32 122 Active 20 0 100 4 0 0) 0) "02 05 01 00 FC F3 00 07 00 00" 0 0 0 "" ∷
+    heard (inSlotTwo (made Down 0 5 32 122 Active 20 0 100 4 0 0) 0) "02 05 01 00 FC F3 00 07 FF FF" 13 0 0 "" ∷
+    heard (inSlotTwo (made Down 0 5 32 122 Active 20 0 100 4 0 0) 0) "02 05 01 00 FB F3 00 07 01 00" 13 0 0 "" ∷
     -- an Update with status 129, unsolicited, must carry S too
     heard inUp "02 01 00 81 7D 6A 00 07 00 03 00 00 80 09 00 00" 0 0 0 "" ∷
     heard inUp "02 01 00 81 7D 69 00 07 00 04 00 00 80 09 00 00" 13 0 0 "" ∷

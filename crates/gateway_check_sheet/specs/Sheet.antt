@@ -9,7 +9,7 @@ use Rattle.gateway_check_sheet.specs.Orders.{orders}
 use Rattle.gateway_check_sheet.specs.Replies.{replies}
 use Rattle.gateway_check_sheet.specs.Formed.{forms}
 use Rattle.gateway_check_sheet.specs.Homes.{homes}
-use Rattle.gateway_check_sheet.specs.Settings.{settings}
+use Rattle.gateway_check_sheet.specs.Settings.{settingLines}
 use Rattle.gateway_check_sheet.specs.Kinds.{kinds}
 use Rattle.gateway_check_sheet.specs.Sequences.{sequences}
 use Rattle.gateway_check_sheet.specs.Bodies.{bodies}
@@ -17,7 +17,7 @@ use Rattle.gateway_check_sheet.specs.Writings.{writings}
 use Rattle.gateway_check_sheet.specs.Listings.{listings}
 use Rattle.gateway_check_sheet.specs.Effects.{effects, readOnC, writtenOnC}
 use Rattle.gateway_check_sheet.specs.Effects as Effects
-use Rattle.gateway_check_sheet.specs.Indications.{indications}
+use Rattle.gateway_check_sheet.specs.Indications.{indicationLines}
 use Rattle.gateway_check_sheet.specs.Indications as Indications
 
 -- every line of every list comes out as it says
@@ -33,7 +33,7 @@ pub record CheckSheet : Type 0 where
   -- 4: "A home list is good when"
   pub homes : map computed homes ≡ map written homes
   -- 16 from fresh and add
-  pub settings : map computed settings ≡ map written settings
+  pub settings : map computed settingLines ≡ map written settingLines
   -- 10, 11 and 12: the table of kinds
   pub kinds : map computed kinds ≡ map written kinds
   -- 13: "response out of sequence"
@@ -47,6 +47,6 @@ pub record CheckSheet : Type 0 where
   -- what a call that is carried out leaves in the state, the buffer and the table
   pub effects : map Effects.computed effects ≡ map Effects.written effects
   -- which Update is an indication, and that a refused one is none
-  pub indications : map Indications.computed indications ≡ map Indications.written indications
+  pub indicationLines : map Indications.computed indicationLines ≡ map Indications.written indicationLines
   -- an Update read on a net of class C
   pub class-c : readOnC ≡ writtenOnC

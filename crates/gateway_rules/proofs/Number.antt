@@ -98,8 +98,8 @@ module _ (room : ℕ) (g : Settings) (n : Neighbour) (o : List ℕ) where
 
 -- ---- what a number 0 tells
 
-accepted-is : (u : UpdateRead) → Body.numberOf u ≡ 0 → u ≡ accepted (rowsRead u)
-unfolding Body.numberOf rowsRead
+accepted-is : (u : UpdateRead) → Body.updateNumber u ≡ 0 → u ≡ accepted (rowsRead u)
+unfolding Body.updateNumber rowsRead
 accepted-is (accepted rows) e = refl
 accepted-is (brokenAt offset) e = absurd (omega (arith, e))
 accepted-is tooMany e = absurd (omega (arith, e))

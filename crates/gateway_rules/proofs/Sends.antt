@@ -21,7 +21,7 @@ use Rattle.neighbour_machine.specs.Table.{quiet}
 use Rattle.neighbour_machine.specs.Step.{stepOf}
 use Rattle.neighbour_machine.specs.Laws.{maySend}
 use Rattle.neighbour_machine.proofs.Sends.{step-sends}
-use Rattle.gateway_rules.specs.Number.{headAt, errorTo, refuseTo, namedReply}
+use Rattle.gateway_rules.specs.Number.{errorHead, errorTo, refuseTo, namedReply}
 use Rattle.gateway_rules.specs.Ruling.{Ruling, refuses, stepped, takenStep, carriedOut, receiveRuling}
 use Rattle.gateway_rules.proofs.Rulings.{receive-holds}
 
@@ -53,7 +53,7 @@ module _ (g : Settings) where
 
   after-sends : (asn : ℕ) (n : Neighbour) (o : List ℕ) (d : Decoded) → maySend g ((takenStep g asn n o d) .reply) ≡ true
   unfolding takenStep quiet
-  after-sends asn n o (D.Good m) = step-sends g asn n (Received m) (headAt o)
+  after-sends asn n o (D.Good m) = step-sends g asn n (Received m) (errorHead o)
   after-sends asn n o D.UnknownKind = refl
   after-sends asn n o D.BadStatus = refl
   after-sends asn n o D.BadLength = refl

@@ -4,7 +4,7 @@ use mathlib.Core.List.{List, [], _++_}
 use lib.ListN.{length}
 use Rattle.octets.specs.Buffer.{over}
 use Rattle.nets.specs.Rows.{Row}
-use Rattle.codec_writing.specs.Octets.{octetsOf}
+use Rattle.codec_writing.specs.Octets.{messageOctets}
 use Rattle.neighbour_machine.specs.declared.Reply.{Reply}
 use Rattle.neighbour_machine.specs.declared.Reply.the-variants.{Nothing, One, Two}
 use Rattle.gateway_state.specs.declared.Slot.{Slot}
@@ -17,13 +17,13 @@ use Rattle.gateway_rules.specs.Ruling.{Change, keep, clear, replace, Rul
 -- 01: "A reply is at most two messages, the second written straight after the first; two lengths are reported." An Update carries the home list.
 unfoldable pub firstOctets : Reply → List Row → List ℕ
 firstOctets Nothing home = []
-firstOctets (One m) home = octetsOf m home
-firstOctets (Two m next) home = octetsOf m home
+firstOctets (One m) home = messageOctets m home
+firstOctets (Two m next) home = messageOctets m home
 
 unfoldable pub secondOctets : Reply → List Row → List ℕ
 secondOctets Nothing home = []
 secondOctets (One m) home = []
-secondOctets (Two m next) home = octetsOf next home
+secondOctets (Two m next) home = messageOctets next home
 
 unfoldable pub replyOctets : Reply → List Row → List ℕ
 replyOctets reply home = firstOctets reply home ++ secondOctets reply home

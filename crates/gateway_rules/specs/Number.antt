@@ -35,7 +35,7 @@ bringsRows phase (Is kind) = same kind K.Update && isUp phase
 
 -- 14 and 15 by what the walk answers, room being the rows that may be accepted
 unfoldable pub bodyNumber : ℕ → ℕ → List ℕ → ℕ
-bodyNumber room net o = Body.numberOf (updateOf room net o)
+bodyNumber room net o = Body.updateNumber (updateOf room net o)
 
 -- 01: "Checks go in this order; the first that fails answers": those of a message from the neighbour with this AS and
 -- record
@@ -53,13 +53,13 @@ messageNumber room g asn n o =
     0))))))))
 
 -- 01: "the first 12 octets, zero-filled"
-unfoldable pub headAt : List ℕ → Head
-headAt o = record { first = word32 o 0; second = word32 o 4; third = word32 o 8 }
+unfoldable pub errorHead : List ℕ → Head
+errorHead o = record { first = word32 o 0; second = word32 o 4; third = word32 o 8 }
 
 -- 01: "Error is sent only in Down and Up, never to a message of type 8."
 unfoldable pub errorTo : Settings → Neighbour → List ℕ → ℕ → Reply
 errorTo g n o reason =
-    cond (acquired (n .phase) && not (eqb (getD o 1 0) 8)) (One (errorMessage g n reason (headAt o))) Nothing
+    cond (acquired (n .phase) && not (eqb (getD o 1 0) 8)) (One (errorMessage g n reason (errorHead o))) Nothing
 
 -- 01: check 9's reply: "Refuse status 4, only in Idle and only to a Request of 14 octets with status 0 to 2"
 unfoldable pub refuseTo : Settings → Neighbour → List ℕ → Reply

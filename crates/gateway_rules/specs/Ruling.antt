@@ -21,7 +21,7 @@ use Rattle.neighbour_machine.specs.Step.{stepOf}
 use Rattle.gateway_rules.specs.declared.Effect.{Effect}
 use Rattle.gateway_rules.specs.declared.Effect.the-variants.{Keep, Clear, Replace}
 use Rattle.gateway_rules.specs.declared.Verdict.{Verdict}
-use Rattle.gateway_rules.specs.Number.{bringsRows, messageNumber, headAt, namedReply}
+use Rattle.gateway_rules.specs.Number.{bringsRows, messageNumber, errorHead, namedReply}
 
 -- what becomes of the neighbour's rows: they stay, go, or are these from now on
 pub data Change : Type 0 where
@@ -51,7 +51,7 @@ refuses n answer reply = record { answer = answer; reply = reply; neighbour = n;
 
 -- the machine's step for a message that was read; 10 to 12 have refused the others
 unfoldable pub takenStep : Settings → ℕ → Neighbour → List ℕ → Decoded → After
-takenStep g asn n o (D.Good m) = stepOf g asn n (Received m) (headAt o)
+takenStep g asn n o (D.Good m) = stepOf g asn n (Received m) (errorHead o)
 takenStep g asn n o D.UnknownKind = quiet n
 takenStep g asn n o D.BadStatus = quiet n
 takenStep g asn n o D.BadLength = quiet n

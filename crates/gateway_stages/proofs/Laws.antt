@@ -38,7 +38,7 @@ use Rattle.neighbour_machine.specs.declared.Reply.{Reply}
 use Rattle.neighbour_machine.specs.declared.Reply.the-variants.{Nothing}
 use Rattle.neighbour_machine.specs.declared.After.{After}
 use Rattle.neighbour_machine.specs.Step.{stepOf}
-use Rattle.gateway_rules.specs.Number.{bodyNumber, messageNumber, headAt, errorTo, refuseTo, namedReply}
+use Rattle.gateway_rules.specs.Number.{bodyNumber, messageNumber, errorHead, errorTo, refuseTo, namedReply}
 use Rattle.gateway_rules.specs.declared.Effect.the-variants.{Replace}
 use Rattle.gateway_rules.specs.declared.Verdict.{Verdict}
 use Rattle.gateway_rules.specs.Ruling.{stepped, refuses, replace, takenStep, changeBy, carriedOut, receiveRuling, effectOf, verdictOf}
@@ -69,14 +69,14 @@ module _ (room : ℕ) (g : Settings) (asn : ℕ) (n : Neighbour) (o : List ℕ) 
       go false e c f y = rw e (number-header room g n o asn y)
 
   pub kind-number : headNumber asn o ≡ 0 → OneOf (1 ∷ 2 ∷ 3 ∷ []) (tagOf DecodedType.the-type (decodeOf o))
-      → (messageNumber room g asn n o ≡ Wire.numberOf (decodeOf o)) × (Wire.numberOf (decodeOf o) ≡ 0 → ⊥)
-  unfolding kindNumber Wire.numberOf
+      → (messageNumber room g asn n o ≡ Wire.decodedNumber (decodeOf o)) × (Wire.decodedNumber (decodeOf o) ≡ 0 → ⊥)
+  unfolding kindNumber Wire.decodedNumber
   kind-number h t =
       let p = head-passed asn o h in
       go (decodeOf o) (number-kind room g n o asn (p .0) (p .1)) t
     where
       go : (d : Decoded) → messageNumber room g asn n o ≡ kindNumber room g n o d → OneOf (1 ∷ 2 ∷ 3 ∷ []) (tagOf DecodedType.the-type d)
-          → (messageNumber room g asn n o ≡ Wire.numberOf d) × (Wire.numberOf d ≡ 0 → ⊥)
+          → (messageNumber room g asn n o ≡ Wire.decodedNumber d) × (Wire.decodedNumber d ≡ 0 → ⊥)
       go (D.Good m) f k = absurd (miss (1 ∷ 2 ∷ 3 ∷ []) 0 tt k)
       go D.UnknownKind f k = (f, λ z. absurd (omega (arith, z)))
       go D.BadStatus f k = (f, λ z. absurd (omega (arith, z)))
@@ -104,7 +104,7 @@ module _ (g : Settings) (n : Neighbour) (o : List ℕ) (after : After) (room : �
 
   pub refused-taken : (u : UpdateRead) → OneOf (1 ∷ 2 ∷ []) (tagOf WalkedType.the-type (walkedOf u))
       → verdictOf (refuses n (walkedNumber (walkedOf u)) (namedReply g n o (walkedNumber (walkedOf u)))) ≡ verdictOf (takenUpdate g n o after u)
-  unfolding takenUpdate Body.numberOf
+  unfolding takenUpdate Body.updateNumber
   refused-taken (accepted rows) k = absurd (miss (1 ∷ 2 ∷ []) 0 tt k)
   refused-taken (brokenAt offset) k = refl
   refused-taken tooMany k = refl
@@ -175,21 +175,21 @@ module _ (room : ℕ) (g : Settings) (asn : ℕ) (n : Neighbour) (o : List ℕ) 
   taken-13 e = refused-as 13 (λ z. absurd (omega (arith, z))) (rw e)
 
   module _ (s : inSequence n m ≡ true) where
-    carried-as : meaningNumber room g n o m ≡ 0 → carriedOut room g n o (stepOf g asn n (Received m) (headAt o)) ≡ receiveRuling room g asn n o
+    carried-as : meaningNumber room g n o m ≡ 0 → carriedOut room g n o (stepOf g asn n (Received m) (errorHead o)) ≡ receiveRuling room g asn n o
     unfolding receiveRuling takenStep ifOk
     carried-as e = let f = number-is ∙ e in rw f (rw (r .meaning) refl)
 
-    pub taken-step : (same (kindOf m) K.Update && isUp (n .phase)) ≡ false → stepped n (stepOf g asn n (Received m) (headAt o)) ≡ receiveRuling room g asn n o
+    pub taken-step : (same (kindOf m) K.Update && isUp (n .phase)) ≡ false → stepped n (stepOf g asn n (Received m) (errorHead o)) ≡ receiveRuling room g asn n o
     unfolding meaningNumber check stepped carriedOut changeBy decodeOf
     taken-step b =
         rw (brings-as (n .phase) o (kindIn o) m (r .meaning), b) at (carried-as (rw (s, b)))
 
     pub taken-update : (same (kindOf m) K.Update && isUp (n .phase)) ≡ true
-        → takenUpdate g n o (stepOf g asn n (Received m) (headAt o)) (updateOf room (g .net) o) ≡ receiveRuling room g asn n o
-    unfolding meaningNumber check carriedOut changeBy decodeOf bodyNumber takenUpdate Body.numberOf rowsRead
+        → takenUpdate g n o (stepOf g asn n (Received m) (errorHead o)) (updateOf room (g .net) o) ≡ receiveRuling room g asn n o
+    unfolding meaningNumber check carriedOut changeBy decodeOf bodyNumber takenUpdate Body.updateNumber rowsRead
     taken-update b = go (updateOf room (g .net) o) refl
       where
-        go : (u : UpdateRead) → updateOf room (g .net) o ≡ u → takenUpdate g n o (stepOf g asn n (Received m) (headAt o)) u ≡ receiveRuling room g asn n o
+        go : (u : UpdateRead) → updateOf room (g .net) o ≡ u → takenUpdate g n o (stepOf g asn n (Received m) (errorHead o)) u ≡ receiveRuling room g asn n o
         go (accepted rows) e = rw (brings-as (n .phase) o (kindIn o) m (r .meaning), b, e) at (carried-as (rw (s, b, e)))
         go (brokenAt k) e = refused-as 14 (λ z. absurd (omega (arith, z))) (rw (s, b, e))
         go tooMany e = refused-as 15 (λ z. absurd (omega (arith, z))) (rw (s, b, e))

@@ -28,5 +28,5 @@ pub record ReadAs (asn : ℕ) (o : List ℕ) (m : Message) : Type 0 where
 unfoldable pub takenUpdate : Settings → Neighbour → List ℕ → After → UpdateRead → Ruling
 takenUpdate g n o after (accepted rows) =
     record { answer = 0; reply = after .reply; neighbour = after .neighbour; change = replace rows }
-takenUpdate g n o after (brokenAt offset) = refuses n (Body.numberOf (brokenAt offset)) (namedReply g n o (Body.numberOf (brokenAt offset)))
-takenUpdate g n o after tooMany = refuses n (Body.numberOf tooMany) (namedReply g n o (Body.numberOf tooMany))
+takenUpdate g n o after (brokenAt offset) = refuses n (Body.updateNumber (brokenAt offset)) (namedReply g n o (Body.updateNumber (brokenAt offset)))
+takenUpdate g n o after tooMany = refuses n (Body.updateNumber tooMany) (namedReply g n o (Body.updateNumber tooMany))

@@ -20,7 +20,7 @@ ghost use Rattle.neighbour.specs.Rules.{same};
 ghost use Rattle.neighbour_machine.specs.declared.Event.the-variants.{Received};
 ghost use Rattle.neighbour_machine.specs.Step.{stepOf};
 ghost use Rattle.update_walk.specs.Body.{updateOf};
-ghost use Rattle.gateway_rules.specs.Number.{headAt, errorTo, refuseTo, namedReply};
+ghost use Rattle.gateway_rules.specs.Number.{errorHead, errorTo, refuseTo, namedReply};
 ghost use Rattle.gateway_rules.specs.Ruling.{leaving, effectOf, stepped, refuses, receiveRuling, verdictOf};
 ghost use Rattle.gateway_stages.specs.Stages.{headNumber, ReadAs, takenUpdate};
 
@@ -55,7 +55,7 @@ pub fn step_verdict(n: Neighbour, after: After) -> Verdict
 
 // The first twelve octets of a message as three words, zero-filled.
 fn head_of(message: &[u8]) -> Head
-    ensures { λ r. ⌜ r ≡ headAt (now (message .entry)) ⌝ }
+    ensures { λ r. ⌜ r ≡ errorHead (now (message .entry)) ⌝ }
 {
     Head {
         first: octets::word32_at(message, 0),
@@ -166,7 +166,7 @@ fn brings_rows(phase: Phase, m: Message) -> bool
 
 // The machine's step for a message.
 fn step_for(settings: Settings, asn: u16, n: Neighbour, message: &[u8], m: Message) -> After
-    ensures { λ r. ⌜ r ≡ stepOf settings asn n (Received m) (headAt (now (message .entry))) ⌝ }
+    ensures { λ r. ⌜ r ≡ stepOf settings asn n (Received m) (errorHead (now (message .entry))) ⌝ }
 {
     neighbour_step::step(settings, asn, n, Event::Received(m), head_of(message))
 }
@@ -180,11 +180,11 @@ fn take_update(
     m: Message,
     room: u16,
 ) -> Verdict
-    ensures { λ r. ⌜ r ≡ verdictOf (takenUpdate settings n (now (message .entry)) (stepOf settings asn n (Received m) (headAt (now (message .entry)))) (updateOf room (settings .net) (now (message .entry)))) ⌝ }
+    ensures { λ r. ⌜ r ≡ verdictOf (takenUpdate settings n (now (message .entry)) (stepOf settings asn n (Received m) (errorHead (now (message .entry)))) (updateOf room (settings .net) (now (message .entry)))) ⌝ }
 {
     let walked = update_walk::walk(settings.net, message, room as usize);
     let Walked::Rows(count) = walked else {
-        return refuse(settings, n, message, update_walk::number_of(walked));
+        return refuse(settings, n, message, update_walk::update_number(walked));
     };
     let after = step_for(settings, asn, n, message, m);
     let reply = after.reply;

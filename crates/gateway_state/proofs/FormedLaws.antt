@@ -34,8 +34,8 @@ module _ (n : Neighbour) (i : isIdle (n .phase) ≡ true) where
   zero-idle e =
       let s : n .s ≡ 0 = eqb-true _ _ (search (and-left, and-right) depth 14) in
       let r : n .r ≡ 0 = eqb-true _ _ (search (and-left, and-right) depth 14) in
-      let hello : n .hello ≡ 0 = eqb-true _ _ (search (and-left, and-right) depth 14) in
-      let poll : n .poll ≡ 0 = eqb-true _ _ (search (and-left, and-right) depth 14) in
+      let period1 : n .period1 ≡ 0 = eqb-true _ _ (search (and-left, and-right) depth 14) in
+      let period2 : n .period2 ≡ 0 = eqb-true _ _ (search (and-left, and-right) depth 14) in
       let t1 : n .t1 ≡ 0 = eqb-true _ _ (search (and-left, and-right) depth 14) in
       let t2 : n .t2 ≡ 0 = eqb-true _ _ (search (and-left, and-right) depth 14) in
       let t3 : n .t3 ≡ 0 = eqb-true _ _ (search (and-left, and-right) depth 14) in
@@ -46,8 +46,8 @@ module _ (n : Neighbour) (i : isIdle (n .phase) ≡ true) where
       λ k. record {
         s = s k;
         r = r k;
-        hello = hello k;
-        poll = poll k;
+        period1 = period1 k;
+        period2 = period2 k;
         t1 = t1 k;
         t2 = t2 k;
         t3 = t3 k;

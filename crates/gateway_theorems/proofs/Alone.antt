@@ -16,25 +16,25 @@ use Rattle.message_reading.specs.Reading.{headerAnswer, decodeOf}
 use Rattle.message_reading.specs.declared.Decoded.{Decoded}
 use Rattle.message_reading.specs.declared.Decoded.the-variants as D
 use Rattle.update_walk.specs.Body.{UpdateRead, accepted, brokenAt, tooMany, updateOf}
-use Rattle.codec_writing.specs.Octets.{octetsOf}
+use Rattle.codec_writing.specs.Octets.{messageOctets}
 use Rattle.codec.specs.declared.Reading.{Reading}
-use Rattle.codec.specs.Reading.{mostRead, numberOf, refusal, rowless, updateReading, meaningReading, kindReading, readOf}
+use Rattle.codec.specs.Reading.{mostRead, readNumber, refusal, rowless, updateReading, meaningReading, kindReading, readOf}
 use Rattle.codec.specs.Writing.{writeAnswer, writeOctets, writeOf}
 
 -- where the number is not 0 there is nothing but the number
 abbrev Empty : Reading → Type 0
-Empty r = (numberOf (r .meaning) ≡ 0 → ⊥) → r ≡ refusal (numberOf (r .meaning))
+Empty r = (readNumber (r .meaning) ≡ 0 → ⊥) → r ≡ refusal (readNumber (r .meaning))
 
 refusal-empty : (k : ℕ) → Empty (refusal k)
-unfolding refusal numberOf
+unfolding refusal readNumber
 refusal-empty k z = refl
 
 rowless-empty : (m : Message) → Empty (rowless m)
-unfolding rowless numberOf
+unfolding rowless readNumber
 rowless-empty m z = absurd (z refl)
 
 update-empty : (m : Message) (u : UpdateRead) → Empty (updateReading m u)
-unfolding updateReading numberOf
+unfolding updateReading readNumber
 update-empty m (accepted rs) z = absurd (z refl)
 update-empty m (brokenAt offset) z = refusal-empty _ z
 update-empty m tooMany z = refusal-empty _ z

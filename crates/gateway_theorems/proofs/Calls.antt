@@ -20,7 +20,7 @@ use Rattle.neighbour_machine.specs.declared.Event.the-variants.{Received}
 use Rattle.neighbour_machine.specs.Step.{stepOf}
 use Rattle.neighbour_machine.proofs.Theorems.{update-stays-up}
 use Rattle.gateway_state.specs.declared.Outcome.{Outcome}
-use Rattle.gateway_rules.specs.Number.{headAt}
+use Rattle.gateway_rules.specs.Number.{errorHead}
 
 pub is-up : (p : Phase) → isUp p ≡ true → p ≡ Phases.Up
 is-up Phases.Idle e = absurd (false≢true e)
@@ -31,8 +31,8 @@ is-up Phases.Cease e = absurd (false≢true e)
 
 -- an accepted Update finds and leaves its neighbour Up
 pub after-up : (g : Settings) (asn : ℕ) (n : Neighbour) (o : List ℕ) (m : Message) → (same (kindOf m) K.Update && isUp (n .phase)) ≡ true
-    → isUp ((stepOf g asn n (Received m) (headAt o)) .neighbour .phase) ≡ true
-after-up g asn n o (M.Update a q s net) b = ap isUp (update-stays-up g asn n a q s net (headAt o) (is-up (n .phase) b) .0)
+    → isUp ((stepOf g asn n (Received m) (errorHead o)) .neighbour .phase) ≡ true
+after-up g asn n o (M.Update a q s net) b = ap isUp (update-stays-up g asn n a q s net (errorHead o) (is-up (n .phase) b) .0)
 after-up g asn n o (M.Request a q s h p) b = absurd (false≢true b)
 after-up g asn n o (M.Confirm a q s h p) b = absurd (false≢true b)
 after-up g asn n o (M.Refuse a q s) b = absurd (false≢true b)

@@ -36,7 +36,7 @@ use Rattle.gateway_state.specs.Claims.{SlotGood}
 use Rattle.gateway_state.proofs.SlotLaws.{slots-length}
 use Rattle.gateway_state.proofs.Theorems.{formed-slot, step-formed}
 use Rattle.gateway_slots.proofs.Theorems.{fresh-claim, add-claim, remove-claim}
-use Rattle.gateway_rules.specs.Number.{bringsRows, headAt, namedReply}
+use Rattle.gateway_rules.specs.Number.{bringsRows, errorHead, namedReply}
 use Rattle.gateway_rules.specs.Ruling.{Change, Ruling, leaving, stepped, refuses, takenStep, changeBy, carriedOut, receiveRuling}
 use Rattle.gateway_rules.specs.Carried.{countAfter, slotAfter, outcomeAfter}
 use Rattle.gateway_rules.specs.Calls.{eventChecks, messageChecks, noHead, updateRoom, eventRuling, messageRuling, eventOutcome, messageOutcome}
@@ -99,7 +99,7 @@ module _ (slot : Slot) (good : SlotGood slot) where
   -- the step for a message that was read, or none
   after-formed : (g : Settings) (asn : ℕ) (o : List ℕ) (d : Decoded) → wellFormed ((takenStep g asn (slot .neighbour) o d) .neighbour) ≡ true
   unfolding takenStep quiet
-  after-formed g asn o (D.Good m) = step-lawful g asn (slot .neighbour) (Received m) (headAt o) (good .neighbour) .formed
+  after-formed g asn o (D.Good m) = step-lawful g asn (slot .neighbour) (Received m) (errorHead o) (good .neighbour) .formed
   after-formed g asn o D.UnknownKind = good .neighbour
   after-formed g asn o D.BadStatus = good .neighbour
   after-formed g asn o D.BadLength = good .neighbour

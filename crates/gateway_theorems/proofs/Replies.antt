@@ -11,7 +11,7 @@ use Rattle.nets.specs.Rows.{Row, rowsOf}
 use Rattle.message.specs.declared.Message.{Message}
 use Rattle.message.specs.declared.Message.the-variants as M
 use Rattle.update_writing.specs.Writable.{writableNumbers}
-use Rattle.codec_writing.specs.Octets.{octetsOf}
+use Rattle.codec_writing.specs.Octets.{messageOctets}
 use Rattle.codec_writing.specs.Room.{rowsFit, roomFor}
 use Rattle.codec_writing.proofs.Laws.{octets-fit, room-most}
 use Rattle.neighbour.specs.declared.Settings.{Settings}
@@ -31,7 +31,7 @@ use Rattle.gateway_rules.specs.Calls.{eventChecks, messageChecks, noHead, event
 use Rattle.gateway_rules.proofs.Checks.{event-passed, message-passed}
 use Rattle.gateway_rules.proofs.Sends.{stepped-sends, receive-sends}
 use Rattle.gateway_home.proofs.Laws.{home-writable, none-writable}
-use Rattle.gateway_theorems.specs.Claims.{neighbourOf, Fits, RepliesFit}
+use Rattle.gateway_theorems.specs.Claims.{neighbourOf, ReplyFits, RepliesFit}
 use Rattle.gateway_theorems.proofs.Calls.{call-holds}
 
 -- the Updates that a gateway with these settings sends can be written with this home list
@@ -58,7 +58,7 @@ module _ (home : List ℕ) where
   short-fits (M.Update a q s n) e = absurd (false≢true e)
   short-fits (M.Error a q s r x y z) e = (refl, omega arith)
 
-  short-length : (m : Message) → short m ≡ true → length (octetsOf m (rowsOf home)) ≤ 24
+  short-length : (m : Message) → short m ≡ true → length (messageOctets m (rowsOf home)) ≤ 24
   short-length m e = let f = short-fits m e in omega (arith, octets-fit m home (f .0), f .1)
 
 module _ (g : Settings) (home : List ℕ) (u : Sendable g home) where
@@ -76,14 +76,14 @@ module _ (g : Settings) (home : List ℕ) (u : Sendable g home) where
 abbrev Lengths : Ruling → List ℕ → Type 0
 Lengths v home = length (firstOctets (v .reply) (rowsOf home)) + length (secondOctets (v .reply) (rowsOf home)) ≤ 1168
 
-carried-fits : (st : State) (i : ℕ) (v : Ruling) (home buffer : List ℕ) → Lengths v home → 2048 ≤ length buffer → Fits (outcomeAfter st i v (rowsOf home)) buffer (bufferAfter buffer (v .reply) (rowsOf home))
+carried-fits : (st : State) (i : ℕ) (v : Ruling) (home buffer : List ℕ) → Lengths v home → 2048 ≤ length buffer → ReplyFits (outcomeAfter st i v (rowsOf home)) buffer (bufferAfter buffer (v .reply) (rowsOf home))
 unfolding outcomeAfter bufferAfter replyOctets
 carried-fits st i v home buffer l b =
     let first = firstOctets (v .reply) (rowsOf home) in
     let second = secondOctets (v .reply) (rowsOf home) in
     record { few = l; same = over-length (first ++ second) buffer (omega (arith, length-append first second)) }
 
-refused-fits : (st : State) (k : ℕ) (buffer : List ℕ) → Fits (refusedOf st k) buffer buffer
+refused-fits : (st : State) (k : ℕ) (buffer : List ℕ) → ReplyFits (refusedOf st k) buffer buffer
 unfolding refusedOf
 refused-fits st k buffer = record { few = omega arith; same = refl }
 
@@ -100,18 +100,18 @@ message-length st home a o f h =
     sent-length (st .settings) home (sendable (st .settings) home (formed-settings st f .net) (home-writable (st .settings) home h)) _
     (receive-sends (st .settings) _ _ (neighbourOf st a) o)
 
-event-fits : (event : Intrinsic) (st : State) (table buffer : List ℕ) (a : ℕ) → Fits (eventOutcome event st table buffer a) buffer (eventBuffer event st table buffer a)
+event-fits : (event : Intrinsic) (st : State) (table buffer : List ℕ) (a : ℕ) → ReplyFits (eventOutcome event st table buffer a) buffer (eventBuffer event st table buffer a)
 unfolding eventOutcome eventBuffer rowsOf
 event-fits event st table buffer a =
-    call-holds (λ r t b. Fits r buffer b) (eventChecks event st table buffer a) _ _ table table _ _
+    call-holds (λ r t b. ReplyFits r buffer b) (eventChecks event st table buffer a) _ _ table table _ _
     (λ z. let p = event-passed st table buffer a event z in carried-fits st (slotOf st a) (eventRuling event st a) [] buffer (event-length event st a (p .formed)) (p .room))
     (λ _. refused-fits st (eventChecks event st table buffer a) buffer)
 
 message-fits : (st : State) (table buffer home : List ℕ) (a : ℕ) (o : List ℕ)
-    → Fits (messageOutcome st table buffer home a o) buffer (messageBuffer st table buffer home a o)
+    → ReplyFits (messageOutcome st table buffer home a o) buffer (messageBuffer st table buffer home a o)
 unfolding messageOutcome messageBuffer
 message-fits st table buffer home a o =
-    call-holds (λ r t b. Fits r buffer b) (messageChecks st table buffer home a) _ _ table table _ _
+    call-holds (λ r t b. ReplyFits r buffer b) (messageChecks st table buffer home a) _ _ table table _ _
     (λ z. let p = message-passed st table buffer a home z in
     carried-fits st (slotOf st a) (messageRuling st a o) home buffer (message-length st home a o (p .0 .formed) (p .1)) (p .0 .room))
     (λ _. refused-fits st (messageChecks st table buffer home a) buffer)

@@ -34,7 +34,7 @@ use Rattle.gateway_rules.specs.Calls.{eventChecks, messageChecks, updateRoom, e
 use Rattle.gateway_rules.proofs.Number.{NumberPassed, number-passed}
 use Rattle.gateway_rules.proofs.Rulings.{receive-holds}
 use Rattle.gateway_rules.proofs.Checks.{event-passed, message-passed}
-use Rattle.gateway_theorems.specs.Claims.{neighbourOf, isUpIn, isUpdate, TableWrites, TableKept}
+use Rattle.gateway_theorems.specs.Claims.{neighbourOf, isUpIn, decodesUpdate, TableWrites, TableKept}
 use Rattle.gateway_theorems.proofs.Calls.{after-up, call-holds}
 
 -- the same of a ruling's change, before it is carried out
@@ -87,21 +87,21 @@ module _ (n : Neighbour) (answer : ℕ) (reply : Reply) (after : Neighbour) (upd
   change-writes false e up = left-writes (sym e)
 
 -- whether the kind stage found an Update is whether the message is one
-update-is : (d : Decoded) (m : Message) → d ≡ D.Good m → isUpdate d ≡ same (kindOf m) K.Update
-unfolding isUpdate
+update-is : (d : Decoded) (m : Message) → d ≡ D.Good m → decodesUpdate d ≡ same (kindOf m) K.Update
+unfolding decodesUpdate
 update-is d m e = rw e
 
 module _ (g : Settings) (asn : ℕ) (n : Neighbour) (o : List ℕ) where
   carried-changes : (p : NumberPassed 128 g asn n o)
-      → Writes (n .phase) (isUpdate (decodeOf o)) (rowsRead (updateOf 128 (g .net) o)) (carriedOut 128 g n o (takenStep g asn n o (decodeOf o)))
+      → Writes (n .phase) (decodesUpdate (decodeOf o)) (rowsRead (updateOf 128 (g .net) o)) (carriedOut 128 g n o (takenStep g asn n o (decodeOf o)))
   unfolding carriedOut changeBy takenStep
   carried-changes p =
       let u = update-is (decodeOf o) (p .message) (p .read) in
       change-writes n 0 _ _ _ _ (bringsRows (n .phase) (kindIn o)) (rw u (p .brings)) (λ b. rw (p .read) (after-up g asn n o (p .message) (sym (p .brings) ∙ b)))
 
-  pub receive-writes : Writes (n .phase) (isUpdate (decodeOf o)) (rowsRead (updateOf 128 (g .net) o)) (receiveRuling 128 g asn n o)
+  pub receive-writes : Writes (n .phase) (decodesUpdate (decodeOf o)) (rowsRead (updateOf 128 (g .net) o)) (receiveRuling 128 g asn n o)
   receive-writes =
-      receive-holds 128 g asn n o (Writes (n .phase) (isUpdate (decodeOf o)) (rowsRead (updateOf 128 (g .net) o)))
+      receive-holds 128 g asn n o (Writes (n .phase) (decodesUpdate (decodeOf o)) (rowsRead (updateOf 128 (g .net) o)))
       (λ k z e. refuses-writes n _ _ k (namedReply g n o k) z)
       (λ e. carried-changes (number-passed 128 g asn n o e))
 
@@ -131,7 +131,7 @@ unfolding eventRuling stepped
 event-writes event st a = left-writes (neighbourOf st a) 0 _ _ false [] refl
 
 message-writes : (st : State) (a : ℕ) (o : List ℕ)
-    → Writes (neighbourOf st a .phase) (isUpdate (decodeOf o)) (rowsRead (updateOf 128 (st .settings .net) o)) (messageRuling st a o)
+    → Writes (neighbourOf st a .phase) (decodesUpdate (decodeOf o)) (rowsRead (updateOf 128 (st .settings .net) o)) (messageRuling st a o)
 unfolding messageRuling updateRoom
 message-writes st a o = receive-writes (st .settings) ((slotAt st (slotOf st a)) .asn) (neighbourOf st a) o
 
@@ -144,11 +144,11 @@ event-kept event st table buffer a eight =
     (λ z. refused-writes st table (slotOf st a) false [] (eventChecks event st table buffer a) z)
 
 message-kept : (st : State) (table buffer home : List ℕ) (a : ℕ) (o : List ℕ) → length (st .slots) ≡ 8
-    → TableWrites st table (slotOf st a) (isUpdate (decodeOf o)) (rowsRead (updateOf (updateRoom (rowCounts st) (slotOf st a)) (st .settings .net) o))
+    → TableWrites st table (slotOf st a) (decodesUpdate (decodeOf o)) (rowsRead (updateOf (updateRoom (rowCounts st) (slotOf st a)) (st .settings .net) o))
     (messageOutcome st table buffer home a o) (messageTable st table buffer home a o)
 unfolding messageOutcome messageTable updateRoom
 message-kept st table buffer home a o eight =
-    let u = isUpdate (decodeOf o) in
+    let u = decodesUpdate (decodeOf o) in
     let rows = rowsRead (updateOf 128 (st .settings .net) o) in
     call-holds (λ r t b. TableWrites st table (slotOf st a) u rows r t) (messageChecks st table buffer home a) _ _ _ _ buffer buffer
     (λ z. carried-writes st table (slotOf st a) u (messageRuling st a o) (rowsOf home) rows (omega (arith, message-passed st table buffer a home z .0 .found)) (message-writes st a o))

@@ -15,7 +15,7 @@ use Rattle.message_reading.specs.Reading.{decodeOf}
 use Rattle.message_reading.specs.declared.Decoded.{Decoded}
 use Rattle.message_reading.specs.declared.Decoded.the-variants as D
 use Rattle.update_walk.specs.Body.{updateOf, rowsRead}
-use Rattle.codec.specs.Reading.{numberOf, refusal, readOf}
+use Rattle.codec.specs.Reading.{readNumber, refusal, readOf}
 use Rattle.codec.specs.Writing.{writeOctets, writeOf}
 use Rattle.neighbour.specs.declared.Settings.{Settings}
 use Rattle.neighbour.specs.declared.Neighbour.{Neighbour}
@@ -84,7 +84,7 @@ pub record RefusedChangesNothing : Type 0 where
       (st : State) (table buffer : List ℕ) → ((listingOutcome st table buffer) .answer ≡ 0 → ⊥)
       → Silent st table buffer (listingOutcome st table buffer) table (listingBuffer st table buffer)
   -- reading alone and writing take no state and no table: a refusal hands back no row, or writes no octet
-  pub readings : (net : ℕ) (o : List ℕ) → (numberOf ((readOf net o) .meaning) ≡ 0 → ⊥) → readOf net o ≡ refusal (numberOf ((readOf net o) .meaning))
+  pub readings : (net : ℕ) (o : List ℕ) → (readNumber ((readOf net o) .meaning) ≡ 0 → ⊥) → readOf net o ≡ refusal (readNumber ((readOf net o) .meaning))
   pub writings :
       (m : Message) (numbers buffer : List ℕ) → ((writeOf m numbers buffer) .answer ≡ 0 → ⊥)
       → ((writeOf m numbers buffer) .length ≡ 0) × (over (writeOctets m numbers buffer) buffer ≡ buffer)
@@ -153,7 +153,7 @@ pub record WritesWithinLengths : Type 0 where
       → drop ((writeOf m numbers buffer) .length) (over (writeOctets m numbers buffer) buffer) ≡ drop ((writeOf m numbers buffer) .length) buffer
 
 -- 01: "Reply buffer at least 2,048 octets": every reply fits, the longest being an Update of 128 rows, and the buffer keeps its length
-pub record Fits (result : Outcome) (buffer₀ buffer₁ : List ℕ) : Type 0 where
+pub record ReplyFits (result : Outcome) (buffer₀ buffer₁ : List ℕ) : Type 0 where
   pub few : result .first + result .second ≤ 1168
   pub same : length buffer₁ ≡ length buffer₀
 
@@ -161,10 +161,10 @@ pub record Fits (result : Outcome) (buffer₀ buffer₁ : List ℕ) : Type 0 whe
 pub record RepliesFit : Type 0 where
   pub events :
       (event : Intrinsic) (st : State) (table buffer : List ℕ) (a : ℕ)
-      → Fits (eventOutcome event st table buffer a) buffer (eventBuffer event st table buffer a)
+      → ReplyFits (eventOutcome event st table buffer a) buffer (eventBuffer event st table buffer a)
   pub messages :
       (st : State) (table buffer home : List ℕ) (a : ℕ) (o : List ℕ)
-      → Fits (messageOutcome st table buffer home a o) buffer (messageBuffer st table buffer home a o)
+      → ReplyFits (messageOutcome st table buffer home a o) buffer (messageBuffer st table buffer home a o)
 
 -- ---- what writes the table
 
@@ -173,11 +173,11 @@ abbrev pub isUpIn : State → ℕ → Bool
 isUpIn st i = isUp ((slotAt st i) .neighbour .phase)
 
 -- whether the kind stage found an Update
-unfoldable pub isUpdate : Decoded → Bool
-isUpdate (D.Good m) = same (kindOf m) K.Update
-isUpdate D.UnknownKind = false
-isUpdate D.BadStatus = false
-isUpdate D.BadLength = false
+unfoldable pub decodesUpdate : Decoded → Bool
+decodesUpdate (D.Good m) = same (kindOf m) K.Update
+decodesUpdate D.UnknownKind = false
+decodesUpdate D.BadStatus = false
+decodesUpdate D.BadLength = false
 
 -- 01: "Leaving Up zeroes .. the neighbour's rows"; "An Update that finds its slot Up and fails no check is accepted: its rows replace the slot's."
 -- Nothing else writes the table.
@@ -194,7 +194,7 @@ pub record TableKept : Type 0 where
       → TableWrites st table (slotOf st a) false [] (eventOutcome event st table buffer a) (eventTable event st table buffer a)
   pub messages :
       (st : State) (table buffer home : List ℕ) (a : ℕ) (o : List ℕ) → length (st .slots) ≡ 8
-      → TableWrites st table (slotOf st a) (isUpdate (decodeOf o)) (rowsRead (updateOf (updateRoom (rowCounts st) (slotOf st a)) (st .settings .net) o))
+      → TableWrites st table (slotOf st a) (decodesUpdate (decodeOf o)) (rowsRead (updateOf (updateRoom (rowCounts st) (slotOf st a)) (st .settings .net) o))
       (messageOutcome st table buffer home a o) (messageTable st table buffer home a o)
 
 -- ---- every call keeps a state well formed

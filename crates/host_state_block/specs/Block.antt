@@ -12,6 +12,7 @@ use Rattle.neighbour.specs.declared.Mode.{Mode}
 use Rattle.neighbour.specs.declared.Mode.the-variants.{Unset, Active, Passive}
 use Rattle.neighbour.specs.declared.Neighbour.{Neighbour}
 use Rattle.neighbour.specs.declared.Settings.{Settings}
+use Rattle.neighbour.specs.Record.{phaseNumber, modeNumber}
 use Rattle.gateway_state.specs.declared.Slot.{Slot}
 use Rattle.gateway_state.specs.declared.State.{State}
 
@@ -32,29 +33,17 @@ slotStart i = settingsSize + i * slotSize
 abbrev pub phaseAt : ℕ → Phase
 phaseAt n = cond (eqb n 1) Acquisition (cond (eqb n 2) Down (cond (eqb n 3) Up (cond (eqb n 4) Cease Idle)))
 
-abbrev pub phaseNumber : Phase → ℕ
-phaseNumber Idle = 0
-phaseNumber Acquisition = 1
-phaseNumber Down = 2
-phaseNumber Up = 3
-phaseNumber Cease = 4
-
 -- "mode none, active, passive 0 to 2"
 abbrev pub modeAt : ℕ → Mode
 modeAt n = cond (eqb n 1) Active (cond (eqb n 2) Passive Unset)
-
-abbrev pub modeNumber : Mode → ℕ
-modeNumber Unset = 0
-modeNumber Active = 1
-modeNumber Passive = 2
 
 -- the settings at the front of a block
 unfoldable pub settingsAt : List ℕ → Settings
 settingsAt l = record { asn = word16 l 0; own = word32 l 2; capability = getD l 6 0; net = word32 l 7 }
 
 -- the slot whose octets begin at index at
-unfoldable pub slotAt : List ℕ → ℕ → Slot
-slotAt l at =
+unfoldable pub slotRead : List ℕ → ℕ → Slot
+slotRead l at =
     record {
       address = word32 l at;
       asn = word16 l (at + 4);
@@ -62,8 +51,8 @@ slotAt l at =
           record {
             s = word16 l (at + 6);
             r = word16 l (at + 8);
-            hello = word16 l (at + 10);
-            poll = word16 l (at + 12);
+            period1 = word16 l (at + 10);
+            period2 = word16 l (at + 12);
             t1 = word16 l (at + 14);
             t2 = word16 l (at + 16);
             t3 = word16 l (at + 18);
@@ -82,8 +71,8 @@ stateAt l =
     record {
       settings = settingsAt l;
       slots =
-          slotAt l (slotStart 0) ∷ slotAt l (slotStart 1) ∷ slotAt l (slotStart 2) ∷ slotAt l (slotStart 3)
-          ∷ slotAt l (slotStart 4) ∷ slotAt l (slotStart 5) ∷ slotAt l (slotStart 6) ∷ slotAt l (slotStart 7) ∷ [];
+          slotRead l (slotStart 0) ∷ slotRead l (slotStart 1) ∷ slotRead l (slotStart 2) ∷ slotRead l (slotStart 3)
+          ∷ slotRead l (slotStart 4) ∷ slotRead l (slotStart 5) ∷ slotRead l (slotStart 6) ∷ slotRead l (slotStart 7) ∷ [];
     }
 
 unfoldable pub settingsOctets : Settings → List ℕ
@@ -92,7 +81,7 @@ settingsOctets s = octets16 (s .asn) (octets32 (s .own) (s .capability ∷ octet
 unfoldable pub slotOctets : Slot → List ℕ
 slotOctets slot =
     octets32 (slot .address) (octets16 (slot .asn) (octets16 (slot .neighbour .s) (octets16 (slot .neighbour .r)
-    (octets16 (slot .neighbour .hello) (octets16 (slot .neighbour .poll) (octets16 (slot .neighbour .t1) (octets16 (slot .neighbour .t2)
+    (octets16 (slot .neighbour .period1) (octets16 (slot .neighbour .period2) (octets16 (slot .neighbour .t1) (octets16 (slot .neighbour .t2)
     (octets16 (slot .neighbour .t3) (octets16 (slot .rows) (phaseNumber (slot .neighbour .phase) ∷ modeNumber (slot .neighbour .mode)
     ∷ slot .neighbour .register ∷ slot .neighbour .heard ∷ slot .neighbour .cause ∷ []))))))))))
 

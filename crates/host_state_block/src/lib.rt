@@ -10,7 +10,8 @@ ghost use Prim.Native.Nat.{_+_, _≤_};
 ghost use lib.ListN.{length};
 ghost use lib.Seq.{sets};
 ghost use Rattle.octets.specs.Buffer.{over};
-ghost use Rattle.host_state_block.specs.Block.{slotSize, slotStart, phaseAt, modeAt, phaseNumber, modeNumber, settingsAt, slotAt, stateAt, settingsOctets, slotOctets, slotsOctets, blockOf};
+ghost use Rattle.neighbour.specs.Record.{phaseNumber, modeNumber};
+ghost use Rattle.host_state_block.specs.Block.{slotSize, slotStart, phaseAt, modeAt, settingsAt, slotRead, stateAt, settingsOctets, slotOctets, slotsOctets, blockOf};
 
 // The state that a number stands for, counted from 0 in 01's order. Records carry no other numbers.
 fn phase_at(number: u8) -> Phase
@@ -88,13 +89,13 @@ fn slot_start(i: usize) -> usize
 // The slot whose octets begin at index at.
 fn read_slot(block: &[u8], at: usize) -> Slot
     requires { ⌜ at ≤ slotStart 8 ⌝ }
-    ensures { λ r. ⌜ r ≡ slotAt (now (block .entry)) at ⌝ }
+    ensures { λ r. ⌜ r ≡ slotRead (now (block .entry)) at ⌝ }
 {
     let neighbour = Neighbour {
         s: octets::word16_at(block, at + 6),
         r: octets::word16_at(block, at + 8),
-        hello: octets::word16_at(block, at + 10),
-        poll: octets::word16_at(block, at + 12),
+        period1: octets::word16_at(block, at + 10),
+        period2: octets::word16_at(block, at + 12),
         t1: octets::word16_at(block, at + 14),
         t2: octets::word16_at(block, at + 16),
         t3: octets::word16_at(block, at + 18),
@@ -167,10 +168,10 @@ fn slot_octets(slot: Slot) -> [u8; 27]
         octets::low(n.s),
         octets::high(n.r),
         octets::low(n.r),
-        octets::high(n.hello),
-        octets::low(n.hello),
-        octets::high(n.poll),
-        octets::low(n.poll),
+        octets::high(n.period1),
+        octets::low(n.period1),
+        octets::high(n.period2),
+        octets::low(n.period2),
         octets::high(n.t1),
         octets::low(n.t1),
         octets::high(n.t2),

@@ -33,7 +33,7 @@ use Rattle.gateway_rules.proofs.Checks.{lent-passed}
 use Rattle.listing_lines.specs.Lines.{stateWord, modeWord, distanceIn, sideWord, headLines, rowLines, rowText, entryText, listingText}
 use Rattle.listing_lines.specs.Listing.{entryOf, entriesFrom, entries, listingChecks, listingOutcome, listingBuffer}
 use Rattle.listing_lines.proofs.Laws.{count-at}
-use Rattle.listing.specs.Claims.{Typed, Short}
+use Rattle.listing.specs.Claims.{Typed, ShortListing}
 
 line-length : (name value : List ℕ) → length (line name value) ≡ length name + length value + 1
 unfolding line
@@ -138,7 +138,7 @@ room-kept st table buffer t =
     over-length (listingText (entries st table)) buffer (omega (arith, text-length st table t (p .formed), leb-true 65536 (length buffer) (p .octets))))
     refl
 
-pub short : Short
+pub short : ShortListing
 unfolding listingOutcome listingChecks refusedOf
 short =
     record {

@@ -1,9 +1,9 @@
 -- The worked listings compute. Assumes nothing.
 use mathlib.Core.Path.{refl}
-use Rattle.listing_lines.specs.Cases.{Cases}
+use Rattle.listing_lines.specs.Cases.{ListingCases}
 use Rattle.listing_lines.proofs.Unfolded.{opened}
 
-pub cases : Cases
+pub cases : ListingCases
 unfolding opened
 cases =
     record {

@@ -22,8 +22,8 @@ use Rattle.listing_lines.specs.Lines.{listingText}
 use Rattle.listing_lines.specs.Listing.{entries, listingChecks, listingOutcome, listingBuffer}
 
 -- own AS 9, own address 128.9.0.1, on 128.9.0.0
-unfoldable pub settings : Settings
-settings = record { asn = 9; own = 2148073473; capability = 0; net = 2148073472 }
+unfoldable pub caseSettings : Settings
+caseSettings = record { asn = 9; own = 2148073473; capability = 0; net = 2148073472 }
 
 -- 01: T1 32, T2 122, as the least offer gives
 unfoldable pub acquiredNeighbour : Phase → Mode → ℕ → Neighbour
@@ -36,7 +36,7 @@ slot address asn n rows = record { address = address; asn = asn; neighbour = n; 
 unfoldable pub stateU : State
 stateU =
     record {
-      settings = settings;
+      settings = caseSettings;
       slots = slot 2148073477 7 (acquiredNeighbour Up Active 122) 2 ∷ freeSlot ∷ freeSlot ∷ freeSlot ∷ freeSlot ∷ freeSlot ∷ freeSlot ∷ freeSlot ∷ [];
     }
 
@@ -47,7 +47,7 @@ tableU = 167772160 ∷ 2148073477 ∷ 0 ∷ 3221554688 ∷ 2148073477 ∷ 0 ∷ 
 unfoldable pub stateMixed : State
 stateMixed =
     record {
-      settings = settings;
+      settings = caseSettings;
       slots =
           freeSlot
           ∷ slot 2148073477 300 (acquiredNeighbour Up Passive 122) 3
@@ -69,7 +69,7 @@ tableMixed third =
     ++ (1 ∷ 2 ∷ 9999 ∷ [])
     ++ zeros 1917
 
-pub record Cases : Type 0 where
+pub record ListingCases : Type 0 where
   pub formed-u : stateFormed stateU ≡ true
   -- 01: "The whole listing for case U"
   pub text-u :
@@ -86,7 +86,7 @@ pub record Cases : Type 0 where
   pub marked : listingChecks stateMixed (tableMixed 512) [] ≡ 2
   pub tabled : (buffer : List ℕ) → listingChecks stateU (zeros 3071) buffer ≡ 2
   pub roomy : (buffer : List ℕ) → length buffer ≡ 65535 → listingChecks stateU tableU buffer ≡ 3
-  pub unformed : listingChecks (record { settings = settings; slots = slot 0 1 idle 0 ∷ [] }) [] [] ≡ 1
+  pub unformed : listingChecks (record { settings = caseSettings; slots = slot 0 1 idle 0 ∷ [] }) [] [] ≡ 1
   -- carried out: 153 octets reported first and 0 second, the state as given, the text at the front of the buffer
   pub outcome-u : (buffer : List ℕ) → length buffer ≡ 65536 → listingOutcome stateU tableU buffer ≡ record { answer = 0; first = 153; second = 0; state = stateU }
   pub buffer-u : (buffer : List ℕ) → length buffer ≡ 65536 → listingBuffer stateU tableU buffer ≡ over (listingText (entries stateU tableU)) buffer

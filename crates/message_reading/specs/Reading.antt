@@ -86,8 +86,8 @@ unfoldable pub decodeOf : List ℕ → Decoded
 decodeOf o = decodeAs (kindIn o) o
 
 -- 01's number for each case of the decoder's answer
-unfoldable pub numberOf : Decoded → ℕ
-numberOf (Good m) = 0
-numberOf UnknownKind = 10
-numberOf BadStatus = 11
-numberOf BadLength = 12
+unfoldable pub decodedNumber : Decoded → ℕ
+decodedNumber (Good m) = 0
+decodedNumber UnknownKind = 10
+decodedNumber BadStatus = 11
+decodedNumber BadLength = 12

@@ -3,7 +3,7 @@ use message::Kind;
 use message::Known;
 use message::Message;
 ghost use mathlib.Core.Path.{_≡_};
-ghost use Rattle.message_reading.specs.Reading.{headerAnswer, meaningOf, decodeAs, decodeOf, numberOf};
+ghost use Rattle.message_reading.specs.Reading.{headerAnswer, meaningOf, decodeAs, decodeOf, decodedNumber};
 
 // The answer of the kind stage.
 pub enum Decoded {
@@ -14,8 +14,8 @@ pub enum Decoded {
 }
 
 // 01's number for each answer of the kind stage.
-pub fn number_of(decoded: Decoded) -> u8
-    ensures { λ r. ⌜ r ≡ numberOf decoded ⌝ }
+pub fn decoded_number(decoded: Decoded) -> u8
+    ensures { λ r. ⌜ r ≡ decodedNumber decoded ⌝ }
 {
     match decoded {
         Decoded::Good(_) => 0,

@@ -20,7 +20,7 @@ use Rattle.neighbour_messages.specs.declared.Head.{Head}
 use Rattle.neighbour_machine.specs.declared.Event.the-variants.{Received, Start, Stop, Tick}
 use Rattle.neighbour_machine.specs.declared.After.{After}
 use Rattle.neighbour_machine.specs.Table.{quiet, answers, says, helloIf, doesA, ceases, repeatsCease, acquires, onRequest, onCease, onStart, onStop}
-use Rattle.neighbour_machine.specs.Tick.{expired, listens, polls, takesT2, pollsInUp, runs, onTick}
+use Rattle.neighbour_machine.specs.Tick.{expired, listens, polls, takesT2, pollsInUp, tickOn, onTick}
 use Rattle.neighbour_machine.specs.Step.{onMessage, stepOf}
 
 -- the neighbour after it is not Up
@@ -91,7 +91,7 @@ later n = withTimers n (n .t1) (n .t2) (n .t3 - 1)
 -- one tick in Up: t3 ran out, or what follows
 tick-up : (P : After → Type 0) (g : Settings) (asn : ℕ) (n : Neighbour) (head : Head) → n .phase ≡ Up
     → P (onStop g n) → P (pollsInUp g (listens g (later n))) → P (stepOf g asn n Tick head)
-unfolding stepOf onTick expired runs withTimers
+unfolding stepOf onTick expired tickOn withTimers
 tick-up P g asn n head e p q =
     cond-elim P (isIdle (n .phase)) _ _ (λ i. absurd (false≢true (sym (ap isIdle e) ∙ i)))
     (λ _. cond-elim P (eqb (n .t3 - 1) 0) _ _ (λ _. p) (λ _. up-under P (n .phase) _ _ _ _ _ e q))

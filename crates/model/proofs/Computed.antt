@@ -12,14 +12,14 @@ use Rattle.neighbour.specs.Record.{isUp, withNumbers, withTimers, withReach, in
 use Rattle.neighbour.specs.Rules.{onesOf, goesDown}
 use Rattle.checks.specs.Lists.{every}
 use Rattle.gateway_state.specs.Formed.{stateFormed}
-use Rattle.codec_writing.specs.Octets.{octetsOf}
+use Rattle.codec_writing.specs.Octets.{messageOctets}
 use Rattle.message.specs.declared.Message.the-variants.{Update}
 use Rattle.model.specs.Model.{Call, tick, receive, peerWith, newPeer, Slot, free, used, Model, slotIn, step, modelFrom, empty}
 use Rattle.model.specs.History.{isUpSlot, accepts}
 use Rattle.model.specs.Theorem.{cell, stateOf, rowsHeld}
 use Rattle.model.specs.Windows.{recordIn, restartsNone, windows, latest}
 use Rattle.model.specs.Corollaries.{reports}
-use Rattle.model.specs.Example.{someSettings, lent, classA, ticks, saysHello, reporting, eight, polled, almostUp, slow, lateFirst}
+use Rattle.model.specs.Example.{someSettings, lentBuffer, classA, tickSeconds, saysHello, reportingCalls, eight, pollRounds, almostUp, slow, lateFirst}
 use Rattle.model.proofs.Unfolded.{opened}
 
 -- ---- what is claimed of a model: single fields, so that others may be added to a record
@@ -69,19 +69,19 @@ pub record Rests (m : Model) (s register heard t1 t2 t3 : ℕ) : Type 0 where
 
 -- entered Up by its last call
 unfoldable pub entered : List Call
-entered = almostUp ++ (tick 1 lent ∷ [])
+entered = almostUp ++ (tick 1 lentBuffer ∷ [])
 
 pub record Computed : Type 0 where
   pub all-up : eightFacts (modelFrom (empty someSettings) eight) ≡ true
-  pub silent : silentFacts (modelFrom (empty someSettings) (eight ++ ticks 1 609)) ≡ true
+  pub silent : silentFacts (modelFrom (empty someSettings) (eight ++ tickSeconds 1 609)) ≡ true
   -- polled three times, the register is full; from then on each poll moves S alone
-  pub one-up : Rests (modelFrom (empty someSettings) (reporting 1)) 1 1 1 122 122 3600
-  pub full : (n : Neighbour) → Rests (modelFrom (alone (atRest n 1 1 1 122 122 3600)) (polled 3)) 4 15 0 122 122 3478
+  pub one-up : Rests (modelFrom (empty someSettings) (reportingCalls 1)) 1 1 1 122 122 3600
+  pub full : (n : Neighbour) → Rests (modelFrom (alone (atRest n 1 1 1 122 122 3600)) (pollRounds 3)) 4 15 0 122 122 3478
   pub once :
       (n : Neighbour) (s : ℕ)
-      → Rests (modelFrom (alone (atRest n s 15 0 122 122 3478)) (saysHello 1 ∷ ticks 1 122)) ((s + 1) % 65536) 15 0 122 122 3478
-  pub due : (n : Neighbour) → Rests (modelFrom (alone (atRest n 65535 15 0 122 122 3478)) (saysHello 1 ∷ ticks 1 121)) 65535 15 1 1 1 3479
-  pub wraps : (n : Neighbour) → Rests ((step (tick 1 lent) (alone (atRest n 65535 15 1 1 1 3479))) .model) 0 15 0 122 122 3478
+      → Rests (modelFrom (alone (atRest n s 15 0 122 122 3478)) (saysHello 1 ∷ tickSeconds 1 122)) ((s + 1) % 65536) 15 0 122 122 3478
+  pub due : (n : Neighbour) → Rests (modelFrom (alone (atRest n 65535 15 0 122 122 3478)) (saysHello 1 ∷ tickSeconds 1 121)) 65535 15 1 1 1 3479
+  pub wraps : (n : Neighbour) → Rests ((step (tick 1 lentBuffer) (alone (atRest n 65535 15 1 1 1 3479))) .model) 0 15 0 122 122 3478
   -- the quiet neighbour
   pub not-yet : isUpSlot (slotIn (modelFrom (empty someSettings) almostUp) 0) ≡ false
   pub just-up : isUpSlot (slotIn (modelFrom (empty someSettings) entered) 0) ≡ true
@@ -90,7 +90,7 @@ pub record Computed : Type 0 where
   pub ended : windows (modelFrom (empty someSettings) entered) 0 false (slow 1 129) ≡ true ∷ false ∷ false ∷ false ∷ true ∷ []
   pub last : latest (modelFrom (empty someSettings) entered) 0 [] (slow 1 129) ≡ classA 11 1
   pub lost : isUpSlot (slotIn (modelFrom (empty someSettings) (entered ++ slow 2 2)) 0) ≡ false
-  pub taken : accepts (modelFrom (empty someSettings) entered) 0 (receive 1 (octetsOf (Update 7 1 129 2148073472) (classA 10 1)) [] lent) ≡ true
+  pub taken : accepts (modelFrom (empty someSettings) entered) 0 (receive 1 (messageOctets (Update 7 1 129 2148073472) (classA 10 1)) [] lentBuffer) ≡ true
 
 pub computed : Computed
 unfolding opened entered isFull allReport fallsSilent eightFacts silentFacts atRest alone
@@ -98,11 +98,11 @@ computed =
     record {
       all-up = refl;
       silent = refl;
-      one-up = record { base = recordIn (modelFrom (empty someSettings) (reporting 1)) 0; is = refl };
-      full = λ n. record { base = recordIn (modelFrom (alone (atRest n 1 1 1 122 122 3600)) (polled 3)) 0; is = refl };
-      once = λ n s. record { base = recordIn (modelFrom (alone (atRest n s 15 0 122 122 3478)) (saysHello 1 ∷ ticks 1 122)) 0; is = refl };
-      due = λ n. record { base = recordIn (modelFrom (alone (atRest n 65535 15 0 122 122 3478)) (saysHello 1 ∷ ticks 1 121)) 0; is = refl };
-      wraps = λ n. record { base = recordIn ((step (tick 1 lent) (alone (atRest n 65535 15 1 1 1 3479))) .model) 0; is = refl };
+      one-up = record { base = recordIn (modelFrom (empty someSettings) (reportingCalls 1)) 0; is = refl };
+      full = λ n. record { base = recordIn (modelFrom (alone (atRest n 1 1 1 122 122 3600)) (pollRounds 3)) 0; is = refl };
+      once = λ n s. record { base = recordIn (modelFrom (alone (atRest n s 15 0 122 122 3478)) (saysHello 1 ∷ tickSeconds 1 122)) 0; is = refl };
+      due = λ n. record { base = recordIn (modelFrom (alone (atRest n 65535 15 0 122 122 3478)) (saysHello 1 ∷ tickSeconds 1 121)) 0; is = refl };
+      wraps = λ n. record { base = recordIn ((step (tick 1 lentBuffer) (alone (atRest n 65535 15 1 1 1 3479))) .model) 0; is = refl };
       not-yet = refl;
       just-up = refl;
       passive = refl;

@@ -31,7 +31,7 @@ use Rattle.gateway_state.proofs.Theorems.{slot-unique}
 use Rattle.gateway_rules.specs.Home.{goodHome}
 use Rattle.gateway_theorems.proofs.Others.{others-untouched}
 use Rattle.gateway_theorems.proofs.Calls.{is-up}
-use Rattle.model.specs.Model.{Call, add, remove, happen, start, stop, tick, receive, listing, Slot, free, used, Model, slotIn, placeOf, noOctets, messageMove, eventTurn, step, model, modelFrom, Peer}
+use Rattle.model.specs.Model.{Call, add, remove, happen, start, stop, tick, receive, listing, Slot, free, used, Model, slotIn, foundAt, noOctets, messageMove, eventTurn, step, model, modelFrom, Peer}
 use Rattle.model.specs.History.{isUpSlot, accepts, upAfter, told, lastFrom, lastAccepted, isAbout, isElsewhere}
 use Rattle.model.specs.Theorem.{Gateway, outcomeOf, gatewayStep, gatewayFrom, run, cell, stateOf, rowsHeld, part, tableOf, rowsAt, listsNothing, unused, Sensible, peerFrom, modelOf}
 use Rattle.model.specs.Corollaries.{Taken, slotOn, isUpOn, Used, Unmoved, Bare, Says, RunsAreSensible, OthersStayOn, OthersStay, OthersStayInRuns, reports, BothReport, OneClosedOn, OneClosed, WhateverCloses, ClosedWhateverBy, NoDeadRow, RestartsBare, EntersUpBare, acceptsNone, BareUntilUpdate, SaysRows, Stands, UpdateCounts, AfterLastNumber, StandsWhole, FullUpdateStands, EightFull}
@@ -436,7 +436,7 @@ accepts-none m j (add address asn) e = refl
 accepts-none m j (remove address) e = refl
 accepts-none m j (happen event a buffer) e = refl
 accepts-none m j (receive a o home buffer) e =
-    rw e (go (eqb ((step (receive a o home buffer) m) .said .answer) 0) (eqb (placeOf m a) j))
+    rw e (go (eqb ((step (receive a o home buffer) m) .said .answer) 0) (eqb (foundAt m a) j))
   where
     go : (a b : Bool) → (a && (b && false)) ≡ false
     go true true = refl

@@ -27,7 +27,7 @@ use Rattle.message_reading.specs.declared.Decoded.the-variants as D
 use Rattle.update_walk.specs.Body as Body
 use Rattle.update_writing.specs.Blocks as Blocks
 use Rattle.codec_writing.specs.Octets as Octets
-use Rattle.codec_writing.specs.Octets.{octetsOf}
+use Rattle.codec_writing.specs.Octets.{messageOctets}
 use Rattle.neighbour.specs.declared.Mode.the-variants.{Passive}
 use Rattle.neighbour.specs.declared.Settings.{Settings}
 use Rattle.neighbour.specs.declared.Neighbour.{Neighbour}
@@ -47,7 +47,7 @@ use Rattle.model.specs.Theorem.{Gateway, gatewayStep, run, cell, stateOf
 use Rattle.model.specs.Corollaries.{Taken, slotOn, isUpOn, reports, BothReport, Says, SaysRows}
 use Rattle.model.specs.History.{isUpSlot}
 use Rattle.model.specs.Windows.{recordIn, windows, anyOf, firstFour, oneInFour}
-use Rattle.model.specs.Example.{someSettings, lent, classA, ticks, saysHello, reporting, eight, polled, lastNumber, almostUp, slow, late, lateFirst, overdue, EightMet, TimeOutMet, FullMet, LastNumberMet, QuietMet, IndicationMet}
+use Rattle.model.specs.Example.{someSettings, lentBuffer, classA, tickSeconds, saysHello, reportingCalls, eight, pollRounds, lastNumber, almostUp, slow, late, lateFirst, overdue, EightMet, TimeOutMet, FullMet, LastNumberMet, QuietMet, IndicationMet}
 use Rattle.model.proofs.Represent.{sound, Good, sound-at}
 use Rattle.model.proofs.Simulation.{represent}
 use Rattle.model.proofs.History.{model-append, step-settings}
@@ -136,11 +136,11 @@ eight-facts = computed .all-up
 eight-report : allReport (model someSettings eight) ≡ true
 eight-report = all-report _ eight-facts
 
-silent-facts : silentFacts (model someSettings (eight ++ ticks 1 609)) ≡ true
+silent-facts : silentFacts (model someSettings (eight ++ tickSeconds 1 609)) ≡ true
 unfolding model
 silent-facts = computed .silent
 
-still-report : allReport (model someSettings (eight ++ ticks 1 609)) ≡ true
+still-report : allReport (model someSettings (eight ++ tickSeconds 1 609)) ≡ true
 unfolding silentFacts
 still-report = and-left _ _ silent-facts
 
@@ -155,15 +155,15 @@ both-in b m t rows =
       also = ap (reports 167772160) (rows 1 (omega arith)) ∙ second-reports m t;
     }
 
-enough : leb 2048 (length lent) ≡ true
-unfolding lent Storing.zeros
+enough : leb 2048 (length lentBuffer) ≡ true
+unfolding lentBuffer Storing.zeros
 enough = refl
 
 home-empty : goodHome someSettings [] ≡ true
 unfolding Home.goodHome Home.ownFirst Rows.rowsOf every
 home-empty = refl
 
-says : (o : List ℕ) (x : Message) → headerAnswer o ≡ 0 → asnAt o ≡ 7 → decodeOf o ≡ D.Good x → Says (run someSettings eight) 0 o [] lent x
+says : (o : List ℕ) (x : Message) → headerAnswer o ≡ 0 → asnAt o ≡ 7 → decodeOf o ≡ D.Good x → Says (run someSettings eight) 0 o [] lentBuffer x
 says o x h a d =
     record {
       room = enough;
@@ -180,17 +180,17 @@ pub record Reads (o : List ℕ) (x : Message) : Type 0 where
 
 -- the octets of these messages, read back
 pub record ReadBack : Type 0 where
-  pub cease : Reads (octetsOf (Cease 7 0 0) []) (Cease 7 0 0)
-  pub request : Reads (octetsOf (Request 7 0 0 120 120) []) (Request 7 0 0 120 120)
-  pub update : Reads (octetsOf (Update 7 0 1 2148073472) (classA 10 1)) (Update 7 0 1 2148073472)
-  pub body : Body.updateOf 128 2148073472 (octetsOf (Update 7 0 1 2148073472) (classA 10 1)) ≡ Body.accepted (classA 10 1)
-  pub full-update : Reads (octetsOf (Update 7 1 1 2148073472) (classA 0 128)) (Update 7 1 1 2148073472)
-  pub full-body : Body.updateOf 128 2148073472 (octetsOf (Update 7 1 1 2148073472) (classA 0 128)) ≡ Body.accepted (classA 0 128)
+  pub cease : Reads (messageOctets (Cease 7 0 0) []) (Cease 7 0 0)
+  pub request : Reads (messageOctets (Request 7 0 0 120 120) []) (Request 7 0 0 120 120)
+  pub update : Reads (messageOctets (Update 7 0 1 2148073472) (classA 10 1)) (Update 7 0 1 2148073472)
+  pub body : Body.updateOf 128 2148073472 (messageOctets (Update 7 0 1 2148073472) (classA 10 1)) ≡ Body.accepted (classA 10 1)
+  pub full-update : Reads (messageOctets (Update 7 1 1 2148073472) (classA 0 128)) (Update 7 1 1 2148073472)
+  pub full-body : Body.updateOf 128 2148073472 (messageOctets (Update 7 1 1 2148073472) (classA 0 128)) ≡ Body.accepted (classA 0 128)
   pub full : length (classA 0 128) ≡ 128
-  pub marked-update : Reads (octetsOf (Update 7 1 129 2148073472) (classA 10 1)) (Update 7 1 129 2148073472)
+  pub marked-update : Reads (messageOctets (Update 7 1 129 2148073472) (classA 10 1)) (Update 7 1 129 2148073472)
 
 read-back : ReadBack
-unfolding check Wire.headerAnswer Wire.meaningOf Wire.decodeAs Wire.decodeOf Wire.numberOf Writing.headOf Octets.plainOctets Blocks.sideRows Blocks.joined Blocks.runs Blocks.each Blocks.addressOctets Blocks.netOctets Blocks.hostOctets Blocks.netsOctets Blocks.groupOctets Blocks.groupsOctets Blocks.blockOctets Blocks.sideOctets Blocks.blocksOf Blocks.internalBlocks Blocks.externalBlocks Kinds.kindAt Kinds.plainStatus Kinds.refusalStatus Kinds.markedStatus Checksum.onesAdd Checksum.onesSum Checksum.checksumOf Checksum.sealed Checksum.wordTotal Checksum.folded Octets.octetsOf Classes.netWidth Classes.hostSpan Classes.goodNet Classes.onNet Body.digits Body.many Body.leftJustified Body.rowOfWidth Body.netRow Body.groupRows Body.hostWidth Body.gatewayOf Body.blockRows Body.groupAt Body.blockAt Body.sidesAt Body.groupsHold Body.blocksHold Body.sidesHold Body.readAs Body.bothSides Body.nothingLeft Body.bodyOf Body.further Body.netAt Body.blocksOf Body.judged Body.updateOf Body.numberOf Body.rowsRead classA someSettings join
+unfolding check Wire.headerAnswer Wire.meaningOf Wire.decodeAs Wire.decodeOf Wire.decodedNumber Writing.headOf Octets.plainOctets Blocks.sideRows Blocks.joined Blocks.runs Blocks.each Blocks.addressOctets Blocks.netOctets Blocks.hostOctets Blocks.netsOctets Blocks.groupOctets Blocks.groupsOctets Blocks.blockOctets Blocks.sideOctets Blocks.blocksWritten Blocks.internalBlocks Blocks.externalBlocks Kinds.kindAt Kinds.plainStatus Kinds.refusalStatus Kinds.markedStatus Checksum.onesAdd Checksum.onesSum Checksum.checksumOf Checksum.sealed Checksum.wordTotal Checksum.folded Octets.messageOctets Classes.netWidth Classes.hostSpan Classes.goodNet Classes.onNet Body.extended Body.many Body.leftJustified Body.rowOfWidth Body.netRow Body.groupRows Body.hostWidth Body.gatewayOf Body.blockRows Body.groupAt Body.blockAt Body.sidesAt Body.groupsHold Body.blocksHold Body.sidesHold Body.readAs Body.bothSides Body.nothingLeft Body.bodyOf Body.further Body.netAt Body.walkedBlocks Body.readWithin Body.updateOf Body.updateNumber Body.rowsRead classA someSettings join
 read-back =
     record {
       cease = record { header = refl; from = refl; meaning = refl };
@@ -208,9 +208,9 @@ first-record : (calls : List Call) → (slotOn (run someSettings calls) 0) .neig
 unfolding recordIn
 first-record calls = ap (λ (s : Stored.Slot). s .neighbour) (slot-run someSettings some-taken calls 0)
 
-goes-silent : fallsSilent (recordIn (model someSettings (eight ++ ticks 1 609)) 0) ≡ true
+goes-silent : fallsSilent (recordIn (model someSettings (eight ++ tickSeconds 1 609)) 0) ≡ true
 unfolding silentFacts
-goes-silent = and-right (allReport (model someSettings (eight ++ ticks 1 609))) _ silent-facts
+goes-silent = and-right (allReport (model someSettings (eight ++ tickSeconds 1 609))) _ silent-facts
 
 module _ (n : Neighbour) (t : fallsSilent n ≡ true) where
   one-second : n .t1 ≡ 1
@@ -232,10 +232,10 @@ eight-met =
       room = enough;
       cease = says _ _ (read-back .cease .header) (read-back .cease .from) (read-back .cease .meaning);
       request = says _ _ (read-back .request .header) (read-back .request .from) (read-back .request .meaning);
-      still-both = both-in _ (model someSettings (eight ++ ticks 1 609)) still-report (rows-of (eight ++ ticks 1 609));
-      silent = ap (λ (n : Neighbour). n .t1) (first-record (eight ++ ticks 1 609)) ∙ one-second _ goes-silent;
+      still-both = both-in _ (model someSettings (eight ++ tickSeconds 1 609)) still-report (rows-of (eight ++ tickSeconds 1 609));
+      silent = ap (λ (n : Neighbour). n .t1) (first-record (eight ++ tickSeconds 1 609)) ∙ one-second _ goes-silent;
       lost =
-          ap (λ (n : Neighbour). goesDown (n .mode) (onesOf ((n .register * 2 + n .heard) % 16))) (first-record (eight ++ ticks 1 609))
+          ap (λ (n : Neighbour). goesDown (n .mode) (onesOf ((n .register * 2 + n .heard) % 16))) (first-record (eight ++ tickSeconds 1 609))
           ∙ goes-down _ goes-silent;
     }
 
@@ -257,7 +257,7 @@ full-met =
       up = ap (λ (n : Neighbour). isUp (n .phase)) (first-record eight) ∙ first-up (model someSettings eight) eight-report;
       full = read-back .full;
       update =
-          subst (λ (k : ℕ). SaysRows (run someSettings eight) 0 k (octetsOf (Update 7 1 1 2148073472) (classA 0 128)) [] lent (classA 0 128)) (sym s)
+          subst (λ (k : ℕ). SaysRows (run someSettings eight) 0 k (messageOctets (Update 7 1 1 2148073472) (classA 0 128)) [] lentBuffer (classA 0 128)) (sym s)
           (record {
             asn = 7;
             status = 1;
@@ -301,12 +301,12 @@ time-out-met =
 
 -- ---- the last number
 
-polled-more : (a n : ℕ) → polled (a + n) ≡ polled a ++ polled n
-unfolding polled
-polled-more zero n = ap polled (zero-add n)
+polled-more : (a n : ℕ) → pollRounds (a + n) ≡ pollRounds a ++ pollRounds n
+unfolding pollRounds
+polled-more zero n = ap pollRounds (zero-add n)
 polled-more (suc a) n =
     let e : suc a + n ≡ suc (a + n) = omega arith in
-    ap polled e ∙ ap (λ (l : List Call). (saysHello 1 ∷ ticks 1 122) ++ l) (polled-more a n) ∙ sym (append-assoc (saysHello 1 ∷ ticks 1 122) (polled a) (polled n))
+    ap pollRounds e ∙ ap (λ (l : List Call). (saysHello 1 ∷ tickSeconds 1 122) ++ l) (polled-more a n) ∙ sym (append-assoc (saysHello 1 ∷ tickSeconds 1 122) (pollRounds a) (pollRounds n))
 
 -- calls that go on from such a model
 then : {m : Model} {s register heard t1 t2 t3 s′ register′ heard′ t1′ t2′ t3′ : ℕ} → Rests m s register heard t1 t2 t3 → (calls : List Call)
@@ -316,33 +316,33 @@ then {s′ = s′} {register′ = register′} {heard′ = heard′} {t1′ = t1
     subst (λ (x : Model). Rests (modelFrom x calls) s′ register′ heard′ t1′ t2′ t3′) (sym (r .is)) (h (r .base))
 
 -- n polls more
-polls : (n s : ℕ) → s + n < 65536 → (k : Neighbour) → Rests (modelFrom (alone (atRest k s 15 0 122 122 3478)) (polled n)) (s + n) 15 0 122 122 3478
-unfolding polled modelFrom
+polls : (n s : ℕ) → s + n < 65536 → (k : Neighbour) → Rests (modelFrom (alone (atRest k s 15 0 122 122 3478)) (pollRounds n)) (s + n) 15 0 122 122 3478
+unfolding pollRounds modelFrom
 polls zero s h k = let e : s ≡ s + 0 = omega arith in record { base = k; is = ap (λ (j : ℕ). alone (atRest k j 15 0 122 122 3478)) e }
 polls (suc n) s h k =
     let m = alone (atRest k s 15 0 122 122 3478) in
-    let one = saysHello 1 ∷ ticks 1 122 in
+    let one = saysHello 1 ∷ tickSeconds 1 122 in
     let e : (s + 1) % 65536 ≡ suc s = omega (arith, h) in
     let f : suc s + n ≡ s + suc n = omega arith in
     let r : Rests (modelFrom m one) (suc s) 15 0 122 122 3478 = subst (λ (j : ℕ). Rests (modelFrom m one) j 15 0 122 122 3478) e (computed .once k s) in
-    let q : Rests (modelFrom (modelFrom m one) (polled n)) (suc s + n) 15 0 122 122 3478 = then r (polled n) (polls n (suc s) (omega (arith, h))) in
-    subst (λ (j : ℕ). Rests (modelFrom m (one ++ polled n)) j 15 0 122 122 3478) f
-    (subst (λ (x : Model). Rests x (suc s + n) 15 0 122 122 3478) (sym (model-append m one (polled n))) q)
+    let q : Rests (modelFrom (modelFrom m one) (pollRounds n)) (suc s + n) 15 0 122 122 3478 = then r (pollRounds n) (polls n (suc s) (omega (arith, h))) in
+    subst (λ (j : ℕ). Rests (modelFrom m (one ++ pollRounds n)) j 15 0 122 122 3478) f
+    (subst (λ (x : Model). Rests x (suc s + n) 15 0 122 122 3478) (sym (model-append m one (pollRounds n))) q)
 
-polled-all : polled 65534 ≡ polled 3 ++ polled 65531
+polled-all : pollRounds 65534 ≡ pollRounds 3 ++ pollRounds 65531
 polled-all = polled-more 3 65531
 
 last-model : Rests (model someSettings lastNumber) 65535 15 1 1 1 3479
 unfolding model lastNumber
 last-model =
-    let up = modelFrom (empty someSettings) (reporting 1) in
-    let second = saysHello 1 ∷ ticks 1 121 in
-    let full = then (computed .one-up) (polled 3) (computed .full) in
-    let near = then full (polled 65531) (polls 65531 4 (omega arith)) in
-    let split = model-append (empty someSettings) (reporting 1) (polled 65534 ++ second)
-    ∙ model-append up (polled 65534) second
+    let up = modelFrom (empty someSettings) (reportingCalls 1) in
+    let second = saysHello 1 ∷ tickSeconds 1 121 in
+    let full = then (computed .one-up) (pollRounds 3) (computed .full) in
+    let near = then full (pollRounds 65531) (polls 65531 4 (omega arith)) in
+    let split = model-append (empty someSettings) (reportingCalls 1) (pollRounds 65534 ++ second)
+    ∙ model-append up (pollRounds 65534) second
     ∙ ap (λ (l : List Call). modelFrom (modelFrom up l) second) polled-all
-    ∙ ap (λ (m : Model). modelFrom m second) (model-append up (polled 3) (polled 65531)) in
+    ∙ ap (λ (m : Model). modelFrom m second) (model-append up (pollRounds 3) (pollRounds 65531)) in
     subst (λ (m : Model). Rests m 65535 15 1 1 1 3479) (sym split) (then near second (computed .due))
 
 -- the neighbour alone in slot 0
@@ -369,12 +369,12 @@ last-good : Good (alone due)
 last-good = subst Good (last-model .is) (model-good someSettings some-taken lastNumber)
 
 -- the next tick polls with number 0
-next-run : gatewayStep (tick ((slotOn (run someSettings lastNumber) 0) .address) lent) (run someSettings lastNumber)
+next-run : gatewayStep (tick ((slotOn (run someSettings lastNumber) 0) .address) lentBuffer) (run someSettings lastNumber)
     ≡ represent (alone (atRest (computed .wraps (last-model .base) .base) 0 15 0 122 122 3478))
 next-run =
-    ap (λ (b : Gateway). gatewayStep (tick ((slotOn b 0) .address) lent) b) last-run
-    ∙ ap (λ (a : ℕ). gatewayStep (tick a lent) (represent (alone due))) (lone-address due)
-    ∙ step-is (alone due) last-good (tick 1 lent) ∙ ap represent (computed .wraps (last-model .base) .is)
+    ap (λ (b : Gateway). gatewayStep (tick ((slotOn b 0) .address) lentBuffer) b) last-run
+    ∙ ap (λ (a : ℕ). gatewayStep (tick a lentBuffer) (represent (alone due))) (lone-address due)
+    ∙ step-is (alone due) last-good (tick 1 lentBuffer) ∙ ap represent (computed .wraps (last-model .base) .is)
 
 module _ (n : Neighbour) (s register heard t1 t2 t3 : ℕ) where
   rest-up : isUp ((atRest n s register heard t1 t2 t3) .phase) ≡ true

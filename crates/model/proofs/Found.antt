@@ -27,7 +27,7 @@ use Rattle.gateway_state.specs.declared.Slot as Stored
 use Rattle.gateway_state.specs.Slots.{freeSlot}
 use Rattle.gateway_state.proofs.Theorems.{slot-unique}
 use Rattle.gateway_rules.specs.Home.{goodHome}
-use Rattle.model.specs.Model.{Slot, free, used, Model, slotIn, put, placeOf, isPresent, Move, noOctets, rowsIn, moved, eventMove, bodyAnswer, isUpdate, kindAnswer, answerTo, firstTwelve, afterMessage, rowsAfter, messageMove, eventAnswer, messageAnswer, turnAt, eventTurn, messageTurn, Peer}
+use Rattle.model.specs.Model.{Slot, free, used, Model, slotIn, put, foundAt, isPresent, Move, noOctets, rowsInPhase, moved, eventMove, bodyAnswer, isUpdate, kindAnswer, answerTo, firstTwelve, afterMessage, rowsAfter, messageMove, eventAnswer, messageAnswer, turnAt, eventTurn, messageTurn, Peer}
 use Rattle.model.specs.Theorem.{cell, stateOf, rowsHeld, peerFrom}
 use Rattle.model.proofs.Represent.{sound, Good, slot-of, at-of, eight-of, sound-at}
 use Rattle.model.proofs.Simulation.{spoken-answer}
@@ -49,7 +49,7 @@ module _ (m : Model) (ok : Good m) (j : ℕ) (j8 : j < 8) where
     unfolding sound
     some-address e = eqb-false (peer .address) 0 (not-true (eqb (peer .address) 0) (sym (ap sound here) ∙ sound-at m ok j)) e
 
-    place-here : placeOf m (peer .address) ≡ j
+    place-here : foundAt m (peer .address) ≡ j
     unfolding cell
     place-here =
         sym (slot-of m ok (peer .address))
@@ -61,12 +61,12 @@ module _ (m : Model) (ok : Good m) (j : ℕ) (j8 : j < 8) where
 
     -- once 3 to 5 passed, the slot after it is the move's
     turn-slot : (k : ℕ) (move : Slot → Move) (home : List Row) → k ≡ 0
-        → slotIn ((turnAt m k (placeOf m (peer .address)) (move (slotIn m (placeOf m (peer .address)))) home) .model) j ≡ (move (used peer)) .slot
+        → slotIn ((turnAt m k (foundAt m (peer .address)) (move (slotIn m (foundAt m (peer .address)))) home) .model) j ≡ (move (used peer)) .slot
     unfolding turnAt ifOk
     turn-slot k move home z = rw (z, place-here, here) (put-here ((move (used peer)) .slot))
 
     turn-answer : (k : ℕ) (move : Slot → Move) (home : List Row) → k ≡ 0
-        → (turnAt m k (placeOf m (peer .address)) (move (slotIn m (placeOf m (peer .address)))) home) .said .answer ≡ (move (used peer)) .answer
+        → (turnAt m k (foundAt m (peer .address)) (move (slotIn m (foundAt m (peer .address)))) home) .said .answer ≡ (move (used peer)) .answer
     unfolding turnAt ifOk
     turn-answer k move home z = rw (z, place-here, here) (spoken-answer ((move (used peer)) .answer) ((move (used peer)) .reply) home)
 
@@ -152,7 +152,7 @@ module _ (g : Settings) (peer : Peer) (o : List ℕ) (header : headerAnswer o �
     update-answer = rw update-zero
 
     pub update-rows : rowsHeld ((messageMove g o (used peer)) .slot) ≡ new
-    unfolding messageMove ifOk moved afterMessage rowsAfter isUpdate rowsHeld rowsIn rowsRead
+    unfolding messageMove ifOk moved afterMessage rowsAfter isUpdate rowsHeld rowsInPhase rowsRead
     update-rows =
         let stays : isUp ((stepOf g (peer .asn) (peer .neighbour) (Received (M.Update a q s net)) (firstTwelve o)) .neighbour .phase) ≡ true =
         ap isUp (update-stays-up g (peer .asn) (peer .neighbour) a q s net (firstTwelve o) up .0) in

@@ -23,7 +23,7 @@ use Rattle.neighbour_machine.specs.Intrinsics.{Intrinsic, asEvent}
 use Rattle.neighbour_machine.specs.Step.{stepOf}
 use Rattle.gateway_state.specs.Slots.{freeSlot}
 use Rattle.gateway_state.specs.Claims.{SlotGood}
-use Rattle.model.specs.Model.{isFree, hasAddress, noOctets, Said, Call, add, remove, happen, receive, listing, Slot, free, used, Model, slotIn, put, placeOf, vacancy, silent, addAnswer, removeAnswer, addTurn, removeTurn, noMove, rowsIn, moved, eventMove, isUpdate, answerTo, afterMessage, rowsAfter, messageMove, eventAnswer, messageAnswer, turnAt, eventTurn, messageTurn, listingTurn, step, model, modelFrom, empty, Peer, newPeer, refusedMove}
+use Rattle.model.specs.Model.{isFree, hasAddress, noOctets, Said, Call, add, remove, happen, receive, listing, Slot, free, used, Model, slotIn, put, foundAt, vacancy, silent, answerToAdd, answerToRemove, addTurn, removeTurn, noMove, rowsInPhase, moved, eventMove, isUpdate, answerTo, afterMessage, rowsAfter, messageMove, eventAnswer, messageAnswer, turnAt, eventTurn, messageTurn, listingTurn, step, model, modelFrom, empty, Peer, newPeer, refusedMove}
 use Rattle.model.specs.History.{isUpSlot, saysUpdate, accepts, rowsSaid, upAfter, told, lastFrom, lastAccepted, isAbout, isElsewhere, takesNoSlot}
 use Rattle.model.specs.Theorem.{cell, rowsHeld}
 use Rattle.model.proofs.Represent.{sound, Good, good-at}
@@ -53,7 +53,7 @@ cond-held true rows true h = refl
 cond-held true rows false h = h refl
 
 event-tells : (g : Settings) (event : Intrinsic) (slot : Slot) (read : List Row) → SlotGood (cell slot) → Tells slot ((eventMove g event slot) .slot) false read
-unfolding eventMove noMove moved isUpSlot rowsHeld rowsIn
+unfolding eventMove noMove moved isUpSlot rowsHeld rowsInPhase
 event-tells g event free read good = refl
 event-tells g event (used peer) read good =
     cond-held (isUp ((stepOf g (peer .asn) (peer .neighbour) (asEvent event) noOctets) .neighbour .phase)) (peer .rows) (isUp (peer .neighbour .phase)) (λ e. none-held (used peer) good e)
@@ -117,7 +117,7 @@ and-false false b c e = refl
 
 message-tells : (g : Settings) (o : List ℕ) (slot : Slot) → SlotGood (cell slot)
     → Tells slot ((messageMove g o slot) .slot) (eqb ((messageMove g o slot) .answer) 0 && (isUpSlot slot && saysUpdate (decodeOf o))) (rowsRead (updateOf 128 (g .net) o))
-unfolding messageMove noMove ifOk moved isUpSlot rowsHeld rowsIn
+unfolding messageMove noMove ifOk moved isUpSlot rowsHeld rowsInPhase
 message-tells g o free good = refl
 message-tells g o (used peer) good = go (eqb (answerTo g (peer .asn) (peer .neighbour) o) 0) refl
   where
@@ -145,27 +145,27 @@ module _ (m : Model) (ok : Good m) (j : ℕ) (j8 : j < 8) where
   event-told : (event : Intrinsic) (a : ℕ) (buffer : List ℕ) (read : List Row) → Tells (slotIn m j) (slotIn ((eventTurn event m a buffer) .model) j) false read
   unfolding eventTurn turnAt
   event-told event a buffer read =
-      put-tells (eventAnswer m a buffer) (placeOf m a) _ false read (λ _. refl) (λ _. refl)
+      put-tells (eventAnswer m a buffer) (foundAt m a) _ false read (λ _. refl) (λ _. refl)
       (λ _ e. rw e (event-tells (m .settings) event (slotIn m j) read (good-at m ok j)))
 
   message-told : (a : ℕ) (o home buffer : List ℕ)
       → Tells (slotIn m j) (slotIn ((messageTurn m a o home buffer) .model) j)
-      (eqb ((messageTurn m a o home buffer) .said .answer) 0 && (eqb (placeOf m a) j && (isUpSlot (slotIn m j) && saysUpdate (decodeOf o)))) (rowsRead (updateOf 128 (m .settings .net) o))
+      (eqb ((messageTurn m a o home buffer) .said .answer) 0 && (eqb (foundAt m a) j && (isUpSlot (slotIn m j) && saysUpdate (decodeOf o)))) (rowsRead (updateOf 128 (m .settings .net) o))
   unfolding messageTurn turnAt
   message-told a o home buffer =
-      put-tells (messageAnswer m a home buffer) (placeOf m a) ((messageMove (m .settings) o (slotIn m (placeOf m a))) .slot)
-      (eqb ((messageTurn m a o home buffer) .said .answer) 0 && (eqb (placeOf m a) j && (isUpSlot (slotIn m j) && saysUpdate (decodeOf o))))
+      put-tells (messageAnswer m a home buffer) (foundAt m a) ((messageMove (m .settings) o (slotIn m (foundAt m a))) .slot)
+      (eqb ((messageTurn m a o home buffer) .said .answer) 0 && (eqb (foundAt m a) j && (isUpSlot (slotIn m j) && saysUpdate (decodeOf o))))
       (rowsRead (updateOf 128 (m .settings .net) o))
       (λ n. rw (said-refused (messageAnswer m a home buffer) _ n))
-      (λ n. and-false (eqb ((messageTurn m a o home buffer) .said .answer) 0) (eqb (placeOf m a) j) (isUpSlot (slotIn m j) && saysUpdate (decodeOf o)) (ne-eqb (placeOf m a) j n))
-      (λ z e. rw (said-done (messageAnswer m a home buffer) _ z, spoken-answer, eq-eqb (placeOf m a) j e, e)
+      (λ n. and-false (eqb ((messageTurn m a o home buffer) .said .answer) 0) (eqb (foundAt m a) j) (isUpSlot (slotIn m j) && saysUpdate (decodeOf o)) (ne-eqb (foundAt m a) j n))
+      (λ z e. rw (said-done (messageAnswer m a home buffer) _ z, spoken-answer, eq-eqb (foundAt m a) j e, e)
       (message-tells (m .settings) o (slotIn m j) (good-at m ok j)))
 
   -- any call
   pub step-told : (call : Call) → Tells (slotIn m j) (slotIn ((step call m) .model) j) (accepts m j call) (rowsSaid (m .settings) call)
   unfolding step accepts rowsSaid addTurn removeTurn listingTurn isUpSlot rowsHeld idle
-  step-told (add address asn) = put-tells (addAnswer m address asn) (vacancy m) (used (newPeer address asn)) false [] (λ _. refl) (λ _. refl) (λ _ _. refl)
-  step-told (remove address) = put-tells (removeAnswer m address) (placeOf m address) free false [] (λ _. refl) (λ _. refl) (λ _ _. refl)
+  step-told (add address asn) = put-tells (answerToAdd m address asn) (vacancy m) (used (newPeer address asn)) false [] (λ _. refl) (λ _. refl) (λ _ _. refl)
+  step-told (remove address) = put-tells (answerToRemove m address) (foundAt m address) free false [] (λ _. refl) (λ _. refl) (λ _ _. refl)
   step-told (happen event a buffer) = event-told event a buffer []
   step-told (receive a o home buffer) = message-told a o home buffer
   step-told (listing buffer) = still-tells (slotIn m j) [] (good-at m ok j)
@@ -246,10 +246,10 @@ module _ (m : Model) (ok : Good m) (j : ℕ) where
 
   module _ (peer : Peer) (here : slotIn m j ≡ used peer) where
     -- a neighbour that was found is another one
-    found-other : (a : ℕ) → isOther (peer .address) a ≡ true → placeOf m a < 8 → placeOf m a ≡ j → ⊥
+    found-other : (a : ℕ) → isOther (peer .address) a ≡ true → foundAt m a < 8 → foundAt m a ≡ j → ⊥
     unfolding hasAddress
     found-other a e h q =
-        let x : hasAddress a (slotIn m (placeOf m a)) ≡ true = found-used m ok a h in
+        let x : hasAddress a (slotIn m (foundAt m a)) ≡ true = found-used m ok a h in
         let y : eqb (peer .address) a ≡ true = sym (ap (hasAddress a) (ap (slotIn m) q ∙ here)) ∙ x in
         eqb-false a (peer .address) (not-true (eqb a (peer .address)) e) (sym (eqb-true (peer .address) a y))
 
@@ -259,10 +259,10 @@ module _ (m : Model) (ok : Good m) (j : ℕ) where
 
     pub step-others : (call : Call) → isElsewhere (peer .address) call ≡ true → slotIn ((step call m) .model) j ≡ slotIn m j
     unfolding isElsewhere isAbout step addTurn removeTurn eventTurn messageTurn listingTurn turnAt
-    step-others (add a as₀) e = put-others (addAnswer m a as₀) (vacancy m) _ (λ z. free-other (add-free m ok a as₀ z))
-    step-others (remove a) e = put-others (removeAnswer m a) (placeOf m a) _ (λ z. found-other a e (remove-below m ok a z))
-    step-others (happen event a buffer) e = put-others (eventAnswer m a buffer) (placeOf m a) _ (λ z. found-other a e (event-below m ok a buffer z))
-    step-others (receive a o home buffer) e = put-others (messageAnswer m a home buffer) (placeOf m a) _ (λ z. found-other a e (message-below m ok a home buffer z))
+    step-others (add a as₀) e = put-others (answerToAdd m a as₀) (vacancy m) _ (λ z. free-other (add-free m ok a as₀ z))
+    step-others (remove a) e = put-others (answerToRemove m a) (foundAt m a) _ (λ z. found-other a e (remove-below m ok a z))
+    step-others (happen event a buffer) e = put-others (eventAnswer m a buffer) (foundAt m a) _ (λ z. found-other a e (event-below m ok a buffer z))
+    step-others (receive a o home buffer) e = put-others (messageAnswer m a home buffer) (foundAt m a) _ (λ z. found-other a e (message-below m ok a home buffer z))
     step-others (listing buffer) e = refl
 
 pub others-from : (m : Model) → Good m → (j : ℕ) (peer : Peer) → slotIn m j ≡ used peer
@@ -286,16 +286,16 @@ others-slot m ok j more = go (slotIn m j) refl
 -- ---- free slots
 
 module _ (m : Model) (ok : Good m) (j : ℕ) (here : slotIn m j ≡ free) where
-  found-elsewhere : (a : ℕ) → placeOf m a < 8 → placeOf m a ≡ j → ⊥
+  found-elsewhere : (a : ℕ) → foundAt m a < 8 → foundAt m a ≡ j → ⊥
   unfolding hasAddress
   found-elsewhere a h q = false≢true (sym (ap (hasAddress a) (ap (slotIn m) q ∙ here)) ∙ found-used m ok a h)
 
   step-free : (call : Call) → takesNoSlot call ≡ true → slotIn ((step call m) .model) j ≡ slotIn m j
   unfolding takesNoSlot step removeTurn eventTurn messageTurn listingTurn turnAt
   step-free (add a as₀) e = absurd (false≢true e)
-  step-free (remove a) e = put-others m ok j (removeAnswer m a) (placeOf m a) _ (λ z. found-elsewhere a (remove-below m ok a z))
-  step-free (happen event a buffer) e = put-others m ok j (eventAnswer m a buffer) (placeOf m a) _ (λ z. found-elsewhere a (event-below m ok a buffer z))
-  step-free (receive a o home buffer) e = put-others m ok j (messageAnswer m a home buffer) (placeOf m a) _ (λ z. found-elsewhere a (message-below m ok a home buffer z))
+  step-free (remove a) e = put-others m ok j (answerToRemove m a) (foundAt m a) _ (λ z. found-elsewhere a (remove-below m ok a z))
+  step-free (happen event a buffer) e = put-others m ok j (eventAnswer m a buffer) (foundAt m a) _ (λ z. found-elsewhere a (event-below m ok a buffer z))
+  step-free (receive a o home buffer) e = put-others m ok j (messageAnswer m a home buffer) (foundAt m a) _ (λ z. found-elsewhere a (message-below m ok a home buffer z))
   step-free (listing buffer) e = refl
 
 pub free-from : (m : Model) → Good m → (j : ℕ) → slotIn m j ≡ free → (more : List Call) → every takesNoSlot more ≡ true → slotIn (modelFrom m more) j ≡ free

@@ -7,7 +7,7 @@ use mathlib.Core.List.{List, [], _∷_}
 use lib.ListN.{length, getD, set}
 use lib.Seq.{set-comm}
 use Rattle.checks.specs.Lists.{first}
-use Rattle.model.specs.Model.{free, slotIn, put, hasAddress, placeOf}
+use Rattle.model.specs.Model.{free, slotIn, put, hasAddress, foundAt}
 use Rattle.model.specs.Laws.{PutsCommute, PlacesUnderPut}
 
 -- ---- a search, once an element was stored
@@ -52,7 +52,7 @@ puts-commute m i j one other n =
     let e = set-comm (m .slots) i j one other n in λ k. record { settings = m .settings; slots = e k }
 
 pub places-under-put : PlacesUnderPut
-unfolding put placeOf slotIn
+unfolding put foundAt slotIn
 places-under-put m i slot a =
     record {
       kept = λ e. first-set-same (hasAddress a) (m .slots) i slot free e;

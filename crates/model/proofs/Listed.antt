@@ -27,7 +27,7 @@ use Rattle.gateway_state.proofs.ListLaws.{every-set, every-getD}
 use Rattle.gateway_rules.specs.Calls.{tableFits, lentChecks}
 use Rattle.listing_lines.specs.Lines.{Entry, entryFor}
 use Rattle.listing_lines.specs.Listing.{entryOf, entriesFrom, entries, markedRow, listable, listingChecks}
-use Rattle.model.specs.Model.{Call, add, remove, happen, receive, listing, Peer, Slot, free, used, Model, slotIn, put, addTurn, removeTurn, noOctets, noMove, rowsIn, moved, eventMove, isUpdate, answerTo, afterMessage, rowsAfter, messageMove, turnAt, eventTurn, messageTurn, listedFrom, listed, listingAnswer, listingTurn, step, placeOf, newPeer, refusedMove}
+use Rattle.model.specs.Model.{Call, add, remove, happen, receive, listing, Peer, Slot, free, used, Model, slotIn, put, addTurn, removeTurn, noOctets, noMove, rowsInPhase, moved, eventMove, isUpdate, answerTo, afterMessage, rowsAfter, messageMove, turnAt, eventTurn, messageTurn, listedFrom, listed, listingAnswer, listingTurn, step, foundAt, newPeer, refusedMove}
 use Rattle.model.specs.Theorem.{isOctet, carriesOctets, cell, stateOf, rowsHeld, tableOf}
 use Rattle.model.proofs.Represent.{sound, Good, table-length, read-of}
 use Rattle.model.proofs.Marked.{update-marks}
@@ -106,8 +106,8 @@ module _ (m : Model) (ok : Good m) where
 
 -- ---- octets keep every row marked
 
-rows-marks : (phase : Phase) (rows : List Row) → every markedRow rows ≡ true → every markedRow (rowsIn phase rows) ≡ true
-unfolding rowsIn every
+rows-marks : (phase : Phase) (rows : List Row) → every markedRow rows ≡ true → every markedRow (rowsInPhase phase rows) ≡ true
+unfolding rowsInPhase every
 rows-marks phase rows e = cond-elim (λ l. every markedRow l ≡ true) (isUp phase) rows [] (λ _. e) (λ _. refl)
 
 event-marks : (g : Settings) (event : Intrinsic) (slot : Slot) → marked slot ≡ true → marked ((eventMove g event slot) .slot) ≡ true
@@ -147,12 +147,12 @@ module _ (m : Model) (k : Marked m) where
 
   event-marked : (event : Intrinsic) (a : ℕ) (buffer : List ℕ) → Marked ((eventTurn event m a buffer) .model)
   unfolding eventTurn turnAt
-  event-marked event a buffer = put-marked _ (placeOf m a) _ (event-marks (m .settings) event (slotIn m (placeOf m a)) (marked-at (placeOf m a)))
+  event-marked event a buffer = put-marked _ (foundAt m a) _ (event-marks (m .settings) event (slotIn m (foundAt m a)) (marked-at (foundAt m a)))
 
   pub marked-step : (call : Call) → carriesOctets call ≡ true → Marked ((step call m) .model)
   unfolding carriesOctets step addTurn removeTurn messageTurn listingTurn turnAt marked rowsHeld every
   marked-step (add address asn) h = put-marked _ _ (used (newPeer address asn)) refl
   marked-step (remove address) h = put-marked _ _ free refl
   marked-step (happen event a buffer) h = event-marked _ a buffer
-  marked-step (receive a o home buffer) h = put-marked _ (placeOf m a) _ (message-marks (m .settings) o (slotIn m (placeOf m a)) h (marked-at (placeOf m a)))
+  marked-step (receive a o home buffer) h = put-marked _ (foundAt m a) _ (message-marks (m .settings) o (slotIn m (foundAt m a)) h (marked-at (foundAt m a)))
   marked-step (listing buffer) h = k

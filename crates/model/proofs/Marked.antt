@@ -12,7 +12,7 @@ use Rattle.checks.proofs.Laws.{cond-elim, and-left, and-right, and-both}
 use Rattle.nets.specs.Classes.{netWidth, goodNet}
 use Rattle.nets.specs.Rows.{Row}
 use Rattle.update_walk.proofs.Flat.{group-rows, block-rows, both-sides}
-use Rattle.update_walk.specs.Body.{Got, got, stop, andThen, after, many, rowOfWidth, netRow, groupRows, hostWidth, gatewayOf, blockRows, bothSides, Walk, whole, broken, nothingLeft, bodyOf, further, netAt, blocksOf, judged, updateOf, rowsRead}
+use Rattle.update_walk.specs.Body.{Got, got, stop, andThen, after, many, rowOfWidth, netRow, groupRows, hostWidth, gatewayOf, blockRows, bothSides, Walk, whole, broken, nothingLeft, bodyOf, further, netAt, walkedBlocks, readWithin, updateOf, rowsRead}
 use Rattle.gateway_state.proofs.ListLaws.{every-getD}
 use Rattle.listing_lines.specs.Listing.{markedRow}
 use Rattle.model.specs.Theorem.{isOctet}
@@ -102,15 +102,15 @@ unfolding further walkRows
 further-marks start (whole rows) k = k
 further-marks start (broken offset) k = k
 
-judged-marks : (room : ℕ) (w : Walk) → every markedRow (walkRows w) ≡ true → every markedRow (rowsRead (judged room w)) ≡ true
-unfolding judged walkRows rowsRead every
+judged-marks : (room : ℕ) (w : Walk) → every markedRow (walkRows w) ≡ true → every markedRow (rowsRead (readWithin room w)) ≡ true
+unfolding readWithin walkRows rowsRead every
 judged-marks room (whole rows) k = cond-elim (λ u. every markedRow (rowsRead u) ≡ true) (leb (length rows) room) _ _ (λ _. k) (λ _. refl)
 judged-marks room (broken offset) k = refl
 
 pub update-marks : (room net : ℕ) (o : List ℕ) → every isOctet o ≡ true → every markedRow (rowsRead (updateOf room net o)) ≡ true
-unfolding updateOf blocksOf bodyOf walkRows every
+unfolding updateOf walkedBlocks bodyOf walkRows every
 update-marks room net o e =
-    judged-marks room (blocksOf net o)
+    judged-marks room (walkedBlocks net o)
     (cond-elim (λ w. every markedRow (walkRows w) ≡ true) (ltb (length o) 16) _ _ (λ _. refl)
     (λ _. cond-elim (λ w. every markedRow (walkRows w) ≡ true) (goodNet net && eqb (netAt o) net) _ _
     (λ _. further-marks 16 (bodyOf net (getD o 10 0) (getD o 11 0) (drop 16 o))

@@ -27,7 +27,7 @@ use Rattle.neighbour_machine.specs.Intrinsics.{Intrinsic, asEvent}
 use Rattle.neighbour_machine.specs.declared.After.{After}
 use Rattle.neighbour_machine.specs.Step.{stepOf}
 use Rattle.gateway_state.specs.Claims.{SlotGood}
-use Rattle.gateway_rules.specs.Number.{bodyNumber, messageNumber, headAt, errorTo, refuseTo, namedReply}
+use Rattle.gateway_rules.specs.Number.{bodyNumber, messageNumber, errorHead, errorTo, refuseTo, namedReply}
 use Rattle.gateway_rules.specs.Ruling.{Change, keep, clear, replace, Ruling, leaving, stepped, refuses, changeBy, carriedOut, receiveRuling}
 use Rattle.gateway_rules.specs.Ruling as Ruled
 use Rattle.gateway_rules.specs.Carried.{countAfter, slotAfter}
@@ -35,7 +35,7 @@ use Rattle.gateway_rules.specs.Calls.{noHead}
 use Rattle.gateway_rules.proofs.Number.{meaningNumber, kindNumber, message-number, NumberPassed, number-passed}
 use Rattle.gateway_rules.proofs.Rulings.{receive-holds}
 use Rattle.gateway_theorems.proofs.Calls.{after-up}
-use Rattle.model.specs.Model.{Slot, used, Move, rowsIn, moved, noOctets, eventMove, bodyAnswer, isUpdate, kindAnswer, answerTo, firstTwelve, errorReply, refuseReply, refusalReply, afterMessage, rowsAfter, messageMove, Peer, peerWith, refusedMove}
+use Rattle.model.specs.Model.{Slot, used, Move, rowsInPhase, moved, noOctets, eventMove, bodyAnswer, isUpdate, kindAnswer, answerTo, firstTwelve, errorReply, refuseReply, refusalReply, afterMessage, rowsAfter, messageMove, Peer, peerWith, refusedMove}
 use Rattle.model.specs.Theorem.{cell, rowsHeld, part}
 
 pub no-rows : (rows : List Row) → length rows ≡ 0 → rows ≡ []
@@ -87,8 +87,8 @@ agrees peer x move a r s =
 
 -- ---- a step of the machine
 
-rows-step : (before now : Phase) (rows : List Row) → (isUp before ≡ false → length rows ≡ 0) → rowsIn now rows ≡ rowsFrom (leaving before now) rows
-unfolding rowsIn leaving rowsFrom
+rows-step : (before now : Phase) (rows : List Row) → (isUp before ≡ false → length rows ≡ 0) → rowsInPhase now rows ≡ rowsFrom (leaving before now) rows
+unfolding rowsInPhase leaving rowsFrom
 rows-step before now rows none = go (isUp before) refl (isUp now) refl
   where
     go : (b : Bool) → isUp before ≡ b → (c : Bool) → isUp now ≡ c → cond (isUp now) rows [] ≡ rowsFrom (cond (isUp before && not (isUp now)) clear keep) rows
@@ -99,8 +99,8 @@ rows-step before now rows none = go (isUp before) refl (isUp now) refl
 
 -- ---- the number and the reply of a message: the model's own rules beside the gateway's
 
-body-same : (u : UpdateRead) → Body.numberOf u ≡ bodyAnswer u
-unfolding Body.numberOf bodyAnswer
+body-same : (u : UpdateRead) → Body.updateNumber u ≡ bodyAnswer u
+unfolding Body.updateNumber bodyAnswer
 body-same (accepted rows) = refl
 body-same (brokenAt offset) = refl
 body-same tooMany = refl
@@ -119,11 +119,11 @@ number-same g asn n o =
     ∙ ap (λ (k : ℕ). ifOk (headerAnswer o) (check (eqb (asnAt o) asn) 9 k) (headerAnswer o)) (kind-same g n o (decodeOf o))
 
 reply-same : (g : Settings) (n : Neighbour) (o : List ℕ) (k : ℕ) → namedReply g n o k ≡ refusalReply g n o k
-unfolding namedReply refusalReply refuseTo refuseReply errorTo errorReply headAt firstTwelve
+unfolding namedReply refusalReply refuseTo refuseReply errorTo errorReply errorHead firstTwelve
 reply-same g n o k = refl
 
 after-same : (g : Settings) (asn : ℕ) (n : Neighbour) (o : List ℕ) (d : Decoded) → Ruled.takenStep g asn n o d ≡ afterMessage g asn n o d
-unfolding Ruled.takenStep afterMessage headAt firstTwelve
+unfolding Ruled.takenStep afterMessage errorHead firstTwelve
 after-same g asn n o (D.Good m) = refl
 after-same g asn n o D.UnknownKind = refl
 after-same g asn n o D.BadStatus = refl
@@ -164,16 +164,16 @@ module _ (peer : Peer) (good : SlotGood (cell (used peer))) where
     -- the rows of an accepted Update, which finds and leaves its neighbour Up, or what the step leaves of those there
     -- were
     carried-rows : NumberPassed 128 g (peer .asn) (peer .neighbour) o
-        → rowsIn (after .neighbour .phase) (rowsAfter g (peer .neighbour) o (decodeOf o) (peer .rows)) ≡ rowsFrom (changeBy 128 g (peer .neighbour) o after) (peer .rows)
-    unfolding changeBy afterMessage rowsAfter isUpdate rowsIn rowsFrom headAt firstTwelve
+        → rowsInPhase (after .neighbour .phase) (rowsAfter g (peer .neighbour) o (decodeOf o) (peer .rows)) ≡ rowsFrom (changeBy 128 g (peer .neighbour) o after) (peer .rows)
+    unfolding changeBy afterMessage rowsAfter isUpdate rowsInPhase rowsFrom errorHead firstTwelve
     carried-rows p =
         rw (p .read, p .brings) (go (same (kindOf (p .message)) K.Update && isUp (peer .neighbour .phase)) refl)
       where
         go : (b : Bool) → (same (kindOf (p .message)) K.Update && isUp (peer .neighbour .phase)) ≡ b
-            → rowsIn ((stepOf g (peer .asn) (peer .neighbour) (Received (p .message)) (headAt o)) .neighbour .phase) (cond b (rowsRead (updateOf 128 (g .net) o)) (peer .rows))
-            ≡ rowsFrom (cond b (replace (rowsRead (updateOf 128 (g .net) o))) (leaving (peer .neighbour .phase) ((stepOf g (peer .asn) (peer .neighbour) (Received (p .message)) (headAt o)) .neighbour .phase))) (peer .rows)
+            → rowsInPhase ((stepOf g (peer .asn) (peer .neighbour) (Received (p .message)) (errorHead o)) .neighbour .phase) (cond b (rowsRead (updateOf 128 (g .net) o)) (peer .rows))
+            ≡ rowsFrom (cond b (replace (rowsRead (updateOf 128 (g .net) o))) (leaving (peer .neighbour .phase) ((stepOf g (peer .asn) (peer .neighbour) (Received (p .message)) (errorHead o)) .neighbour .phase))) (peer .rows)
         go true e = rw (after-up g (peer .asn) (peer .neighbour) o (p .message) e)
-        go false e = rows-step (peer .neighbour .phase) ((stepOf g (peer .asn) (peer .neighbour) (Received (p .message)) (headAt o)) .neighbour .phase) (peer .rows) none-unless-up
+        go false e = rows-step (peer .neighbour .phase) ((stepOf g (peer .asn) (peer .neighbour) (Received (p .message)) (errorHead o)) .neighbour .phase) (peer .rows) none-unless-up
 
     carried-right : messageNumber 128 g (peer .asn) (peer .neighbour) o ≡ 0
         → Right (carriedOut 128 g (peer .neighbour) o (Ruled.takenStep g (peer .asn) (peer .neighbour) o (decodeOf o)))

@@ -24,7 +24,7 @@ use Rattle.neighbour_machine.specs.declared.Event.the-variants.{Received, Tick}
 use Rattle.gateway_state.specs.declared.Slot as Stored
 use Rattle.gateway_state.specs.Slots.{freeSlot}
 use Rattle.gateway_theorems.proofs.Calls.{is-up}
-use Rattle.model.specs.Model.{Call, receive, Slot, free, used, Model, slotIn, isFree, isIdleSlot, placeOf, step, model, empty}
+use Rattle.model.specs.Model.{Call, receive, Slot, free, used, Model, slotIn, isFree, isIdleSlot, foundAt, step, model, empty}
 use Rattle.model.specs.History.{isUpSlot, saysUpdate, accepts}
 use Rattle.model.specs.Theorem.{Gateway, gatewayStep, gatewayFrom, run, cell, rowsHeld, rowsAt}
 use Rattle.model.specs.Windows.{isIndication, isRestart, recordIn, saidEvent, doneFor, eventFor, holdsOf, brings, restartsNone, windows, oneInFour, latest}
@@ -166,7 +166,7 @@ module _ (m : Model) (ok : Good m) (j : ℕ) (j8 : j < 8) (a : ℕ) (o home buff
   unfolding eventFor doneFor saidEvent accepts
   is-event =
       let done = eqb ((step call m) .said .answer) 0 in
-      let here = eqb (placeOf m a) j in
+      let here = eqb (foundAt m a) j in
       let behind = and-right done (here && (isUpSlot (slotIn m j) && saysUpdate (decodeOf o))) taken in
       rw (and-left done (here && (isUpSlot (slotIn m j) && saysUpdate (decodeOf o))) taken, and-left here (isUpSlot (slotIn m j) && saysUpdate (decodeOf o)) behind, says)
 
@@ -174,7 +174,7 @@ module _ (m : Model) (ok : Good m) (j : ℕ) (j8 : j < 8) (a : ℕ) (o home buff
   unfolding accepts
   is-up-slot =
       let done = eqb ((step call m) .said .answer) 0 in
-      let here = eqb (placeOf m a) j in
+      let here = eqb (foundAt m a) j in
       and-left (isUpSlot (slotIn m j)) (saysUpdate (decodeOf o))
       (and-right here (isUpSlot (slotIn m j) && saysUpdate (decodeOf o)) (and-right done (here && (isUpSlot (slotIn m j) && saysUpdate (decodeOf o))) taken))
 

@@ -28,7 +28,7 @@ use Rattle.neighbour_machine.specs.declared.Event.{Event}
 use Rattle.neighbour_machine.specs.declared.Event.the-variants.{Received, Start, Stop, Tick}
 use Rattle.neighbour_machine.specs.declared.After.{After}
 use Rattle.neighbour_machine.specs.Table.{quiet, answers, says, helloIf, doesA, doesB, ceases, repeatsCease, acquires, stray, onRequest, settles, onConfirm, onRefuse, onCease, onCeaseAck, onHello, onIHeardYou, answersPoll, onPoll, onUpdate, onStart, onStop}
-use Rattle.neighbour_machine.specs.Tick.{expired, repeats, listens, polls, pollsOnEntry, takesT2, pollsInUp, runs, onTick}
+use Rattle.neighbour_machine.specs.Tick.{expired, repeats, listens, polls, pollsOnEntry, takesT2, pollsInUp, tickOn, onTick}
 use Rattle.neighbour_machine.specs.Step.{onMessage, stepOf}
 use Rattle.neighbour_machine.specs.Laws.{isDown, isTick}
 use Rattle.neighbour_machine.proofs.Theorems.{step-lawful}
@@ -314,8 +314,8 @@ repeats-waits : (n : Neighbour) (m : Message) → isDown (n .phase) ≡ false �
 unfolding repeats answers quiet withTimers
 repeats-waits n m e = cond-elim WaitsAfter (eqb (n .t1 - 1) 0) _ _ (λ _. elsewhere _ e) (λ _. elsewhere _ e)
 
-runs-waits : (g : Settings) (n : Neighbour) → Waits n → WaitsAfter (runs g (later n))
-unfolding runs quiet withTimers
+runs-waits : (g : Settings) (n : Neighbour) → Waits n → WaitsAfter (tickOn g (later n))
+unfolding tickOn quiet withTimers
 runs-waits g n w =
     under-elim WaitsAfter (n .phase) _ _ _ _ _ (λ e. elsewhere _ (ap isDown e)) (λ e. repeats-waits (later n) _ (ap isDown e))
     (λ _. entry-waits g (listens g (later n)) (listens-waits g n w)) (λ _. t2-waits g (listens g (later n)) (listens-waits g n w))
@@ -359,7 +359,7 @@ shifts n silent up passive l =
     rw (up, passive, ne-eqb (onesOf ((n .register * 2 + n .heard) % 16)) 0 (some-ones silent ((n .register * 2 + n .heard) % 16) l))
 
 shifted-is : (n : Neighbour) (silent : ℕ) → silent ≤ 3 → n .phase ≡ Up → n .mode ≡ Passive → Lowest silent ((n .register * 2 + n .heard) % 16)
-    → 3600 + n .hello ≤ n .t3 + 122 * (silent + 2) → Held (shifted n) silent false
+    → 3600 + n .period1 ≤ n .t3 + 122 * (silent + 2) → Held (shifted n) silent false
 unfolding shifted withReach withTimers
 shifted-is n silent few up passive l y = record { up = up; passive = passive; few = few; lowest = l; flag = refl; young = y }
 
@@ -369,7 +369,7 @@ module _ (g : Settings) (asn : ℕ) (n : Neighbour) (head : Head) (silent : ℕ)
 
   -- the tick goes on to t1 and t2
   up-runs : (P : After → Type 0) → P (pollsInUp g (listens g (later n))) → P (stepOf g asn n Tick head)
-  unfolding stepOf onTick runs withTimers
+  unfolding stepOf onTick tickOn withTimers
   up-runs P p =
       cond-elim P (isIdle (n .phase)) _ _ (λ i. absurd (false≢true (sym (ap isIdle (held .up)) ∙ i)))
       (λ _. cond-elim P (eqb (n .t3 - 1) 0) _ _ (λ z. absurd (omega (arith, eqb-true (n .t3 - 1) 0 z, t3-far)))
@@ -425,7 +425,7 @@ module _ (g : Settings) (asn : ℕ) (n : Neighbour) (head : Head) (silent : ℕ)
       (λ z. absurd (false≢true (sym z ∙ (sym evaluation-is ∙ e))))))
     where
       shifted-held : Held (shifted (later n)) k false
-      shifted-held = shifted-is (later n) k few (held .up) (held .passive) l (omega (arith, y, fine .hello-high))
+      shifted-held = shifted-is (later n) k few (held .up) (held .passive) l (omega (arith, y, fine .period1-high))
 
 -- by whether it held an indication
 pub tick-heard : (g : Settings) (asn : ℕ) (n : Neighbour) (head : Head) (silent : ℕ) → Fine n → Held n silent true → isEvaluation n Tick ≡ true
@@ -558,7 +558,7 @@ module _ (g : Settings) (n : Neighbour) (fine : Fine n) (w : Waits n) (down : n 
         few = omega arith;
         lowest = rw one (shift-heard (n .register));
         flag = refl;
-        young = omega (arith, y, fine .t1-low, fine .hello-high);
+        young = omega (arith, y, fine .t1-low, fine .period1-high);
       })
       (λ _. never _ (ap isUp down)))
 
@@ -572,7 +572,7 @@ module _ (g : Settings) (n : Neighbour) (fine : Fine n) (w : Waits n) (down : n 
   stop-enters = rw (at-down (n .phase) _ _ _ _ _ down) (never _ refl)
 
   tick-enters : EntersAfter (onTick g n)
-  unfolding onTick expired runs withTimers
+  unfolding onTick expired tickOn withTimers
   tick-enters =
       cond-elim EntersAfter (isIdle (n .phase)) _ _ (λ i. absurd (false≢true (sym (ap isIdle down) ∙ i)))
       (λ _. cond-elim EntersAfter (eqb (n .t3 - 1) 0) _ _ (λ _. stop-enters)

@@ -22,7 +22,7 @@ use Rattle.gateway_state.proofs.SlotLaws.{clash-is, clash-not, clash-zero}
 use Rattle.gateway_state.proofs.Theorems.{formed-slot}
 use Rattle.gateway_theorems.specs.Claims.{FormedState}
 use Rattle.listing_lines.proofs.Laws.{count-at}
-use Rattle.model.specs.Model.{Slot, free, used, Model, slotIn, put, isFree, hasAddress, placeOf, vacancy, Peer}
+use Rattle.model.specs.Model.{Slot, free, used, Model, slotIn, put, isFree, hasAddress, foundAt, vacancy, Peer}
 use Rattle.model.specs.Theorem.{cell, stateOf, rowsHeld, part, tableOf}
 use Rattle.model.proofs.Lists.{first-map, map-map, isPart, join-length, join-put, join-part}
 
@@ -83,8 +83,8 @@ module _ (m : Model) (ok : Good m) where
   unfolding addresses stateOf
   addresses-of = map-map cell addressOf (m .slots)
 
-  pub slot-of : (a : ℕ) → slotOf (stateOf m) a ≡ placeOf m a
-  unfolding slotOf placeOf
+  pub slot-of : (a : ℕ) → slotOf (stateOf m) a ≡ foundAt m a
+  unfolding slotOf foundAt
   slot-of a =
       ap (first (clash a)) addresses-of
       ∙ first-map (clash a) (hasAddress a) (λ slot. (cell slot) .address) sound (clash-address a) (m .slots) (ok .each)

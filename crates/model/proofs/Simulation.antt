@@ -39,8 +39,8 @@ use Rattle.gateway_rules.specs.Calls.{tableFits, lentChecks, eventChecks, messa
 use Rattle.gateway_theorems.proofs.Formed.{well-formed-kept}
 use Rattle.listing_lines.specs.Lines.{listingText}
 use Rattle.listing_lines.specs.Listing.{listingOutcome, listingBuffer}
-use Rattle.model.specs.Model.{isFree, noMove, moved, answerTo, afterMessage, rowsAfter, Call, add, remove, happen, receive, listing, Slot, free, used, Model, slotIn, put, hasAddress, placeOf, isPresent, vacancy, Said, silent, spoken, addable, addAnswer, isIdleSlot, removeAnswer, addTurn, removeTurn, Move, eventMove, messageMove, eventAnswer, messageAnswer, turnAt, eventTurn, messageTurn, listed, listingAnswer, listingSaid, listingTurn, step, Peer, newPeer, refusedMove}
-use Rattle.model.specs.Theorem.{Gateway, outcomeOf, tableAfter, bufferOf, bufferAfter, listsNothing, cell, stateOf, rowsHeld, part, tableOf}
+use Rattle.model.specs.Model.{isFree, noMove, moved, answerTo, afterMessage, rowsAfter, Call, add, remove, happen, receive, listing, Slot, free, used, Model, slotIn, put, hasAddress, foundAt, isPresent, vacancy, Said, silent, spoken, addable, answerToAdd, isIdleSlot, answerToRemove, addTurn, removeTurn, Move, eventMove, messageMove, eventAnswer, messageAnswer, turnAt, eventTurn, messageTurn, listed, listingAnswer, listingSaid, listingTurn, step, Peer, newPeer, refusedMove}
+use Rattle.model.specs.Theorem.{Gateway, outcomeOf, tableLeft, bufferOf, bufferLeft, listsNothing, cell, stateOf, rowsHeld, part, tableOf}
 use Rattle.model.proofs.Represent.{sound, Good, used-at, slot-of, lowest-of, at-of, state-ok, good-at, sound-at, state-with, table-length, table-with, table-same}
 use Rattle.model.proofs.Listed.{Marked, entries-of, listing-answer}
 use Rattle.model.proofs.Moves.{no-rows, partFrom, Agrees, event-agrees, message-agrees}
@@ -161,12 +161,12 @@ module _ (m : Model) (ok : Good m) where
 
   -- ---- look-up
 
-  found-below : (a : ℕ) → isPresent m a ≡ true → placeOf m a < 8
+  found-below : (a : ℕ) → isPresent m a ≡ true → foundAt m a < 8
   unfolding isPresent
-  found-below a e = ltb-true (placeOf m a) 8 e
+  found-below a e = ltb-true (foundAt m a) 8 e
 
-  pub found-used : (a : ℕ) → placeOf m a < 8 → hasAddress a (slotIn m (placeOf m a)) ≡ true
-  unfolding placeOf slotIn
+  pub found-used : (a : ℕ) → foundAt m a < 8 → hasAddress a (slotIn m (foundAt m a)) ≡ true
+  unfolding foundAt slotIn
   found-used a h = first-in (hasAddress a) (m .slots) free (omega (arith, ok .eight))
 
   present-of : (a : ℕ) → present (stateOf m) a ≡ isPresent m a
@@ -187,11 +187,11 @@ module _ (m : Model) (ok : Good m) where
       check-holds (stateFormed (stateOf m)) 1 _ (ok .formed) ∙ check-holds (tableFits (tableOf m)) 2 _ (eq-eqb (length (tableOf m)) 3072 (table-length m ok))
       ∙ rw (present-of a)
 
-  pub event-below : (a : ℕ) (buffer : List ℕ) → eventAnswer m a buffer ≡ 0 → placeOf m a < 8
+  pub event-below : (a : ℕ) (buffer : List ℕ) → eventAnswer m a buffer ≡ 0 → foundAt m a < 8
   unfolding eventAnswer
   event-below a buffer z = found-below a (check-passed (isPresent m a) 5 0 refl (check-passed _ 3 _ refl z .1) .0)
 
-  pub message-below : (a : ℕ) (home buffer : List ℕ) → messageAnswer m a home buffer ≡ 0 → placeOf m a < 8
+  pub message-below : (a : ℕ) (home buffer : List ℕ) → messageAnswer m a home buffer ≡ 0 → foundAt m a < 8
   unfolding messageAnswer
   message-below a home buffer z =
       found-below a (check-passed (isPresent m a) 5 0 refl (check-passed (goodHome (m .settings) home) 4 _ refl (check-passed _ 3 _ refl z .1) .1) .0)
@@ -216,19 +216,19 @@ module _ (m : Model) (ok : Good m) where
       (λ s. SlotGood (cell s) → Agrees s (receiveRuling 128 (m .settings) ((cell s) .asn) ((cell s) .neighbour) o) (messageMove (m .settings) o s))
       a (λ peer k. message-agrees peer k (m .settings) o) slot e good
 
-  event-ruling : (event : Intrinsic) (a : ℕ) → placeOf m a < 8
-      → Agrees (slotIn m (placeOf m a)) (eventRuling event (stateOf m) a) (eventMove (m .settings) event (slotIn m (placeOf m a)))
+  event-ruling : (event : Intrinsic) (a : ℕ) → foundAt m a < 8
+      → Agrees (slotIn m (foundAt m a)) (eventRuling event (stateOf m) a) (eventMove (m .settings) event (slotIn m (foundAt m a)))
   unfolding eventRuling
   event-ruling event a h =
-      rw (slot-of m ok a, at-of m ok (placeOf m a), settings-of)
-      (event-move event (slotIn m (placeOf m a)) (good-at m ok (placeOf m a)) a (found-used a h))
+      rw (slot-of m ok a, at-of m ok (foundAt m a), settings-of)
+      (event-move event (slotIn m (foundAt m a)) (good-at m ok (foundAt m a)) a (found-used a h))
 
-  message-ruling : (o : List ℕ) (a : ℕ) → placeOf m a < 8
-      → Agrees (slotIn m (placeOf m a)) (messageRuling (stateOf m) a o) (messageMove (m .settings) o (slotIn m (placeOf m a)))
+  message-ruling : (o : List ℕ) (a : ℕ) → foundAt m a < 8
+      → Agrees (slotIn m (foundAt m a)) (messageRuling (stateOf m) a o) (messageMove (m .settings) o (slotIn m (foundAt m a)))
   unfolding messageRuling updateRoom
   message-ruling o a h =
-      rw (slot-of m ok a, at-of m ok (placeOf m a), settings-of)
-      (message-move o (slotIn m (placeOf m a)) (good-at m ok (placeOf m a)) a (found-used a h))
+      rw (slot-of m ok a, at-of m ok (foundAt m a), settings-of)
+      (message-move o (slotIn m (foundAt m a)) (good-at m ok (foundAt m a)) a (found-used a h))
 
   pub event-shown : (event : Intrinsic) (a : ℕ) (buffer : List ℕ)
       → Shown (eventOutcome event (stateOf m) (tableOf m) buffer a) (eventTable event (stateOf m) (tableOf m) buffer a) (eventBuffer event (stateOf m) (tableOf m) buffer a)
@@ -237,7 +237,7 @@ module _ (m : Model) (ok : Good m) where
   event-shown event a buffer =
       shown-call (eventAnswer m a buffer) (eventChecks event (stateOf m) (tableOf m) buffer a) _ _ _ _ _ _ _ _ _ _ buffer (event-answer event a buffer)
       (λ z. rw (slot-of m ok a)
-      (moved-shown (placeOf m a) (eventRuling event (stateOf m) a) [] (eventMove (m .settings) event (slotIn m (placeOf m a))) buffer
+      (moved-shown (foundAt m a) (eventRuling event (stateOf m) a) [] (eventMove (m .settings) event (slotIn m (foundAt m a))) buffer
       (event-below a buffer z) (event-ruling event a (event-below a buffer z))))
       (refused-shown (eventAnswer m a buffer) (eventChecks event (stateOf m) (tableOf m) buffer a) buffer (event-answer event a buffer))
 
@@ -248,20 +248,20 @@ module _ (m : Model) (ok : Good m) where
   message-shown a o home buffer =
       shown-call (messageAnswer m a home buffer) (messageChecks (stateOf m) (tableOf m) buffer home a) _ _ _ _ _ _ _ _ _ _ buffer (message-answer a home buffer)
       (λ z. rw (slot-of m ok a)
-      (moved-shown (placeOf m a) (messageRuling (stateOf m) a o) (rowsOf home) (messageMove (m .settings) o (slotIn m (placeOf m a))) buffer
+      (moved-shown (foundAt m a) (messageRuling (stateOf m) a o) (rowsOf home) (messageMove (m .settings) o (slotIn m (foundAt m a))) buffer
       (message-below a home buffer z) (message-ruling o a (message-below a home buffer z))))
       (refused-shown (messageAnswer m a home buffer) (messageChecks (stateOf m) (tableOf m) buffer home a) buffer (message-answer a home buffer))
 
   -- ---- add and remove
 
-  add-answer : (address asn : ℕ) → Slots.addAnswer (stateOf m) address asn ≡ addAnswer m address asn
-  unfolding Slots.addAnswer addAnswer addable goodPeer check
+  add-answer : (address asn : ℕ) → Slots.addAnswer (stateOf m) address asn ≡ answerToAdd m address asn
+  unfolding Slots.addAnswer answerToAdd addable goodPeer check
   add-answer address asn =
       check-holds (stateFormed (stateOf m)) 1 _ (ok .formed)
       ∙ rw (present-of address, lowest-of m ok, settings-of)
 
-  pub add-free : (address asn : ℕ) → addAnswer m address asn ≡ 0 → vacancy m < 8
-  unfolding addAnswer
+  pub add-free : (address asn : ℕ) → answerToAdd m address asn ≡ 0 → vacancy m < 8
+  unfolding answerToAdd
   add-free address asn z = ltb-true (vacancy m) 8 (check-passed (ltb (vacancy m) 8) 17 0 refl (check-passed (addable m address asn) 16 _ refl z .1) .0)
 
   -- a slot without rows in place of another without rows
@@ -306,42 +306,42 @@ module _ (m : Model) (ok : Good m) where
   pub add-shown : (address asn : ℕ) → Shown (addOf (stateOf m) address asn) (tableOf m) [] ((addTurn m address asn) .model) ((addTurn m address asn) .said) []
   unfolding addOf addTurn
   add-shown address asn =
-      silent-shown (addAnswer m address asn) (Slots.addAnswer (stateOf m) address asn) _ (put m (vacancy m) (used (newPeer address asn))) (add-answer address asn)
+      silent-shown (answerToAdd m address asn) (Slots.addAnswer (stateOf m) address asn) _ (put m (vacancy m) (used (newPeer address asn))) (add-answer address asn)
       (λ z. rw (lowest-of m ok, ← (newcomer-cell address asn)) (sym (state-with m ok (vacancy m) (used (newPeer address asn)))))
       (λ z. same-part (vacancy m) (used (newPeer address asn)) (no-rows-new address asn) (vacant-none (add-free address asn z)))
 
-  idle-same : (a : ℕ) → placeOf m a < 8 → isIdle ((slotAt (stateOf m) (slotOf (stateOf m) a)) .neighbour .phase) ≡ isIdleSlot (slotIn m (placeOf m a))
+  idle-same : (a : ℕ) → foundAt m a < 8 → isIdle ((slotAt (stateOf m) (slotOf (stateOf m) a)) .neighbour .phase) ≡ isIdleSlot (slotIn m (foundAt m a))
   idle-same a h =
-      rw (slot-of m ok a, at-of m ok (placeOf m a))
-      (used-at (λ s. isIdle ((cell s) .neighbour .phase) ≡ isIdleSlot s) a idle-used (slotIn m (placeOf m a)) (found-used a h))
+      rw (slot-of m ok a, at-of m ok (foundAt m a))
+      (used-at (λ s. isIdle ((cell s) .neighbour .phase) ≡ isIdleSlot s) a idle-used (slotIn m (foundAt m a)) (found-used a h))
 
-  remove-answer : (address : ℕ) → Slots.removeAnswer (stateOf m) address ≡ removeAnswer m address
-  unfolding Slots.removeAnswer removeAnswer check
+  remove-answer : (address : ℕ) → Slots.removeAnswer (stateOf m) address ≡ answerToRemove m address
+  unfolding Slots.removeAnswer answerToRemove check
   remove-answer address =
       check-holds (stateFormed (stateOf m)) 1 _ (ok .formed)
       ∙ rw (present-of address) (go (isPresent m address) refl)
     where
       go : (b : Bool) → isPresent m address ≡ b
           → check b 5 (check (isIdle ((slotAt (stateOf m) (slotOf (stateOf m) address)) .neighbour .phase)) 18 0)
-          ≡ check b 5 (check (isIdleSlot (slotIn m (placeOf m address))) 18 0)
+          ≡ check b 5 (check (isIdleSlot (slotIn m (foundAt m address))) 18 0)
       go true e = rw (idle-same address (found-below address e))
       go false e = refl
 
-  pub remove-below : (address : ℕ) → removeAnswer m address ≡ 0 → placeOf m address < 8
-  unfolding removeAnswer
+  pub remove-below : (address : ℕ) → answerToRemove m address ≡ 0 → foundAt m address < 8
+  unfolding answerToRemove
   remove-below address z = found-below address (check-passed (isPresent m address) 5 _ refl z .0)
 
-  remove-idle : (address : ℕ) → removeAnswer m address ≡ 0 → isIdleSlot (slotIn m (placeOf m address)) ≡ true
-  unfolding removeAnswer
-  remove-idle address z = check-passed (isIdleSlot (slotIn m (placeOf m address))) 18 0 refl (check-passed (isPresent m address) 5 _ refl z .1) .0
+  remove-idle : (address : ℕ) → answerToRemove m address ≡ 0 → isIdleSlot (slotIn m (foundAt m address)) ≡ true
+  unfolding answerToRemove
+  remove-idle address z = check-passed (isIdleSlot (slotIn m (foundAt m address))) 18 0 refl (check-passed (isPresent m address) 5 _ refl z .1) .0
 
   pub remove-shown : (address : ℕ) → Shown (removeOf (stateOf m) address) (tableOf m) [] ((removeTurn m address) .model) ((removeTurn m address) .said) []
   unfolding removeOf removeTurn
   remove-shown address =
-      silent-shown (removeAnswer m address) (Slots.removeAnswer (stateOf m) address) _ (put m (placeOf m address) free) (remove-answer address)
-      (λ z. rw (slot-of m ok address, ← free-cell) (sym (state-with m ok (placeOf m address) free)))
-      (λ z. same-part (placeOf m address) free no-rows-free
-      (idle-none (slotIn m (placeOf m address)) (good-at m ok (placeOf m address)) (remove-idle address z)))
+      silent-shown (answerToRemove m address) (Slots.removeAnswer (stateOf m) address) _ (put m (foundAt m address) free) (remove-answer address)
+      (λ z. rw (slot-of m ok address, ← free-cell) (sym (state-with m ok (foundAt m address) free)))
+      (λ z. same-part (foundAt m address) free no-rows-free
+      (idle-none (slotIn m (foundAt m address)) (good-at m ok (foundAt m address)) (remove-idle address z)))
 
   -- ---- the listing
 
@@ -368,14 +368,14 @@ module _ (m : Model) (ok : Good m) where
 
   abbrev pub Simulates : Call → Type 0
   Simulates call =
-      Shown (outcomeOf call (represent m)) (tableAfter call (represent m)) (bufferAfter call (represent m)) ((step call m) .model) ((step call m) .said) (bufferOf call)
+      Shown (outcomeOf call (represent m)) (tableLeft call (represent m)) (bufferLeft call (represent m)) ((step call m) .model) ((step call m) .said) (bufferOf call)
 
   -- a listing asks that the rows be marked, no other call does
   abbrev pub Heeds : Call → Type 0
   Heeds call = listsNothing call ≡ false → Marked m
 
   pub simulates : (call : Call) → Heeds call → Simulates call
-  unfolding outcomeOf tableAfter bufferAfter step bufferOf represent listsNothing
+  unfolding outcomeOf tableLeft bufferLeft step bufferOf represent listsNothing
   simulates (add address asn) h = add-shown address asn
   simulates (remove address) h = remove-shown address
   simulates (happen event a buffer) h = event-shown event a buffer
@@ -385,13 +385,13 @@ module _ (m : Model) (ok : Good m) where
   -- the state and the table after a call, which ask nothing of the rows
   pub record Leaves (call : Call) : Type 0 where
     pub state : (outcomeOf call (represent m)) .state ≡ stateOf ((step call m) .model)
-    pub table : tableAfter call (represent m) ≡ tableOf ((step call m) .model)
+    pub table : tableLeft call (represent m) ≡ tableOf ((step call m) .model)
 
   simulated : (call : Call) → listsNothing call ≡ true → Leaves call
   simulated call e = let s = simulates call (λ f. absurd (true≢false (sym e ∙ f))) in record { state = s .state; table = s .table }
 
   pub leaves : (call : Call) → Leaves call
-  unfolding outcomeOf tableAfter step represent listingTurn listsNothing
+  unfolding outcomeOf tableLeft step represent listingTurn listsNothing
   leaves (add address asn) = simulated (add address asn) refl
   leaves (remove address) = simulated (remove address) refl
   leaves (happen event a buffer) = simulated (happen event a buffer) refl
@@ -412,24 +412,24 @@ module _ (m : Model) (ok : Good m) where
       go true e = rw e (put-rest i slot (s (eqb-true k 0 e)))
       go false e = rw e (record { eight = ok .eight; each = ok .each })
 
-  add-sound : (address asn : ℕ) → addAnswer m address asn ≡ 0 → sound (used (newPeer address asn)) ≡ true
-  unfolding addAnswer addable sound
+  add-sound : (address asn : ℕ) → answerToAdd m address asn ≡ 0 → sound (used (newPeer address asn)) ≡ true
+  unfolding answerToAdd addable sound
   add-sound address asn z =
       let p : addable m address asn ≡ true = check-passed (addable m address asn) 16 _ refl z .0 in
       search (and-left, and-right)
 
   event-rest : (event : Intrinsic) (a : ℕ) (buffer : List ℕ) → Rest ((eventTurn event m a buffer) .model)
   unfolding eventTurn turnAt
-  event-rest event a buffer = kept-rest _ (placeOf m a) _ (λ _. event-sound (m .settings) event (slotIn m (placeOf m a)) (sound-at m ok (placeOf m a)))
+  event-rest event a buffer = kept-rest _ (foundAt m a) _ (λ _. event-sound (m .settings) event (slotIn m (foundAt m a)) (sound-at m ok (foundAt m a)))
 
   message-rest : (a : ℕ) (o home buffer : List ℕ) → Rest ((messageTurn m a o home buffer) .model)
   unfolding messageTurn turnAt
-  message-rest a o home buffer = kept-rest _ (placeOf m a) _ (λ _. message-sound (m .settings) o (slotIn m (placeOf m a)) (sound-at m ok (placeOf m a)))
+  message-rest a o home buffer = kept-rest _ (foundAt m a) _ (λ _. message-sound (m .settings) o (slotIn m (foundAt m a)) (sound-at m ok (foundAt m a)))
 
   rest-step : (call : Call) → Rest ((step call m) .model)
   unfolding step addTurn removeTurn listingTurn sound
-  rest-step (add address asn) = kept-rest (addAnswer m address asn) (vacancy m) (used (newPeer address asn)) (add-sound address asn)
-  rest-step (remove address) = kept-rest (removeAnswer m address) (placeOf m address) free (λ _. refl)
+  rest-step (add address asn) = kept-rest (answerToAdd m address asn) (vacancy m) (used (newPeer address asn)) (add-sound address asn)
+  rest-step (remove address) = kept-rest (answerToRemove m address) (foundAt m address) free (λ _. refl)
   rest-step (happen event a buffer) = event-rest event a buffer
   rest-step (receive a o home buffer) = message-rest a o home buffer
   rest-step (listing buffer) = record { eight = ok .eight; each = ok .each }

@@ -28,7 +28,7 @@ use Rattle.gateway_slots.specs.Calls.{freshOf}
 use Rattle.gateway_rules.specs.Home.{goodHome}
 use Rattle.gateway_rules.specs.Calls.{tableFits, lentChecks}
 use Rattle.listing_lines.specs.Listing.{entries, listable, listingChecks, listingOutcome}
-use Rattle.model.specs.Model.{Call, add, remove, happen, receive, listing, Slot, free, used, Model, slotIn, put, placeOf, isPresent, vacancy, Said, silent, spoken, addable, addAnswer, isIdleSlot, removeAnswer, addTurn, removeTurn, Move, noMove, moved, eventMove, bodyAnswer, isUpdate, kindAnswer, answerTo, messageMove, eventAnswer, messageAnswer, turnAt, eventTurn, messageTurn, listingAnswer, listingSaid, listingTurn, step, model, modelFrom, empty}
+use Rattle.model.specs.Model.{Call, add, remove, happen, receive, listing, Slot, free, used, Model, slotIn, put, foundAt, isPresent, vacancy, Said, silent, spoken, addable, answerToAdd, isIdleSlot, answerToRemove, addTurn, removeTurn, Move, noMove, moved, eventMove, bodyAnswer, isUpdate, kindAnswer, answerTo, messageMove, eventAnswer, messageAnswer, turnAt, eventTurn, messageTurn, listingAnswer, listingSaid, listingTurn, step, model, modelFrom, empty}
 use Rattle.model.specs.Theorem.{Gateway, outcomeOf, gatewayStep, run, stateOf, tableOf, carriesOctets, listsNothing, Steady, NeverOneOrTwo}
 use Rattle.model.proofs.Represent.{Good}
 use Rattle.model.proofs.Listed.{Marked, marked-step}
@@ -101,19 +101,19 @@ module _ (m : Model) where
   event-high : (event : Intrinsic) (a : ℕ) (buffer : List ℕ) → High ((eventTurn event m a buffer) .said .answer)
   unfolding eventTurn eventAnswer
   event-high event a buffer =
-      turn-high _ (placeOf m a) _ [] (check-high (leb 2048 (length buffer)) 3 _ refl (check-high (isPresent m a) 5 0 refl refl))
-      (rw (event-answers (m .settings) event (slotIn m (placeOf m a))))
+      turn-high _ (foundAt m a) _ [] (check-high (leb 2048 (length buffer)) 3 _ refl (check-high (isPresent m a) 5 0 refl refl))
+      (rw (event-answers (m .settings) event (slotIn m (foundAt m a))))
 
   -- 01: "1 and 2 never fail here", of the model's own answers
   said-high : (call : Call) → High ((step call m) .said .answer)
-  unfolding step addTurn removeTurn addAnswer removeAnswer messageTurn messageAnswer listingTurn listingAnswer listingSaid silent
+  unfolding step addTurn removeTurn answerToAdd answerToRemove messageTurn messageAnswer listingTurn listingAnswer listingSaid silent
   said-high (add address asn) = check-high (addable m address asn) 16 _ refl (check-high (ltb (vacancy m) 8) 17 0 refl refl)
-  said-high (remove address) = check-high (isPresent m address) 5 _ refl (check-high (isIdleSlot (slotIn m (placeOf m address))) 18 0 refl refl)
+  said-high (remove address) = check-high (isPresent m address) 5 _ refl (check-high (isIdleSlot (slotIn m (foundAt m address))) 18 0 refl refl)
   said-high (happen event a buffer) = event-high event a buffer
   said-high (receive a o home buffer) =
-      turn-high _ (placeOf m a) _ (rowsOf home)
+      turn-high _ (foundAt m a) _ (rowsOf home)
       (check-high (leb 2048 (length buffer)) 3 _ refl (check-high (goodHome (m .settings) home) 4 _ refl (check-high (isPresent m a) 5 0 refl refl)))
-      (message-high (m .settings) o (slotIn m (placeOf m a)))
+      (message-high (m .settings) o (slotIn m (foundAt m a)))
   said-high (listing buffer) =
       when-high _ _ (check-high (leb 65536 (length buffer)) 3 0 refl refl) refl
 
@@ -148,17 +148,17 @@ module _ (m : Model) where
   event-keeps : (event : Intrinsic) (a : ℕ) (buffer : List ℕ) → ((eventTurn event m a buffer) .said .answer ≡ 0 → ⊥) → (eventTurn event m a buffer) .model ≡ m
   unfolding eventTurn
   event-keeps event a buffer h =
-      turn-keeps _ (placeOf m a) (eventMove (m .settings) event (slotIn m (placeOf m a))) [] (λ n. absurd (n (event-answers (m .settings) event (slotIn m (placeOf m a))))) h
+      turn-keeps _ (foundAt m a) (eventMove (m .settings) event (slotIn m (foundAt m a))) [] (λ n. absurd (n (event-answers (m .settings) event (slotIn m (foundAt m a))))) h
 
   -- 01: "refused calls and listings change nothing"
   pub refused-keeps : (call : Call) → ((step call m) .said .answer ≡ 0 → ⊥) → (step call m) .model ≡ m
   unfolding step addTurn removeTurn messageTurn listingTurn silent
-  refused-keeps (add address asn) h = ifOk-old (addAnswer m address asn) _ _ h
-  refused-keeps (remove address) h = ifOk-old (removeAnswer m address) _ _ h
+  refused-keeps (add address asn) h = ifOk-old (answerToAdd m address asn) _ _ h
+  refused-keeps (remove address) h = ifOk-old (answerToRemove m address) _ _ h
   refused-keeps (happen event a buffer) h = event-keeps event a buffer h
   refused-keeps (receive a o home buffer) h =
-      turn-keeps _ (placeOf m a) (messageMove (m .settings) o (slotIn m (placeOf m a))) (rowsOf home)
-      (message-keeps (m .settings) o (slotIn m (placeOf m a))) h
+      turn-keeps _ (foundAt m a) (messageMove (m .settings) o (slotIn m (foundAt m a))) (rowsOf home)
+      (message-keeps (m .settings) o (slotIn m (foundAt m a))) h
   refused-keeps (listing buffer) h = refl
 
   listing-same : (buffer : List ℕ) → (step (listing buffer) m) .model ≡ m

@@ -28,7 +28,7 @@ use Rattle.neighbour_machine.specs.Intrinsics.{Intrinsic, asEvent}
 use Rattle.neighbour_machine.specs.Step.{stepOf}
 use Rattle.gateway_state.specs.Slots.{freeSlot}
 use Rattle.model.specs.Model as Calls
-use Rattle.model.specs.Model.{Call, add, remove, happen, receive, listing, Slot, free, used, Model, slotIn, put, isFree, hasAddress, placeOf, isPresent, vacancy, spoken, Turn, isIdleSlot, addAnswer, removeAnswer, addTurn, removeTurn, Move, noMove, moved, noOctets, eventMove, kindAnswer, answerTo, firstTwelve, afterMessage, rowsAfter, messageMove, eventAnswer, messageAnswer, turnAt, eventTurn, messageTurn, listingTurn, step, modelFrom, Peer, newPeer, peerWith}
+use Rattle.model.specs.Model.{Call, add, remove, happen, receive, listing, Slot, free, used, Model, slotIn, put, isFree, hasAddress, foundAt, isPresent, vacancy, spoken, Turn, isIdleSlot, answerToAdd, answerToRemove, addTurn, removeTurn, Move, noMove, moved, noOctets, eventMove, kindAnswer, answerTo, firstTwelve, afterMessage, rowsAfter, messageMove, eventAnswer, messageAnswer, turnAt, eventTurn, messageTurn, listingTurn, step, modelFrom, Peer, newPeer, peerWith}
 use Rattle.model.specs.History.{isUpSlot, accepts, rowsSaid}
 use Rattle.model.specs.Theorem.{cell, rowsHeld}
 use Rattle.model.specs.Windows.{isIndication, isEvaluation, isRestart, recordIn, saidEvent, doneFor, eventFor, holdsOf, brings, restartsNone, windows, anyOf, firstFour, oneInFour, latest}
@@ -53,9 +53,9 @@ unfolding eventMove noMove moved
 event-zero g event free = refl
 event-zero g event (used peer) = refl
 
-removed-idle : (m : Model) (a : ℕ) → removeAnswer m a ≡ 0 → isIdleSlot (slotIn m (placeOf m a)) ≡ true
-unfolding removeAnswer check
-removed-idle m a e = go (isPresent m a) (isIdleSlot (slotIn m (placeOf m a))) e
+removed-idle : (m : Model) (a : ℕ) → answerToRemove m a ≡ 0 → isIdleSlot (slotIn m (foundAt m a)) ≡ true
+unfolding answerToRemove check
+removed-idle m a e = go (isPresent m a) (isIdleSlot (slotIn m (foundAt m a))) e
   where
     go : (b c : Bool) → _≡_ {A = ℕ} (cond b (cond c 0 18) 5) 0 → c ≡ true
     go true true f = refl
@@ -93,7 +93,7 @@ module _ (m : Model) (ok : Good m) (j : ℕ) (j8 : j < 8) where
       (goes : (peer : Peer) → slotIn m j ≡ used peer → (event : Event) → eventFor m j call ≡ some event
       → (head : Head) (new : List Row) → P (used (peerWith peer ((stepOf (m .settings) (peer .asn) (peer .neighbour) event head) .neighbour) new))) where
     -- the neighbour that a call is about, where it is in slot j
-    found : (a : ℕ) (Q : Type 0) → placeOf m a ≡ j → ((peer : Peer) → slotIn m j ≡ used peer → Q) → Q
+    found : (a : ℕ) (Q : Type 0) → foundAt m a ≡ j → ((peer : Peer) → slotIn m j ≡ used peer → Q) → Q
     found a Q e h =
         used-at (λ s. slotIn m j ≡ s → Q) a (λ peer here. h peer here) (slotIn m j)
         (ap (λ (i : ℕ). hasAddress a (slotIn m i)) (sym e) ∙ found-used m ok a (omega (arith, e, j8))) refl
@@ -104,18 +104,18 @@ module _ (m : Model) (ok : Good m) (j : ℕ) (j8 : j < 8) where
       unfolding eventTurn
       event-answer =
           ap (λ (t : Turn). eqb (t .said .answer) 0) s
-          ∙ turn-zero m (eventAnswer m a buffer) (placeOf m a) (eventMove (m .settings) event (slotIn m (placeOf m a))) []
-          ∙ ap (λ (x : ℕ). eqb (eventAnswer m a buffer) 0 && eqb x 0) (event-zero (m .settings) event (slotIn m (placeOf m a)))
+          ∙ turn-zero m (eventAnswer m a buffer) (foundAt m a) (eventMove (m .settings) event (slotIn m (foundAt m a))) []
+          ∙ ap (λ (x : ℕ). eqb (eventAnswer m a buffer) 0 && eqb x 0) (event-zero (m .settings) event (slotIn m (foundAt m a)))
 
-      event-done : eventAnswer m a buffer ≡ 0 → placeOf m a ≡ j → eventFor m j call ≡ some (asEvent event)
+      event-done : eventAnswer m a buffer ≡ 0 → foundAt m a ≡ j → eventFor m j call ≡ some (asEvent event)
       unfolding doneFor
       event-done z e = c ∙ rw (event-answer, z, e, eq-eqb j j refl)
 
-      event-left : (eqb (eventAnswer m a buffer) 0 && eqb (placeOf m a) j) ≡ false → eventFor m j call ≡ none
+      event-left : (eqb (eventAnswer m a buffer) 0 && eqb (foundAt m a) j) ≡ false → eventFor m j call ≡ none
       unfolding doneFor
-      event-left f = c ∙ rw (event-answer, thirds-false (eqb (eventAnswer m a buffer) 0) (eqb (placeOf m a) j) true f)
+      event-left f = c ∙ rw (event-answer, thirds-false (eqb (eventAnswer m a buffer) 0) (eqb (foundAt m a) j) true f)
 
-      event-moved : eventAnswer m a buffer ≡ 0 → placeOf m a ≡ j → P ((eventMove (m .settings) event (slotIn m (placeOf m a))) .slot)
+      event-moved : eventAnswer m a buffer ≡ 0 → foundAt m a ≡ j → P ((eventMove (m .settings) event (slotIn m (foundAt m a))) .slot)
       unfolding eventMove moved
       event-moved z e = found a _ e (λ peer here. rw (e, here) (goes peer here (asEvent event) (event-done z e) noOctets _))
 
@@ -123,25 +123,25 @@ module _ (m : Model) (ok : Good m) (j : ℕ) (j8 : j < 8) where
       unfolding eventTurn turnAt
       event-elim =
           rw s
-          (put-elim P (eventAnswer m a buffer) (placeOf m a) ((eventMove (m .settings) event (slotIn m (placeOf m a))) .slot)
+          (put-elim P (eventAnswer m a buffer) (foundAt m a) ((eventMove (m .settings) event (slotIn m (foundAt m a))) .slot)
           event-moved (λ f. stays (event-left f)))
 
     -- a message
     module _ (a : ℕ) (o home buffer : List ℕ) (s : step call m ≡ messageTurn m a o home buffer)
         (c : eventFor m j call ≡ doneFor m j a call (saidEvent (decodeOf o))) where
       message-answer : eqb ((step call m) .said .answer) 0
-          ≡ (eqb (messageAnswer m a home buffer) 0 && eqb ((messageMove (m .settings) o (slotIn m (placeOf m a))) .answer) 0)
+          ≡ (eqb (messageAnswer m a home buffer) 0 && eqb ((messageMove (m .settings) o (slotIn m (foundAt m a))) .answer) 0)
       unfolding messageTurn
       message-answer =
           ap (λ (t : Turn). eqb (t .said .answer) 0) s
-          ∙ turn-zero m (messageAnswer m a home buffer) (placeOf m a) (messageMove (m .settings) o (slotIn m (placeOf m a))) (rowsOf home)
+          ∙ turn-zero m (messageAnswer m a home buffer) (foundAt m a) (messageMove (m .settings) o (slotIn m (foundAt m a))) (rowsOf home)
 
-      message-left : (eqb (messageAnswer m a home buffer) 0 && eqb (placeOf m a) j) ≡ false → eventFor m j call ≡ none
+      message-left : (eqb (messageAnswer m a home buffer) 0 && eqb (foundAt m a) j) ≡ false → eventFor m j call ≡ none
       unfolding doneFor
       message-left f =
-          c ∙ rw (message-answer, thirds-false (eqb (messageAnswer m a home buffer) 0) (eqb (placeOf m a) j) (eqb ((messageMove (m .settings) o (slotIn m (placeOf m a))) .answer) 0) f)
+          c ∙ rw (message-answer, thirds-false (eqb (messageAnswer m a home buffer) 0) (eqb (foundAt m a) j) (eqb ((messageMove (m .settings) o (slotIn m (foundAt m a))) .answer) 0) f)
 
-      module _ (z : messageAnswer m a home buffer ≡ 0) (e : placeOf m a ≡ j) (peer : Peer) (here : slotIn m j ≡ used peer) where
+      module _ (z : messageAnswer m a home buffer ≡ 0) (e : foundAt m a ≡ j) (peer : Peer) (here : slotIn m j ≡ used peer) where
         refused-answer : eqb (answerTo (m .settings) (peer .asn) (peer .neighbour) o) 0 ≡ false → eventFor m j call ≡ none
         unfolding doneFor
         refused-answer f = c ∙ rw (message-answer, z, e, here, message-stays (m .settings) o peer f, f)
@@ -170,14 +170,14 @@ module _ (m : Model) (ok : Good m) (j : ℕ) (j8 : j < 8) where
             go true f = rw (done-move f) (by-kind (decodeOf o) refl (kind-zero (m .settings) (peer .asn) (peer .neighbour) o f) (done-answer f))
             go false f = rw (message-stays (m .settings) o peer f) (subst P here (stays (refused-answer f)))
 
-      message-moved : messageAnswer m a home buffer ≡ 0 → placeOf m a ≡ j → P ((messageMove (m .settings) o (slotIn m (placeOf m a))) .slot)
+      message-moved : messageAnswer m a home buffer ≡ 0 → foundAt m a ≡ j → P ((messageMove (m .settings) o (slotIn m (foundAt m a))) .slot)
       message-moved z e = found a _ e (λ peer here. rw (e, here) (heard-here z e peer here))
 
       message-elim : P (slotIn ((step call m) .model) j)
       unfolding messageTurn turnAt
       message-elim =
           rw s
-          (put-elim P (messageAnswer m a home buffer) (placeOf m a) ((messageMove (m .settings) o (slotIn m (placeOf m a))) .slot)
+          (put-elim P (messageAnswer m a home buffer) (foundAt m a) ((messageMove (m .settings) o (slotIn m (foundAt m a))) .slot)
           message-moved (λ f. stays (message-left f)))
 
   -- any call: the slot stays where nothing is carried out for it; it moves by the event; it is taken, or freed
@@ -189,10 +189,10 @@ module _ (m : Model) (ok : Good m) (j : ℕ) (j8 : j < 8) where
       → P (slotIn ((step call m) .model) j)
   unfolding step eventFor addTurn removeTurn listingTurn
   step-elim P (add address asn) stays goes taken freed =
-      put-elim P (addAnswer m address asn) (vacancy m) (used (newPeer address asn))
+      put-elim P (answerToAdd m address asn) (vacancy m) (used (newPeer address asn))
       (λ z e. taken (ap (λ (i : ℕ). isFree (slotIn m i)) (sym e) ∙ found-free m ok (add-free m ok address asn z)) address asn) (λ _. stays refl)
   step-elim P (remove a) stays goes taken freed =
-      put-elim P (removeAnswer m a) (placeOf m a) free
+      put-elim P (answerToRemove m a) (foundAt m a) free
       (λ z e. freed (ap (λ (i : ℕ). isIdleSlot (slotIn m i)) (sym e) ∙ removed-idle m a z)) (λ _. stays refl)
   step-elim P (happen event a buffer) stays goes taken freed = event-elim P (happen event a buffer) stays goes event a buffer refl refl
   step-elim P (receive a o home buffer) stays goes taken freed = message-elim P (receive a o home buffer) stays goes a o home buffer refl refl

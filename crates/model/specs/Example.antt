@@ -12,7 +12,7 @@ use Rattle.update_rows.specs.Storing.{zeros}
 use Rattle.message.specs.declared.Message.the-variants.{Request, Cease, Hello, Update}
 use Rattle.message_reading.specs.Reading.{decodeOf}
 use Rattle.message_reading.specs.declared.Decoded.the-variants as D
-use Rattle.codec_writing.specs.Octets.{octetsOf}
+use Rattle.codec_writing.specs.Octets.{messageOctets}
 use Rattle.neighbour.specs.declared.Mode.the-variants.{Passive}
 use Rattle.neighbour.specs.declared.Settings.{Settings}
 use Rattle.neighbour.specs.Record.{withTimers}
@@ -28,8 +28,8 @@ unfoldable pub someSettings : Settings
 someSettings = record { asn = 9; own = 2148073473; capability = 2; net = 2148073472 }
 
 -- a reply buffer
-unfoldable pub lent : List ℕ
-lent = zeros 2048
+unfoldable pub lentBuffer : List ℕ
+lentBuffer = zeros 2048
 
 -- the class A nets from k on, that many, at distance 0 through 128.9.0.5
 unfoldable pub classA : ℕ → ℕ → List Row
@@ -37,47 +37,47 @@ classA k zero = []
 classA k (suc n) = record { net = k * 16777216; gateway = 2148073477; third = 0 } ∷ classA (suc k) n
 
 -- n seconds
-unfoldable pub ticks : ℕ → ℕ → List Call
-ticks a zero = []
-ticks a (suc n) = tick a lent ∷ ticks a n
+unfoldable pub tickSeconds : ℕ → ℕ → List Call
+tickSeconds a zero = []
+tickSeconds a (suc n) = tick a lentBuffer ∷ tickSeconds a n
 
 -- a Hello with status 1: an indication in passive mode
 unfoldable pub saysHello : ℕ → Call
-saysHello a = receive a (octetsOf (Hello 7 0 1) []) [] lent
+saysHello a = receive a (messageOctets (Hello 7 0 1) []) [] lentBuffer
 
 -- added, acquired with both intervals 120, heard once, Up after T1, which is 122; then its Update
-unfoldable pub reporting : ℕ → List Call
-reporting a =
+unfoldable pub reportingCalls : ℕ → List Call
+reportingCalls a =
     add a 7
-    ∷ receive a (octetsOf (Request 7 0 0 120 120) []) [] lent
+    ∷ receive a (messageOctets (Request 7 0 0 120 120) []) [] lentBuffer
     ∷ saysHello a
-    ∷ (ticks a 122 ++ (receive a (octetsOf (Update 7 1 1 2148073472) (classA 0 128)) [] lent ∷ []))
+    ∷ (tickSeconds a 122 ++ (receive a (messageOctets (Update 7 1 1 2148073472) (classA 0 128)) [] lentBuffer ∷ []))
 
 -- eight of them, in slots 0 to 7
 unfoldable pub eight : List Call
 eight =
-    reporting 1
-    ++ (reporting 2 ++ (reporting 3 ++ (reporting 4 ++ (reporting 5 ++ (reporting 6 ++ (reporting 7 ++ reporting 8))))))
+    reportingCalls 1
+    ++ (reportingCalls 2 ++ (reportingCalls 3 ++ (reportingCalls 4 ++ (reportingCalls 5 ++ (reportingCalls 6 ++ (reportingCalls 7 ++ reportingCalls 8))))))
 
 -- heard once and polled once, n times
-unfoldable pub polled : ℕ → List Call
-polled zero = []
-polled (suc n) = (saysHello 1 ∷ ticks 1 122) ++ polled n
+unfoldable pub pollRounds : ℕ → List Call
+pollRounds zero = []
+pollRounds (suc n) = (saysHello 1 ∷ tickSeconds 1 122) ++ pollRounds n
 
 -- S is 1 when Up is entered, so 65,535 after 65,534 polls more; then a second before the next
 unfoldable pub lastNumber : List Call
-lastNumber = reporting 1 ++ (polled 65534 ++ (saysHello 1 ∷ ticks 1 121))
+lastNumber = reportingCalls 1 ++ (pollRounds 65534 ++ (saysHello 1 ∷ tickSeconds 1 121))
 
 -- added, acquired with T1 32, heard once; the next tick enters Up
 unfoldable pub almostUp : List Call
-almostUp = add 1 7 ∷ receive 1 (octetsOf (Request 7 0 0 30 120) []) [] lent ∷ saysHello 1 ∷ ticks 1 31
+almostUp = add 1 7 ∷ receive 1 (messageOctets (Request 7 0 0 30 120) []) [] lentBuffer ∷ saysHello 1 ∷ tickSeconds 1 31
 
 -- an Update of this status in the first window of 32 seconds, the next one in the fifth; our second Poll went out in
 -- the fourth
 unfoldable pub slow : ℕ → ℕ → List Call
 slow first second =
-    receive 1 (octetsOf (Update 7 1 first 2148073472) (classA 10 1)) [] lent
-    ∷ (ticks 1 128 ++ (receive 1 (octetsOf (Update 7 2 second 2148073472) (classA 11 1)) [] lent ∷ ticks 1 32))
+    receive 1 (messageOctets (Update 7 1 first 2148073472) (classA 10 1)) [] lentBuffer
+    ∷ (tickSeconds 1 128 ++ (receive 1 (messageOctets (Update 7 2 second 2148073472) (classA 11 1)) [] lentBuffer ∷ tickSeconds 1 32))
 
 -- t3 of a slot's neighbour at its last second
 unfoldable pub late : Slot → Slot
@@ -98,14 +98,14 @@ pub record EightMet : Type 0 where
   pub taken : Taken someSettings
   pub full : (j : ℕ) → j < 8 → length (lastAccepted someSettings j eight) ≡ 128
   pub both : BothReport (run someSettings eight) 0 1 167772160
-  pub room : leb 2048 (length lent) ≡ true
-  pub cease : Says (run someSettings eight) 0 (octetsOf (Cease 7 0 0) []) [] lent (Cease 7 0 0)
-  pub request : Says (run someSettings eight) 0 (octetsOf (Request 7 0 0 120 120) []) [] lent (Request 7 0 0 120 120)
-  pub still-both : BothReport (run someSettings (eight ++ ticks 1 609)) 0 1 167772160
-  pub silent : (slotOn (run someSettings (eight ++ ticks 1 609)) 0) .neighbour .t1 ≡ 1
+  pub room : leb 2048 (length lentBuffer) ≡ true
+  pub cease : Says (run someSettings eight) 0 (messageOctets (Cease 7 0 0) []) [] lentBuffer (Cease 7 0 0)
+  pub request : Says (run someSettings eight) 0 (messageOctets (Request 7 0 0 120 120) []) [] lentBuffer (Request 7 0 0 120 120)
+  pub still-both : BothReport (run someSettings (eight ++ tickSeconds 1 609)) 0 1 167772160
+  pub silent : (slotOn (run someSettings (eight ++ tickSeconds 1 609)) 0) .neighbour .t1 ≡ 1
   pub lost :
-      goesDown ((slotOn (run someSettings (eight ++ ticks 1 609)) 0) .neighbour .mode)
-      (onesOf (((slotOn (run someSettings (eight ++ ticks 1 609)) 0) .neighbour .register * 2 + (slotOn (run someSettings (eight ++ ticks 1 609)) 0) .neighbour .heard) % 16)) ≡ true
+      goesDown ((slotOn (run someSettings (eight ++ tickSeconds 1 609)) 0) .neighbour .mode)
+      (onesOf (((slotOn (run someSettings (eight ++ tickSeconds 1 609)) 0) .neighbour .register * 2 + (slotOn (run someSettings (eight ++ tickSeconds 1 609)) 0) .neighbour .heard) % 16)) ≡ true
 
 -- the one premise that no run meets: two neighbours report 10.0.0.0, and the first's t3 runs out at the next tick
 pub record TimeOutMet : Type 0 where
@@ -119,30 +119,30 @@ pub record FullMet : Type 0 where
   pub full : length (classA 0 128) ≡ 128
   pub update :
       SaysRows (run someSettings eight) 0 ((slotOn (run someSettings eight) 0) .neighbour .s)
-      (octetsOf (Update 7 1 1 2148073472) (classA 0 128)) [] lent (classA 0 128)
+      (messageOctets (Update 7 1 1 2148073472) (classA 0 128)) [] lentBuffer (classA 0 128)
 
 -- a run from fresh in which S is 65,535 and the next tick polls; and an Update with number 0
 pub record LastNumberMet : Type 0 where
   pub number : (slotOn (run someSettings lastNumber) 0) .neighbour .s ≡ 65535
   pub due : (slotOn (run someSettings lastNumber) 0) .neighbour .t2 ≡ 1
   pub up : isUpOn (run someSettings lastNumber) 0 ≡ true
-  pub still : isUpOn (gatewayStep (tick ((slotOn (run someSettings lastNumber) 0) .address) lent) (run someSettings lastNumber)) 0 ≡ true
-  pub update : SaysRows (run someSettings lastNumber) 0 0 (octetsOf (Update 7 0 1 2148073472) (classA 10 1)) [] lent (classA 10 1)
+  pub still : isUpOn (gatewayStep (tick ((slotOn (run someSettings lastNumber) 0) .address) lentBuffer) (run someSettings lastNumber)) 0 ≡ true
+  pub update : SaysRows (run someSettings lastNumber) 0 0 (messageOctets (Update 7 0 1 2148073472) (classA 10 1)) [] lentBuffer (classA 10 1)
 
 -- a passive neighbour that is heard of once in four windows, by its Updates of status 1 and 129; of status 2 they would
 -- not keep it
 pub record QuietMet : Type 0 where
-  pub entered : EnteredUp someSettings almostUp (tick 1 lent) 0
-  pub unrestarted : restartsNone (model someSettings (almostUp ++ (tick 1 lent ∷ []))) 0 (slow 1 129) ≡ true
-  pub ended : windows (model someSettings (almostUp ++ (tick 1 lent ∷ []))) 0 false (slow 1 129) ≡ true ∷ false ∷ false ∷ false ∷ true ∷ []
-  pub often : oneInFour (windows (model someSettings (almostUp ++ (tick 1 lent ∷ []))) 0 false (slow 1 129)) ≡ true
-  pub last : latest (model someSettings (almostUp ++ (tick 1 lent ∷ []))) 0 [] (slow 1 129) ≡ classA 11 1
-  pub lost : isUpOn (run someSettings ((almostUp ++ (tick 1 lent ∷ [])) ++ slow 2 2)) 0 ≡ false
+  pub entered : EnteredUp someSettings almostUp (tick 1 lentBuffer) 0
+  pub unrestarted : restartsNone (model someSettings (almostUp ++ (tick 1 lentBuffer ∷ []))) 0 (slow 1 129) ≡ true
+  pub ended : windows (model someSettings (almostUp ++ (tick 1 lentBuffer ∷ []))) 0 false (slow 1 129) ≡ true ∷ false ∷ false ∷ false ∷ true ∷ []
+  pub often : oneInFour (windows (model someSettings (almostUp ++ (tick 1 lentBuffer ∷ []))) 0 false (slow 1 129)) ≡ true
+  pub last : latest (model someSettings (almostUp ++ (tick 1 lentBuffer ∷ []))) 0 [] (slow 1 129) ≡ classA 11 1
+  pub lost : isUpOn (run someSettings ((almostUp ++ (tick 1 lentBuffer ∷ [])) ++ slow 2 2)) 0 ≡ false
 
 -- an Update of status 129 that a passive neighbour's slot accepts
 pub record IndicationMet : Type 0 where
   pub taken :
-      accepts (model someSettings (almostUp ++ (tick 1 lent ∷ []))) 0
-      (receive 1 (octetsOf (Update 7 1 129 2148073472) (classA 10 1)) [] lent) ≡ true
-  pub says : decodeOf (octetsOf (Update 7 1 129 2148073472) (classA 10 1)) ≡ D.Good (Update 7 1 129 2148073472)
-  pub passive : (slotOn (run someSettings (almostUp ++ (tick 1 lent ∷ []))) 0) .neighbour .mode ≡ Passive
+      accepts (model someSettings (almostUp ++ (tick 1 lentBuffer ∷ []))) 0
+      (receive 1 (messageOctets (Update 7 1 129 2148073472) (classA 10 1)) [] lentBuffer) ≡ true
+  pub says : decodeOf (messageOctets (Update 7 1 129 2148073472) (classA 10 1)) ≡ D.Good (Update 7 1 129 2148073472)
+  pub passive : (slotOn (run someSettings (almostUp ++ (tick 1 lentBuffer ∷ []))) 0) .neighbour .mode ≡ Passive

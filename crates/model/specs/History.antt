@@ -10,7 +10,7 @@ use Rattle.message_reading.specs.declared.Decoded.{Decoded}
 use Rattle.message_reading.specs.declared.Decoded.the-variants as D
 use Rattle.update_walk.specs.Body.{updateOf, rowsRead}
 use Rattle.neighbour.specs.declared.Settings.{Settings}
-use Rattle.model.specs.Model.{Call, add, remove, happen, receive, listing, Slot, free, used, Model, slotIn, placeOf, isUpdate, step, model}
+use Rattle.model.specs.Model.{Call, add, remove, happen, receive, listing, Slot, free, used, Model, slotIn, foundAt, isUpdate, step, model}
 
 unfoldable pub isUpSlot : Slot → Bool
 isUpSlot free = false
@@ -28,7 +28,7 @@ accepts m j (add address asn) = false
 accepts m j (remove address) = false
 accepts m j (happen event a buffer) = false
 accepts m j (receive a o home buffer) =
-    eqb ((step (receive a o home buffer) m) .said .answer) 0 && (eqb (placeOf m a) j && (isUpSlot (slotIn m j) && saysUpdate (decodeOf o)))
+    eqb ((step (receive a o home buffer) m) .said .answer) 0 && (eqb (foundAt m a) j && (isUpSlot (slotIn m j) && saysUpdate (decodeOf o)))
 accepts m j (listing buffer) = false
 
 -- the rows that the octets of a call say, on the common net

@@ -15,7 +15,7 @@ use Rattle.message_reading.specs.Reading.{headerAnswer, asnAt, statusAt, sequen
 use Rattle.message_reading.specs.declared.Decoded.{Decoded}
 use Rattle.message_reading.specs.declared.Decoded.the-variants as D
 use Rattle.update_walk.specs.Body.{UpdateRead, accepted, brokenAt, tooMany, updateOf, rowsRead}
-use Rattle.codec_writing.specs.Octets.{octetsOf}
+use Rattle.codec_writing.specs.Octets.{messageOctets}
 use Rattle.neighbour.specs.declared.Phase.{Phase}
 use Rattle.neighbour.specs.declared.Settings.{Settings}
 use Rattle.neighbour.specs.declared.Neighbour.{Neighbour}
@@ -102,11 +102,11 @@ hasAddress a free = false
 hasAddress a (used p) = eqb (p .address) a
 
 -- 01: "used slot has this address"
-unfoldable pub placeOf : Model → ℕ → ℕ
-placeOf m a = first (hasAddress a) (m .slots)
+unfoldable pub foundAt : Model → ℕ → ℕ
+foundAt m a = first (hasAddress a) (m .slots)
 
 unfoldable pub isPresent : Model → ℕ → Bool
-isPresent m a = ltb (placeOf m a) 8
+isPresent m a = ltb (foundAt m a) 8
 
 -- 01: "the lowest free slot"
 unfoldable pub vacancy : Model → ℕ
@@ -127,8 +127,8 @@ silent answer = record { answer = answer; first = []; second = [] }
 -- 01: "A reply is at most two messages, the second written straight after the first"; an Update is written with the home list
 unfoldable pub spoken : ℕ → Reply → List Row → Said
 spoken answer Nothing home = silent answer
-spoken answer (One m) home = record { answer = answer; first = octetsOf m home; second = [] }
-spoken answer (Two m next) home = record { answer = answer; first = octetsOf m home; second = octetsOf next home }
+spoken answer (One m) home = record { answer = answer; first = messageOctets m home; second = [] }
+spoken answer (Two m next) home = record { answer = answer; first = messageOctets m home; second = messageOctets next home }
 
 -- an answer, and the model after it
 pub record Turn : Type 0 where
@@ -143,28 +143,28 @@ addable m address asn =
     (not (eqb asn 0) && not (eqb asn (m .settings .asn)) && not (eqb address 0) && not (eqb address (m .settings .own))) && not (isPresent m address)
 
 -- then 17 "no free slot"
-unfoldable pub addAnswer : Model → ℕ → ℕ → ℕ
-addAnswer m address asn = check (addable m address asn) 16 (check (ltb (vacancy m) 8) 17 0)
+unfoldable pub answerToAdd : Model → ℕ → ℕ → ℕ
+answerToAdd m address asn = check (addable m address asn) 16 (check (ltb (vacancy m) 8) 17 0)
 
 unfoldable pub isIdleSlot : Slot → Bool
 isIdleSlot free = true
 isIdleSlot (used p) = isIdle (p .neighbour .phase)
 
 -- 5, then 18 "neighbour not Idle"
-unfoldable pub removeAnswer : Model → ℕ → ℕ
-removeAnswer m address = check (isPresent m address) 5 (check (isIdleSlot (slotIn m (placeOf m address))) 18 0)
+unfoldable pub answerToRemove : Model → ℕ → ℕ
+answerToRemove m address = check (isPresent m address) 5 (check (isIdleSlot (slotIn m (foundAt m address))) 18 0)
 
 -- 01: "It takes the lowest free slot, and a removed slot is free again."
 unfoldable pub addTurn : Model → ℕ → ℕ → Turn
 addTurn m address asn =
     record {
-      said = silent (addAnswer m address asn);
-      model = ifOk (addAnswer m address asn) (put m (vacancy m) (used (newPeer address asn))) m;
+      said = silent (answerToAdd m address asn);
+      model = ifOk (answerToAdd m address asn) (put m (vacancy m) (used (newPeer address asn))) m;
     }
 
 unfoldable pub removeTurn : Model → ℕ → Turn
 removeTurn m address =
-    record { said = silent (removeAnswer m address); model = ifOk (removeAnswer m address) (put m (placeOf m address) free) m }
+    record { said = silent (answerToRemove m address); model = ifOk (answerToRemove m address) (put m (foundAt m address) free) m }
 
 -- ---- one neighbour's turn
 
@@ -179,13 +179,13 @@ unfoldable pub noMove : Move
 noMove = record { answer = 0; reply = Nothing; slot = free }
 
 -- 01: "A slot not Up has no rows."
-unfoldable pub rowsIn : Phase → List Row → List Row
-rowsIn phase rows = cond (isUp phase) rows []
+unfoldable pub rowsInPhase : Phase → List Row → List Row
+rowsInPhase phase rows = cond (isUp phase) rows []
 
 -- the machine's step carried out in a slot, with these rows while it is Up
 unfoldable pub moved : Peer → After → List Row → Move
 moved p after rows =
-    record { answer = 0; reply = after .reply; slot = used (peerWith p (after .neighbour) (rowsIn (after .neighbour .phase) rows)) }
+    record { answer = 0; reply = after .reply; slot = used (peerWith p (after .neighbour) (rowsInPhase (after .neighbour .phase) rows)) }
 
 -- Start, Stop and tick receive no octets
 unfoldable pub noOctets : Head
@@ -286,11 +286,11 @@ turnAt m answer place move home =
 
 unfoldable pub eventTurn : Intrinsic → Model → ℕ → List ℕ → Turn
 eventTurn event m a buffer =
-    turnAt m (eventAnswer m a buffer) (placeOf m a) (eventMove (m .settings) event (slotIn m (placeOf m a))) []
+    turnAt m (eventAnswer m a buffer) (foundAt m a) (eventMove (m .settings) event (slotIn m (foundAt m a))) []
 
 unfoldable pub messageTurn : Model → ℕ → List ℕ → List ℕ → List ℕ → Turn
 messageTurn m a o home buffer =
-    turnAt m (messageAnswer m a home buffer) (placeOf m a) (messageMove (m .settings) o (slotIn m (placeOf m a))) (rowsOf home)
+    turnAt m (messageAnswer m a home buffer) (foundAt m a) (messageMove (m .settings) o (slotIn m (foundAt m a))) (rowsOf home)
 
 -- ---- the listing
 

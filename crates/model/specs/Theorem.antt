@@ -38,12 +38,12 @@ outcomeOf (receive a o home buffer) b = messageOutcome (b .state) (b .table) buf
 outcomeOf (listing buffer) b = listingOutcome (b .state) (b .table) buffer
 
 -- add and remove take no table, a listing only reads it
-unfoldable pub tableAfter : Call → Gateway → List ℕ
-tableAfter (add address asn) b = b .table
-tableAfter (remove address) b = b .table
-tableAfter (happen event a buffer) b = eventTable event (b .state) (b .table) buffer a
-tableAfter (receive a o home buffer) b = messageTable (b .state) (b .table) buffer home a o
-tableAfter (listing buffer) b = b .table
+unfoldable pub tableLeft : Call → Gateway → List ℕ
+tableLeft (add address asn) b = b .table
+tableLeft (remove address) b = b .table
+tableLeft (happen event a buffer) b = eventTable event (b .state) (b .table) buffer a
+tableLeft (receive a o home buffer) b = messageTable (b .state) (b .table) buffer home a o
+tableLeft (listing buffer) b = b .table
 
 -- the buffer that a call lends; add and remove lend none
 unfoldable pub bufferOf : Call → List ℕ
@@ -53,15 +53,15 @@ bufferOf (happen event a buffer) = buffer
 bufferOf (receive a o home buffer) = buffer
 bufferOf (listing buffer) = buffer
 
-unfoldable pub bufferAfter : Call → Gateway → List ℕ
-bufferAfter (add address asn) b = []
-bufferAfter (remove address) b = []
-bufferAfter (happen event a buffer) b = eventBuffer event (b .state) (b .table) buffer a
-bufferAfter (receive a o home buffer) b = messageBuffer (b .state) (b .table) buffer home a o
-bufferAfter (listing buffer) b = listingBuffer (b .state) (b .table) buffer
+unfoldable pub bufferLeft : Call → Gateway → List ℕ
+bufferLeft (add address asn) b = []
+bufferLeft (remove address) b = []
+bufferLeft (happen event a buffer) b = eventBuffer event (b .state) (b .table) buffer a
+bufferLeft (receive a o home buffer) b = messageBuffer (b .state) (b .table) buffer home a o
+bufferLeft (listing buffer) b = listingBuffer (b .state) (b .table) buffer
 
 unfoldable pub gatewayStep : Call → Gateway → Gateway
-gatewayStep call b = record { state = (outcomeOf call b) .state; table = tableAfter call b }
+gatewayStep call b = record { state = (outcomeOf call b) .state; table = tableLeft call b }
 
 unfoldable pub gatewayFrom : Gateway → List Call → Gateway
 gatewayFrom b [] = b
@@ -80,7 +80,7 @@ seenOf call b =
       answer = (outcomeOf call b) .answer;
       first = (outcomeOf call b) .first;
       second = (outcomeOf call b) .second;
-      buffer = bufferAfter call b;
+      buffer = bufferLeft call b;
     }
 
 unfoldable pub seenFrom : Gateway → List Call → List Seen

@@ -18,7 +18,7 @@ use Rattle.neighbour.specs.Rules.{oneOf, indicates}
 use Rattle.neighbour_machine.specs.declared.Event.{Event}
 use Rattle.neighbour_machine.specs.declared.Event.the-variants.{Received, Start, Stop, Tick}
 use Rattle.neighbour_machine.specs.Intrinsics.{asEvent}
-use Rattle.model.specs.Model.{Call, add, remove, happen, receive, listing, Model, slotIn, placeOf, step}
+use Rattle.model.specs.Model.{Call, add, remove, happen, receive, listing, Model, slotIn, foundAt, step}
 use Rattle.model.specs.History.{accepts, rowsSaid}
 use Rattle.model.specs.Theorem.{cell}
 
@@ -60,7 +60,7 @@ saidEvent D.BadLength = none
 
 -- this event, if the call is answered 0 and about the neighbour in slot j
 unfoldable pub doneFor : Model → ℕ → ℕ → Call → Option Event → Option Event
-doneFor m j a call event = cond (eqb ((step call m) .said .answer) 0 && eqb (placeOf m a) j) event none
+doneFor m j a call event = cond (eqb ((step call m) .said .answer) 0 && eqb (foundAt m a) j) event none
 
 -- the event that a call carries out for the neighbour in slot j
 unfoldable pub eventFor : Model → ℕ → Call → Option Event

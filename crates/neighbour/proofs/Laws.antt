@@ -11,7 +11,7 @@ use Rattle.neighbour.specs.declared.Offer.the-variants.{Acceptable}
 use Rattle.neighbour.specs.declared.Phase.{Phase}
 use Rattle.neighbour.specs.declared.Phase.the-variants.{Idle, Acquisition, Down, Up, Cease}
 use Rattle.neighbour.specs.Record.{under}
-use Rattle.neighbour.specs.Rules.{larger, unacceptable, helloInterval, pollInterval, modeOf, offerOf}
+use Rattle.neighbour.specs.Rules.{larger, unacceptable, period1Of, period2Of, modeOf, offerOf}
 
 -- the cell under a phase that is known
 module _ {A : Type 0} (p : Phase) (a b c d e : A) where
@@ -62,5 +62,5 @@ module _ (g : Settings) (asn status hello poll : ℕ) (e : unacceptable (g .capa
 
   pub offered : (t u : ℕ) (m : Mode) → t ≡ larger 30 hello → u ≡ larger 120 poll → m ≡ modeOf (g .capability) status (g .asn) asn
       → Acceptable (t + 2) (u + 2) m ≡ offerOf g asn status hello poll
-  unfolding offerOf helloInterval pollInterval
+  unfolding offerOf period1Of period2Of
   offered t u m p q r = rw (e, p, q, r)

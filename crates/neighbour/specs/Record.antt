@@ -4,7 +4,7 @@ use mathlib.Core.Bool.{Bool, true, false}
 use Rattle.neighbour.specs.declared.Phase.{Phase}
 use Rattle.neighbour.specs.declared.Phase.the-variants.{Idle, Acquisition, Down, Up, Cease}
 use Rattle.neighbour.specs.declared.Mode.{Mode}
-use Rattle.neighbour.specs.declared.Mode.the-variants.{Unset}
+use Rattle.neighbour.specs.declared.Mode.the-variants.{Unset, Active, Passive}
 use Rattle.neighbour.specs.declared.Neighbour.{Neighbour}
 
 -- 01: "P1 30, P2 120, P3 30, P4 3,600, P5 120, all seconds."
@@ -53,14 +53,28 @@ acquired Down = true
 acquired Up = true
 acquired Cease = false
 
+-- 02: "states from 0 as listed": Idle, Acquisition, Down, Up, Cease
+abbrev pub phaseNumber : Phase → ℕ
+phaseNumber Idle = 0
+phaseNumber Acquisition = 1
+phaseNumber Down = 2
+phaseNumber Up = 3
+phaseNumber Cease = 4
+
+-- 02: "mode none, active, passive 0 to 2"
+abbrev pub modeNumber : Mode → ℕ
+modeNumber Unset = 0
+modeNumber Active = 1
+modeNumber Passive = 2
+
 -- the same record with other numbers S and R
 unfoldable pub withNumbers : Neighbour → ℕ → ℕ → Neighbour
 withNumbers n s r =
     record {
       s = s;
       r = r;
-      hello = n .hello;
-      poll = n .poll;
+      period1 = n .period1;
+      period2 = n .period2;
       t1 = n .t1;
       t2 = n .t2;
       t3 = n .t3;
@@ -74,12 +88,12 @@ withNumbers n s r =
 -- the same record but for its state and what goes with a state: M, T1, T2, t1, t2, t3, register, heard and cause. S
 -- and R stay.
 abbrev pub withState : Neighbour → Phase → Mode → ℕ → ℕ → ℕ → ℕ → ℕ → ℕ → ℕ → ℕ → Neighbour
-withState n phase mode hello poll t1 t2 t3 register heard cause =
+withState n phase mode period1 period2 t1 t2 t3 register heard cause =
     record {
       s = n .s;
       r = n .r;
-      hello = hello;
-      poll = poll;
+      period1 = period1;
+      period2 = period2;
       t1 = t1;
       t2 = t2;
       t3 = t3;
@@ -92,11 +106,11 @@ withState n phase mode hello poll t1 t2 t3 register heard cause =
 
 -- the same record with other timers t1, t2, t3
 unfoldable pub withTimers : Neighbour → ℕ → ℕ → ℕ → Neighbour
-withTimers n t1 t2 t3 = withState n (n .phase) (n .mode) (n .hello) (n .poll) t1 t2 t3 (n .register) (n .heard) (n .cause)
+withTimers n t1 t2 t3 = withState n (n .phase) (n .mode) (n .period1) (n .period2) t1 t2 t3 (n .register) (n .heard) (n .cause)
 
 -- the same record with another state, register and heard bit
 unfoldable pub withReach : Neighbour → Phase → ℕ → ℕ → Neighbour
-withReach n phase register heard = withState n phase (n .mode) (n .hello) (n .poll) (n .t1) (n .t2) (n .t3) register heard (n .cause)
+withReach n phase register heard = withState n phase (n .mode) (n .period1) (n .period2) (n .t1) (n .t2) (n .t3) register heard (n .cause)
 
 -- 01: "Entering Idle zeroes all but address and AS."
 unfoldable pub idle : Neighbour
@@ -104,8 +118,8 @@ idle =
     record {
       s = 0;
       r = 0;
-      hello = 0;
-      poll = 0;
+      period1 = 0;
+      period2 = 0;
       t1 = 0;
       t2 = 0;
       t3 = 0;
@@ -127,7 +141,7 @@ waiting n phase cause = withState n phase Unset 0 0 P3 0 P5 0 0 cause
 
 -- 01: "A and B: T1, T2, M set, register and heard 0, t1 = T1, t3 = P5"; "Leaving Up zeroes t2"
 unfoldable pub initialised : Neighbour → ℕ → ℕ → Mode → Neighbour
-initialised n hello poll mode = withState n Down mode hello poll hello 0 P5 0 0 0
+initialised n period1 period2 mode = withState n Down mode period1 period2 period1 0 P5 0 0 0
 
 -- 01: "It sets heard to 1 and t3 to P4."
 unfoldable pub heardFrom : Neighbour → Neighbour
@@ -135,7 +149,7 @@ heardFrom n = withReach (withTimers n (n .t1) (n .t2) P4) (n .phase) (n .registe
 
 -- 01: "shift heard into the register as its lowest bit, drop the highest, clear heard and set t1 = T1"
 unfoldable pub shifted : Neighbour → Neighbour
-shifted n = withReach (withTimers n (n .hello) (n .t2) (n .t3)) (n .phase) ((n .register * 2 + n .heard) % 16) 0
+shifted n = withReach (withTimers n (n .period1) (n .t2) (n .t3)) (n .phase) ((n .register * 2 + n .heard) % 16) 0
 
 -- 01: "Down goes Up"
 unfoldable pub enterUp : Neighbour → Neighbour
@@ -147,4 +161,4 @@ leaveUp n = withReach (withTimers n (n .t1) 0 (n .t3)) Down (n .register) (n .he
 
 -- 01: "S goes up by one, 65,535 to 0, just before each Poll only." "Poll, t2 = T2"
 unfoldable pub polled : Neighbour → Neighbour
-polled n = withNumbers (withTimers n (n .t1) (n .poll) (n .t3)) ((n .s + 1) % 65536) (n .r)
+polled n = withNumbers (withTimers n (n .t1) (n .period2) (n .t3)) ((n .s + 1) % 65536) (n .r)

@@ -54,12 +54,12 @@ abbrev pub larger : ℕ → ℕ → ℕ
 larger a b = cond (leb a b) b a
 
 -- 01: "T1 = larger of 30 and their hello interval, plus 2"
-unfoldable pub helloInterval : ℕ → ℕ
-helloInterval hello = larger P1 hello + 2
+unfoldable pub period1Of : ℕ → ℕ
+period1Of hello = larger P1 hello + 2
 
 -- 01: "T2 = larger of 120 and their poll interval, plus 2"
-unfoldable pub pollInterval : ℕ → ℕ
-pollInterval poll = larger P2 poll + 2
+unfoldable pub period2Of : ℕ → ℕ
+period2Of poll = larger P2 poll + 2
 
 -- 01: "Unacceptable: hello above 120, poll above 480, or both ends passive only."
 unfoldable pub unacceptable : ℕ → ℕ → ℕ → ℕ → Bool
@@ -78,7 +78,7 @@ modeOf capability status own peer =
 unfoldable pub offerOf : Settings → ℕ → ℕ → ℕ → ℕ → Offer
 offerOf g asn status hello poll =
     cond (unacceptable (g .capability) status hello poll) Unacceptable
-    (Acceptable (helloInterval hello) (pollInterval poll) (modeOf (g .capability) status (g .asn) asn))
+    (Acceptable (period1Of hello) (period2Of poll) (modeOf (g .capability) status (g .asn) asn))
 
 -- 01: "With n ones": the ones among the register's four bits
 unfoldable pub onesOf : ℕ → ℕ

@@ -46,9 +46,9 @@ pub struct Neighbour {
     pub s: u16,
     // The number of the last command received, which our responses carry.
     pub r: u16,
-    // 01: T1 and T2.
-    pub hello: u16,
-    pub poll: u16,
+    // 01: T1 and T2, the seconds that t1 and t2 run for.
+    pub period1: u16,
+    pub period2: u16,
     pub t1: u16,
     pub t2: u16,
     pub t3: u16,
@@ -63,7 +63,11 @@ pub struct Neighbour {
 
 // What a Request or a Confirm offers: T1, T2 and M, or nothing that we take.
 pub enum Offer {
-    Acceptable { hello: u16, poll: u16, mode: Mode },
+    Acceptable {
+        period1: u16,
+        period2: u16,
+        mode: Mode,
+    },
     Unacceptable,
 }
 
@@ -100,8 +104,8 @@ pub fn to_idle() -> Neighbour
     Neighbour {
         s: 0,
         r: 0,
-        hello: 0,
-        poll: 0,
+        period1: 0,
+        period2: 0,
         t1: 0,
         t2: 0,
         t3: 0,
@@ -127,8 +131,8 @@ pub fn to_waiting(n: Neighbour, phase: Phase, cause: u8) -> Neighbour
     ensures { λ r. ⌜ r ≡ waiting n phase cause ⌝ }
 {
     Neighbour {
-        hello: 0,
-        poll: 0,
+        period1: 0,
+        period2: 0,
         t1: P3,
         t2: 0,
         t3: P5,
@@ -142,13 +146,13 @@ pub fn to_waiting(n: Neighbour, phase: Phase, cause: u8) -> Neighbour
 }
 
 // What 01's A and B have in common: Down with the intervals and the mode agreed on.
-pub fn initialise(n: Neighbour, hello: u16, poll: u16, mode: Mode) -> Neighbour
-    ensures { λ r. ⌜ r ≡ initialised n hello poll mode ⌝ }
+pub fn initialise(n: Neighbour, period1: u16, period2: u16, mode: Mode) -> Neighbour
+    ensures { λ r. ⌜ r ≡ initialised n period1 period2 mode ⌝ }
 {
     Neighbour {
-        hello,
-        poll,
-        t1: hello,
+        period1,
+        period2,
+        t1: period1,
         t2: 0,
         t3: P5,
         phase: Phase::Down,
@@ -167,7 +171,7 @@ pub fn shift(n: Neighbour) -> Neighbour
     let mut m = n;
     m.register = (((n.register as u16) * 2 + (n.heard as u16)) % 16) as u8;
     m.heard = 0;
-    m.t1 = n.hello;
+    m.t1 = n.period1;
     m
 }
 
@@ -184,7 +188,7 @@ pub fn count_poll(n: Neighbour) -> Neighbour
 {
     let mut m = n;
     m.s = (((n.s as u32) + 1) % 65536) as u16;
-    m.t2 = n.poll;
+    m.t2 = n.period2;
     m
 }
 
@@ -438,8 +442,8 @@ pub fn offer_of(settings: Settings, asn: u16, status: u8, hello: u16, poll: u16)
         return Offer::Unacceptable;
     }
     Offer::Acceptable {
-        hello: max_of(P1, hello) + 2,
-        poll: max_of(P2, poll) + 2,
+        period1: max_of(P1, hello) + 2,
+        period2: max_of(P2, poll) + 2,
         mode: mode_of(settings.capability, status, settings.asn, asn),
     }
 }

@@ -26,7 +26,7 @@ use Rattle.neighbour_machine.specs.declared.Reply.{Reply}
 use Rattle.neighbour_machine.specs.declared.Reply.the-variants.{Nothing, One, Two}
 use Rattle.neighbour_machine.specs.declared.After.{After}
 use Rattle.neighbour_machine.specs.Table.{followed, quiet, answers, says, helloIf, doesA, doesB, ceases, repeatsCease, acquires, stray, onRequest, settles, onConfirm, onRefuse, onCease, onCeaseAck, onHello, onIHeardYou, answersPoll, onPoll, onUpdate, onStart, onStop}
-use Rattle.neighbour_machine.specs.Tick.{expired, repeats, listens, polls, pollsOnEntry, takesT2, pollsInUp, runs, onTick}
+use Rattle.neighbour_machine.specs.Tick.{expired, repeats, listens, polls, pollsOnEntry, takesT2, pollsInUp, tickOn, onTick}
 use Rattle.neighbour_machine.specs.Step.{onMessage, stepOf}
 use Rattle.neighbour_machine.specs.Laws.{short, ourUpdate, maySend, StepSends, NoThird}
 
@@ -212,8 +212,8 @@ module _ (g : Settings) where
   up-sends x e =
       each (x .neighbour .phase) _ _ _ _ _ (roomy-sends x e) (roomy-sends x e) (roomy-sends x e) (t2-sends x e) (roomy-sends x e)
 
-  runs-sends : (n : Neighbour) → Sends (runs g n)
-  unfolding runs
+  runs-sends : (n : Neighbour) → Sends (tickOn g n)
+  unfolding tickOn
   runs-sends n =
       each (n .phase) _ _ _ _ _ (quiet-sends n) (repeats-sends n _ refl) (entry-sends _ (listens-roomy n)) (up-sends _ (listens-roomy n))
       (repeats-sends n _ refl)

@@ -28,7 +28,7 @@ use Rattle.neighbour_machine.specs.declared.Reply.{Reply}
 use Rattle.neighbour_machine.specs.declared.Reply.the-variants.{Nothing, One, Two}
 use Rattle.neighbour_machine.specs.declared.After.{After}
 use Rattle.neighbour_machine.specs.Table.{followed, quiet, answers, says, helloIf, doesA, doesB, ceases, repeatsCease, acquires, stray, onRequest, settles, onConfirm, onRefuse, onCease, onCeaseAck, onHello, onIHeardYou, answersPoll, onPoll, onUpdate, onStart, onStop}
-use Rattle.neighbour_machine.specs.Tick.{expired, repeats, listens, polls, pollsOnEntry, takesT2, pollsInUp, runs, onTick}
+use Rattle.neighbour_machine.specs.Tick.{expired, repeats, listens, polls, pollsOnEntry, takesT2, pollsInUp, tickOn, onTick}
 use Rattle.neighbour_machine.specs.Step.{onMessage, stepOf}
 use Rattle.neighbour_machine.specs.Laws.{isPoll, sendsPoll, brought, isTick, Lawful, StepLawful, IdleIsZero, T2OnlyInUp, ErrorIgnored, UpdateStaysUp}
 
@@ -354,8 +354,8 @@ module _ (g : Settings) where
         (judged-up (λ j. Lawful Up (k .s) (k .r) true (pollsInUp g (says (quiet j) (helloMessage g j))))
         (leaves-up (One _) refl) (stays-up (One _) refl (λ _. refl)))
 
-  runs-lawful : (n : Neighbour) (p : Phase) → isIdle p ≡ false → wellFormed (at n p) ≡ true → Lawful p (n .s) (n .r) true (runs g (at n p))
-  unfolding runs listens shifted withReach withTimers quiet followed under
+  runs-lawful : (n : Neighbour) (p : Phase) → isIdle p ≡ false → wellFormed (at n p) ≡ true → Lawful p (n .s) (n .r) true (tickOn g (at n p))
+  unfolding tickOn listens shifted withReach withTimers quiet followed under
   runs-lawful n Idle i h = never i
   runs-lawful n Acquisition i h = repeats-lawful n Acquisition _ refl i h
   runs-lawful n Down i h =

@@ -26,12 +26,12 @@ use Rattle.neighbour_machine.specs.Step.{stepOf}
 
 -- a neighbour's record: state, S, R, T1, T2, t1, t2, t3, M, register, heard, cause
 unfoldable pub at : Phase → ℕ → ℕ → ℕ → ℕ → ℕ → ℕ → ℕ → Mode → ℕ → ℕ → ℕ → Neighbour
-at phase s r hello poll t1 t2 t3 mode register heard cause =
+at phase s r period1 period2 t1 t2 t3 mode register heard cause =
     record {
       s = s;
       r = r;
-      hello = hello;
-      poll = poll;
+      period1 = period1;
+      period2 = period2;
       t1 = t1;
       t2 = t2;
       t3 = t3;

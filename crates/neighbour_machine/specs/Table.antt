@@ -53,11 +53,11 @@ thenHello g x = helloIf (x .neighbour .mode) g x
 
 -- 01: "A: send Confirm. A and B: T1, T2, M set, .., then Hello if active."
 unfoldable pub doesA : Settings → Neighbour → ℕ → ℕ → Mode → After
-doesA g n hello poll mode =
-    thenHello g (answers (initialised n hello poll mode) (confirmMessage g (initialised n hello poll mode)))
+doesA g n period1 period2 mode =
+    thenHello g (answers (initialised n period1 period2 mode) (confirmMessage g (initialised n period1 period2 mode)))
 
 unfoldable pub doesB : Settings → Neighbour → ℕ → ℕ → Mode → After
-doesB g n hello poll mode = thenHello g (quiet (initialised n hello poll mode))
+doesB g n period1 period2 mode = thenHello g (quiet (initialised n period1 period2 mode))
 
 -- 01: "Cease n: enter Cease, send it with status n, keep n as cause for repeats."
 unfoldable pub ceases : Settings → Neighbour → ℕ → After
@@ -78,17 +78,17 @@ stray g n = quiet n
 -- | Request, acceptable   | Down, A | Down, A | Down, A | Down, A | send Cease |
 -- | Request, unacceptable | send Refuse 6 | Idle | Cease 6 | Cease 6 | send Cease |
 unfoldable pub onRequest : Settings → Neighbour → ℕ → Offer → After
-onRequest g n sequence (Acceptable hello poll mode) =
+onRequest g n sequence (Acceptable period1 period2 mode) =
     under (n .phase)
-    (doesA g (leftIdle sequence) hello poll mode)
-    (doesA g n hello poll mode) (doesA g n hello poll mode) (doesA g n hello poll mode)
+    (doesA g (leftIdle sequence) period1 period2 mode)
+    (doesA g n period1 period2 mode) (doesA g n period1 period2 mode) (doesA g n period1 period2 mode)
     (repeatsCease g n)
 onRequest g n sequence Unacceptable =
     under (n .phase) (answers n (refuseMessage g sequence 6)) (quiet idle) (ceases g n 6) (ceases g n 6) (repeatsCease g n)
 
 -- 01: "Down, B, or Idle if unacceptable"
 unfoldable pub settles : Settings → Neighbour → Offer → After
-settles g n (Acceptable hello poll mode) = doesB g n hello poll mode
+settles g n (Acceptable period1 period2 mode) = doesB g n period1 period2 mode
 settles g n Unacceptable = quiet idle
 
 -- | Confirm | - | Down, B, or Idle if unacceptable | - | - | - |

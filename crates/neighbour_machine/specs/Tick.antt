@@ -47,8 +47,8 @@ unfoldable pub pollsInUp : Settings → After → After
 pollsInUp g x = under (x .neighbour .phase) x x x (takesT2 g x) x
 
 -- what follows once 1 is taken from t3
-unfoldable pub runs : Settings → Neighbour → After
-runs g n =
+unfoldable pub tickOn : Settings → Neighbour → After
+tickOn g n =
     under (n .phase) (quiet n)
     (repeats n (requestMessage g n))
     (pollsOnEntry g (listens g n))
@@ -59,4 +59,4 @@ runs g n =
 unfoldable pub onTick : Settings → Neighbour → After
 onTick g n =
     cond (isIdle (n .phase)) (quiet n)
-    (cond (eqb (n .t3 - 1) 0) (expired g n) (runs g (withTimers n (n .t1) (n .t2) (n .t3 - 1))))
+    (cond (eqb (n .t3 - 1) 0) (expired g n) (tickOn g (withTimers n (n .t1) (n .t2) (n .t3 - 1))))

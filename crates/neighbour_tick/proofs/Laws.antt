@@ -12,7 +12,7 @@ use Rattle.neighbour.specs.Record.{isIdle, withTimers, shifted}
 use Rattle.neighbour.specs.Rules.{judged}
 use Rattle.neighbour_machine.specs.declared.After.{After}
 use Rattle.neighbour_machine.specs.Table.{quiet, answers, helloIf}
-use Rattle.neighbour_machine.specs.Tick.{expired, repeats, listens, polls, takesT2, runs, onTick}
+use Rattle.neighbour_machine.specs.Tick.{expired, repeats, listens, polls, takesT2, tickOn, onTick}
 
 -- a timer at 1 or less reaches 0
 pub reaches : (t : ℕ) → t ≤ 1 → eqb (t - 1) 0 ≡ true
@@ -48,7 +48,7 @@ module _ (n : Neighbour) where
       unfolding onTick
       ticks-last h = rw (e, reaches (n .t3) h)
 
-      pub ticks-on : 1 < n .t3 → runs g (withTimers n (n .t1) (n .t2) (n .t3 - 1)) ≡ onTick g n
+      pub ticks-on : 1 < n .t3 → tickOn g (withTimers n (n .t1) (n .t2) (n .t3 - 1)) ≡ onTick g n
       unfolding onTick
       ticks-on h = rw (e, goes-on (n .t3) h)
 

@@ -1,6 +1,6 @@
 // The tick of one neighbour: 01's paragraph, a function for each part of it.
 ghost use mathlib.Core.Path.{_≡_};
-ghost use Rattle.neighbour_machine.specs.Tick.{expired, repeats, listens, polls, pollsOnEntry, takesT2, pollsInUp, runs, onTick};
+ghost use Rattle.neighbour_machine.specs.Tick.{expired, repeats, listens, polls, pollsOnEntry, takesT2, pollsInUp, tickOn, onTick};
 use message::Message;
 use neighbour::Neighbour;
 use neighbour::P3;
@@ -106,7 +106,7 @@ fn take_t2(settings: Settings, x: After) -> After
 
 // The rest of a tick, once 1 is taken from t3.
 fn run(settings: Settings, n: Neighbour) -> After
-    ensures { λ r. ⌜ r ≡ runs settings n ⌝ }
+    ensures { λ r. ⌜ r ≡ tickOn settings n ⌝ }
 {
     let phase = n.phase;
     match phase {

@@ -81,19 +81,19 @@ pub fn hello_if(mode: Mode, settings: Settings, x: After) -> After
 }
 
 // 01's A: Confirm, and Hello if active.
-fn do_a(settings: Settings, n: Neighbour, hello: u16, poll: u16, mode: Mode) -> After
-    ensures { λ r. ⌜ r ≡ doesA settings n hello poll mode ⌝ }
+fn do_a(settings: Settings, n: Neighbour, period1: u16, period2: u16, mode: Mode) -> After
+    ensures { λ r. ⌜ r ≡ doesA settings n period1 period2 mode ⌝ }
 {
-    let next = neighbour::initialise(n, hello, poll, mode);
+    let next = neighbour::initialise(n, period1, period2, mode);
     let x = answer(next, neighbour_messages::confirm_message(settings, next));
     hello_if(mode, settings, x)
 }
 
 // 01's B: Hello if active.
-fn do_b(settings: Settings, n: Neighbour, hello: u16, poll: u16, mode: Mode) -> After
-    ensures { λ r. ⌜ r ≡ doesB settings n hello poll mode ⌝ }
+fn do_b(settings: Settings, n: Neighbour, period1: u16, period2: u16, mode: Mode) -> After
+    ensures { λ r. ⌜ r ≡ doesB settings n period1 period2 mode ⌝ }
 {
-    let next = neighbour::initialise(n, hello, poll, mode);
+    let next = neighbour::initialise(n, period1, period2, mode);
     hello_if(mode, settings, keep(next))
 }
 
@@ -133,9 +133,11 @@ fn on_request(settings: Settings, n: Neighbour, sequence: u16, offer: Offer) -> 
     ensures { λ r. ⌜ r ≡ onRequest settings n sequence offer ⌝ }
 {
     match offer {
-        Offer::Acceptable { hello, poll, mode } => {
-            on_acceptable(settings, n, sequence, hello, poll, mode)
-        }
+        Offer::Acceptable {
+            period1,
+            period2,
+            mode,
+        } => { on_acceptable(settings, n, sequence, period1, period2, mode) }
         Offer::Unacceptable => on_unacceptable(settings, n, sequence),
     }
 }
@@ -144,18 +146,24 @@ fn on_acceptable(
     settings: Settings,
     n: Neighbour,
     sequence: u16,
-    hello: u16,
-    poll: u16,
+    period1: u16,
+    period2: u16,
     mode: Mode,
 ) -> After
-    ensures { λ r. ⌜ r ≡ onRequest settings n sequence (Offer.Acceptable hello poll mode) ⌝ }
+    ensures { λ r. ⌜ r ≡ onRequest settings n sequence (Offer.Acceptable period1 period2 mode) ⌝ }
 {
     let phase = n.phase;
     match phase {
-        Phase::Idle => do_a(settings, neighbour::leave_idle(sequence), hello, poll, mode),
-        Phase::Acquisition => do_a(settings, n, hello, poll, mode),
-        Phase::Down => do_a(settings, n, hello, poll, mode),
-        Phase::Up => do_a(settings, n, hello, poll, mode),
+        Phase::Idle => do_a(
+            settings,
+            neighbour::leave_idle(sequence),
+            period1,
+            period2,
+            mode,
+        ),
+        Phase::Acquisition => do_a(settings, n, period1, period2, mode),
+        Phase::Down => do_a(settings, n, period1, period2, mode),
+        Phase::Up => do_a(settings, n, period1, period2, mode),
         Phase::Cease => repeat_cease(settings, n),
     }
 }
@@ -191,7 +199,11 @@ fn settle(settings: Settings, n: Neighbour, offer: Offer) -> After
     ensures { λ r. ⌜ r ≡ settles settings n offer ⌝ }
 {
     match offer {
-        Offer::Acceptable { hello, poll, mode } => do_b(settings, n, hello, poll, mode),
+        Offer::Acceptable {
+            period1,
+            period2,
+            mode,
+        } => do_b(settings, n, period1, period2, mode),
         Offer::Unacceptable => keep(neighbour::to_idle()),
     }
 }

@@ -15,7 +15,7 @@ use Rattle.neighbour.specs.declared.Neighbour.{Neighbour}
 use Rattle.neighbour.specs.declared.Offer.{Offer}
 use Rattle.neighbour.specs.declared.Offer.the-variants.{Acceptable, Unacceptable}
 use Rattle.neighbour.specs.Record.{under, isIdle, acquired, idle, waiting, initialised, withState, withNumbers, withTimers, withReach, heardFrom}
-use Rattle.neighbour.specs.Rules.{larger, unacceptable, helloInterval, pollInterval, modeOf, offerOf}
+use Rattle.neighbour.specs.Rules.{larger, unacceptable, period1Of, period2Of, modeOf, offerOf}
 use Rattle.neighbour_wellformed.specs.Formed.{isUnset, within, allZero, idleFormed, timersBelow, timersRun, t2Formed, registerFormed, agreed, intervalsFormed, causeFormed, wellFormed}
 use Rattle.neighbour.proofs.Laws.{larger-fits, hello-fits, poll-fits}
 
@@ -26,7 +26,7 @@ or-true false = refl
 -- a record in a phase that is written out: the record itself where the phase is its own
 abbrev pub at : Neighbour → Phase → Neighbour
 at n phase =
-    withState n phase (n .mode) (n .hello) (n .poll) (n .t1) (n .t2) (n .t3) (n .register) (n .heard) (n .cause)
+    withState n phase (n .mode) (n .period1) (n .period2) (n .t1) (n .t2) (n .t3) (n .register) (n .heard) (n .cause)
 
 -- what Down and Up have in common, as numbers
 pub record Fine (n : Neighbour) : Type 0 where
@@ -36,10 +36,10 @@ pub record Fine (n : Neighbour) : Type 0 where
   pub t3-high : n .t3 ≤ 3600
   pub register-high : n .register ≤ 15
   pub heard-high : n .heard ≤ 1
-  pub hello-low : 32 ≤ n .hello
-  pub hello-high : n .hello ≤ 122
-  pub poll-low : 122 ≤ n .poll
-  pub poll-high : n .poll ≤ 482
+  pub period1-low : 32 ≤ n .period1
+  pub period1-high : n .period1 ≤ 122
+  pub period2-low : 122 ≤ n .period2
+  pub period2-high : n .period2 ≤ 482
   pub causeless : n .cause ≡ 0
 
 -- a record's well-formedness, sentence by sentence
@@ -105,20 +105,20 @@ module _ (n : Neighbour) where
       (leb-true (n .register) 15 (and-left a b k), leb-true (n .heard) 1 (and-right a b k))
 
   interval-numbers : acquired (n .phase) ≡ true → intervalsFormed n ≡ true
-      → (32 ≤ n .hello) × (n .hello ≤ 122) × (122 ≤ n .poll) × (n .poll ≤ 482) × (not (isUnset (n .mode)) ≡ true)
+      → (32 ≤ n .period1) × (n .period1 ≤ 122) × (122 ≤ n .period2) × (n .period2 ≤ 482) × (not (isUnset (n .mode)) ≡ true)
   unfolding intervalsFormed agreed
   interval-numbers e h =
       let k = rw e at h in
-      let a = within 32 122 (n .hello) in
-      let b = within 122 482 (n .poll) in
+      let a = within 32 122 (n .period1) in
+      let b = within 122 482 (n .period2) in
       let m = not (isUnset (n .mode)) in
       let ab = and-left (a && b) m k in
       let ha = and-left a b ab in
       let hb = and-right a b ab in (
-        leb-true 32 (n .hello) (and-left (leb 32 (n .hello)) (leb (n .hello) 122) ha),
-        leb-true (n .hello) 122 (and-right (leb 32 (n .hello)) (leb (n .hello) 122) ha),
-        leb-true 122 (n .poll) (and-left (leb 122 (n .poll)) (leb (n .poll) 482) hb),
-        leb-true (n .poll) 482 (and-right (leb 122 (n .poll)) (leb (n .poll) 482) hb),
+        leb-true 32 (n .period1) (and-left (leb 32 (n .period1)) (leb (n .period1) 122) ha),
+        leb-true (n .period1) 122 (and-right (leb 32 (n .period1)) (leb (n .period1) 122) ha),
+        leb-true 122 (n .period2) (and-left (leb 122 (n .period2)) (leb (n .period2) 482) hb),
+        leb-true (n .period2) 482 (and-right (leb 122 (n .period2)) (leb (n .period2) 482) hb),
         and-right (a && b) m k,
       )
 
@@ -149,7 +149,7 @@ module _ (n : Neighbour) where
 
   interval-ok : acquired (n .phase) ≡ true → Fine n → isUnset (n .mode) ≡ false → intervalsFormed n ≡ true
   unfolding intervalsFormed agreed
-  interval-ok e f m = rw (e, le-leb _ _ (f .hello-low), le-leb _ _ (f .hello-high), le-leb _ _ (f .poll-low), le-leb _ _ (f .poll-high), m)
+  interval-ok e f m = rw (e, le-leb _ _ (f .period1-low), le-leb _ _ (f .period1-high), le-leb _ _ (f .period2-low), le-leb _ _ (f .period2-high), m)
 
   pub down-ok : n .phase ≡ Down → Fine n → n .t2 ≡ 0 → isUnset (n .mode) ≡ false → wellFormed n ≡ true
   unfolding idleFormed t2Formed causeFormed under
@@ -285,7 +285,7 @@ initialised-ok n hello poll mode a b c d m = down-ok (initialised n hello poll m
 pub offer-elim : (g : Settings) (asn status hello poll : ℕ) (P : Offer → Type 0)
     → ((h p : ℕ) (m : Mode) → 32 ≤ h → h ≤ 122 → 122 ≤ p → p ≤ 482 → isUnset m ≡ false → P (Acceptable h p m))
     → P Unacceptable → P (offerOf g asn status hello poll)
-unfolding offerOf helloInterval pollInterval
+unfolding offerOf period1Of period2Of
 offer-elim g asn status hello poll P acc rej =
     cond-elim P (unacceptable (g .capability) status hello poll) _ _ (λ _. rej)
     (λ e.
@@ -306,8 +306,8 @@ unfolding idle idleFormed allZero
 idle-only n h =
     let a = eqb (n .s) 0 in
     let b = eqb (n .r) 0 in
-    let c = eqb (n .hello) 0 in
-    let d = eqb (n .poll) 0 in
+    let c = eqb (n .period1) 0 in
+    let d = eqb (n .period2) 0 in
     let e = eqb (n .t1) 0 in
     let f = eqb (n .t2) 0 in
     let g = eqb (n .t3) 0 in
@@ -327,8 +327,8 @@ idle-only n h =
     rw (
       eqb-true (n .s) 0 (and-left a b hb),
       eqb-true (n .r) 0 (and-right a b hb),
-      eqb-true (n .hello) 0 (and-right (a && b) c hc),
-      eqb-true (n .poll) 0 (and-right (a && b && c) d hd),
+      eqb-true (n .period1) 0 (and-right (a && b) c hc),
+      eqb-true (n .period2) 0 (and-right (a && b && c) d hd),
       eqb-true (n .t1) 0 (and-right (a && b && c && d) e he),
       eqb-true (n .t2) 0 (and-right (a && b && c && d && e) f hf),
       eqb-true (n .t3) 0 (and-right (a && b && c && d && e && f) g hg),

@@ -17,12 +17,12 @@ module _ (n : Neighbour) where
   unfolding registerFormed
   register-last a b c d = rw (le-leb _ _ a, le-leb _ _ b, c, d)
 
-  pub agreed-last : 32 ≤ n .hello → n .hello ≤ 122 → 122 ≤ n .poll → n .poll ≤ 482 → not (isUnset (n .mode)) ≡ agreed n
+  pub agreed-last : 32 ≤ n .period1 → n .period1 ≤ 122 → 122 ≤ n .period2 → n .period2 ≤ 482 → not (isUnset (n .mode)) ≡ agreed n
   unfolding agreed
   agreed-last a b c d = rw (le-leb _ _ a, le-leb _ _ b, le-leb _ _ c, le-leb _ _ d)
 
   pub zero-last :
-      n .s ≡ 0 → n .r ≡ 0 → n .hello ≡ 0 → n .poll ≡ 0 → n .t1 ≡ 0 → n .t2 ≡ 0 → n .t3 ≡ 0
+      n .s ≡ 0 → n .r ≡ 0 → n .period1 ≡ 0 → n .period2 ≡ 0 → n .t1 ≡ 0 → n .t2 ≡ 0 → n .t3 ≡ 0
       → isUnset (n .mode) ≡ true → n .register ≡ 0 → n .heard ≡ 0 → eqb (n .cause) 0 ≡ allZero n
   unfolding allZero
   zero-last a b c d e f g h i j = rw (a, b, c, d, e, f, g, h, i, j)

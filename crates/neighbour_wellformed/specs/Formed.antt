@@ -18,7 +18,7 @@ within low high x = leb low x && leb x high
 -- every number 0 and no mode
 unfoldable pub allZero : Neighbour → Bool
 allZero n =
-    eqb (n .s) 0 && eqb (n .r) 0 && eqb (n .hello) 0 && eqb (n .poll) 0 && eqb (n .t1) 0 && eqb (n .t2) 0 && eqb (n .t3) 0
+    eqb (n .s) 0 && eqb (n .r) 0 && eqb (n .period1) 0 && eqb (n .period2) 0 && eqb (n .t1) 0 && eqb (n .t2) 0 && eqb (n .t3) 0
     && isUnset (n .mode) && eqb (n .register) 0 && eqb (n .heard) 0 && eqb (n .cause) 0
 
 -- 01: "in Idle only address and AS may be non-zero"
@@ -44,12 +44,12 @@ registerFormed n =
 
 -- 01: "T1 is 32 to 122, T2 is 122 to 482 and M active or passive"
 unfoldable pub agreed : Neighbour → Bool
-agreed n = within 32 122 (n .hello) && within 122 482 (n .poll) && not (isUnset (n .mode))
+agreed n = within 32 122 (n .period1) && within 122 482 (n .period2) && not (isUnset (n .mode))
 
 -- 01: "in Down and Up T1 is .., elsewhere all three are 0"
 unfoldable pub intervalsFormed : Neighbour → Bool
 intervalsFormed n =
-    cond (acquired (n .phase)) (agreed n) (eqb (n .hello) 0 && eqb (n .poll) 0 && isUnset (n .mode))
+    cond (acquired (n .phase)) (agreed n) (eqb (n .period1) 0 && eqb (n .period2) 0 && isUnset (n .mode))
 
 -- 01: "cause 5 or 6 in Cease, else 0"
 unfoldable pub causeFormed : Neighbour → Bool

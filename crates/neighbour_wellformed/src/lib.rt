@@ -26,10 +26,10 @@ fn is_zero(n: Neighbour) -> bool
     if n.r != 0 {
         return false;
     }
-    if n.hello != 0 {
+    if n.period1 != 0 {
         return false;
     }
-    if n.poll != 0 {
+    if n.period2 != 0 {
         return false;
     }
     if n.t1 != 0 {
@@ -124,16 +124,16 @@ fn is_register_formed(n: Neighbour) -> bool
 fn is_agreed(n: Neighbour) -> bool
     ensures { λ r. ⌜ r ≡ agreed n ⌝ }
 {
-    if n.hello < 32 {
+    if n.period1 < 32 {
         return false;
     }
-    if 122 < n.hello {
+    if 122 < n.period1 {
         return false;
     }
-    if n.poll < 122 {
+    if n.period2 < 122 {
         return false;
     }
-    if 482 < n.poll {
+    if 482 < n.period2 {
         return false;
     }
     let mode = n.mode;
@@ -147,10 +147,10 @@ fn are_intervals_formed(n: Neighbour) -> bool
     if neighbour::is_acquired(phase) {
         return is_agreed(n);
     }
-    if n.hello != 0 {
+    if n.period1 != 0 {
         return false;
     }
-    if n.poll != 0 {
+    if n.period2 != 0 {
         return false;
     }
     let mode = n.mode;

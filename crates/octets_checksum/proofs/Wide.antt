@@ -11,7 +11,7 @@ use lib.ListN.{length, take, drop, getD, length-drop, length-set, drop-of-length
 use lib.Seq.{getD-drop, drop-drop, take-append-seam, drop-append-seam}
 use Rattle.octets.specs.Numbers.{pairOf, quadOf, word16, word32, Octets}
 use Rattle.octets_checksum.specs.Checksum.{onesSum, blanked, checksumOf, wordTotal, folded, FoldLaws}
-use Rattle.octets_checksum.specs.Wide.{wideTotal, roomy, WideLaws, EveryLength}
+use Rattle.octets_checksum.specs.Wide.{wideTotal, keptSum, WideLaws, EveryLength}
 use Rattle.octets_checksum.proofs.Laws.{six-or-more, fold-positive, fold-sum, folds}
 
 -- ---- the sums of 32-bit and of 16-bit words
@@ -225,16 +225,16 @@ kept-again : (b : Bool) (s n : ℕ) → folded (cond b s (folded s) + n) ≡ fol
 kept-again true s n = refl
 kept-again false s n = fold-again s n
 
-pub roomy-again : (s n : ℕ) → folded (roomy s + n) ≡ folded (s + n)
-unfolding roomy
+pub roomy-again : (s n : ℕ) → folded (keptSum s + n) ≡ folded (s + n)
+unfolding keptSum
 roomy-again s n = kept-again (ltb s _) s n
 
 kept-below : (most s : ℕ) (b : Bool) → ltb s most ≡ b → most ≤ 9223372036854775808 → cond b s (folded s) < 9223372036854775808
 kept-below most s true e h = omega (arith, ltb-true s most e)
 kept-below most s false e h = omega (arith, fold-below s)
 
-pub roomy-below : (s : ℕ) → roomy s < 9223372036854775808
-unfolding roomy
+pub roomy-below : (s : ℕ) → keptSum s < 9223372036854775808
+unfolding keptSum
 roomy-below s = kept-below _ s (ltb s _) refl (omega arith)
 
 -- words taken from the front into the sum
@@ -283,8 +283,8 @@ wide-room m o h =
     let e : length (blanked m) ≡ length m = rw (length-set, length-set) in
     omega (arith, wide-below (blanked m) (blank-octets m o))
 
-roomy-itself : (s : ℕ) → s < 9223372036854775808 → roomy s ≡ s
-unfolding roomy
+roomy-itself : (s : ℕ) → s < 9223372036854775808 → keptSum s ≡ s
+unfolding keptSum
 roomy-itself s h = simp (lt-ltb s _ h)
 
 pub every-length : EveryLength

@@ -18,8 +18,8 @@ wideTotal (a ∷ b ∷ c ∷ []) = quadOf a b c 0
 wideTotal (a ∷ b ∷ c ∷ d ∷ rest) = quadOf a b c d + wideTotal rest
 
 -- what a sum on the way is kept as, so that 64 bits have room for the next words: itself, and folded from 2^63 on
-unfoldable pub roomy : ℕ → ℕ
-roomy sum = cond (ltb sum 9223372036854775808) sum (folded sum)
+unfoldable pub keptSum : ℕ → ℕ
+keptSum sum = cond (ltb sum 9223372036854775808) sum (folded sum)
 
 -- The law that carries the change: the sum of the 32-bit words and that of the 16-bit words agree modulo 65,535 and
 -- are 0 together. So they fold to the same, and the sum of the 32-bit words, folded once, gives 01's checksum of
@@ -35,7 +35,7 @@ pub record WideLaws : Type 0 where
 -- a length that leaves 1, 2 or 3 by 4 the last octets are the upper ones of one more word.
 pub record EveryLength : Type 0 where
   pub unfolded : (message : List ℕ) → Octets message → length message ≤ 2048
-      → (sum : ℕ) → sum ≤ wideTotal (blanked message) → roomy sum ≡ sum
+      → (sum : ℕ) → sum ≤ wideTotal (blanked message) → keptSum sum ≡ sum
   pub equal : (n : ℕ) → n ≤ 2048 → (message : List ℕ) → length message ≡ n → Octets message
       → checksumOf message ≡ 65535 - folded (wideTotal (blanked message))
   pub none : (k : ℕ) → 4 * k ≤ 2048 → (message : List ℕ) → length message ≡ 4 * k → Octets message

@@ -4,7 +4,7 @@ ghost use Prim.Native.Nat.{_+_, _/_, _%_, _<_, _≤_};
 ghost use lib.ListN.{length, drop};
 ghost use Rattle.octets.specs.Numbers.{word16, word32};
 ghost use Rattle.octets_checksum.specs.Checksum.{checksumOf, sealed, folded};
-ghost use Rattle.octets_checksum.specs.Wide.{wideTotal, roomy};
+ghost use Rattle.octets_checksum.specs.Wide.{wideTotal, keptSum};
 
 // The sum of the two 32-bit words at the front of octets.
 fn two_words(octets: &[u8]) -> u64
@@ -62,7 +62,7 @@ fn fold(sum: u64) -> u16
 
 // The sum itself while 64 bits have room for many more words, as in every message; else folded.
 fn with_room(sum: u64) -> u64
-    ensures { λ r. ⌜ r ≡ roomy sum ⌝ }
+    ensures { λ r. ⌜ r ≡ keptSum sum ⌝ }
 {
     if sum < 9223372036854775808 {
         return sum;

@@ -1,13 +1,13 @@
 // Makes the calls that records on standard input name, and writes what each leaves. docs/COMPARISON.md has the format.
 use codec::Meaning;
-use driver_records::Head;
+use driver_records::RecordHead;
 use gateway_state::Outcome;
 use gateway_state::State;
 ghost use mathlib.Core.Path.{_≡_};
 ghost use mathlib.Core.Bool.{true};
 ghost use Prim.Native.Nat.{_*_, _≤_};
 ghost use lib.ListN.{length};
-ghost use Rattle.program_driver.specs.Bounds.{Within};
+ghost use Rattle.program_driver.specs.Bounds.{InBounds};
 
 // What one record leaves for the next.
 struct Turn {
@@ -66,7 +66,7 @@ fn call(
     st: State,
     table: &mut [u32],
     buffer: &mut [u8],
-    head: Head,
+    head: RecordHead,
     octets: &[u8],
     numbers: &[u32],
 ) -> Outcome {
@@ -92,7 +92,7 @@ fn repeat(
     st: State,
     table: &mut [u32],
     buffer: &mut [u8],
-    head: Head,
+    head: RecordHead,
     octets: &[u8],
     numbers: &[u32],
 ) -> Outcome {
@@ -172,8 +172,8 @@ fn lend(buffer: &mut [u8], room: usize, octet: u8)
 }
 
 // Whether the sizes that a record names are within what the driver keeps.
-fn is_within(head: Head) -> bool
-    ensures { λ r. ⌜ (r ≡ true → Within head) ⌝ }
+fn is_within(head: RecordHead) -> bool
+    ensures { λ r. ⌜ (r ≡ true → InBounds head) ⌝ }
 {
     if 4096 < head.octets {
         return false;
@@ -185,7 +185,7 @@ fn is_within(head: Head) -> bool
 }
 
 // The next record's head. Where the input ends, one that asks for more than the driver keeps.
-fn next_head() -> Head {
+fn next_head() -> RecordHead {
     let mut first = [0u8; 32];
     if io::read_full(0, &mut first) < 32 {
         return driver_records::read_head(&[255u8; 32]);
@@ -194,8 +194,8 @@ fn next_head() -> Head {
 }
 
 // A record that hands in a table.
-fn hand_in(st: State, table: &mut [u32; 4096], head: Head) -> Turn
-    requires { ⌜ Within head ⌝ }
+fn hand_in(st: State, table: &mut [u32; 4096], head: RecordHead) -> Turn
+    requires { ⌜ InBounds head ⌝ }
     ensures { λ r. ⌜ r .count ≤ 4096 ⌝ }
 {
     let count = head.numbers as usize;
@@ -209,8 +209,8 @@ fn hand_in(st: State, table: &mut [u32; 4096], head: Head) -> Turn
 }
 
 // The rest of a record, and the buffer as it is lent.
-fn take_rest(head: Head, octets: &mut [u8], numbers: &mut [u32], buffer: &mut [u8; 70000])
-    requires { ⌜ Within head ⌝ }
+fn take_rest(head: RecordHead, octets: &mut [u8], numbers: &mut [u32], buffer: &mut [u8; 70000])
+    requires { ⌜ InBounds head ⌝ }
     requires { ⌜ (length (now octets) ≡ 4096) × (length (now numbers) ≡ 4096) ⌝ }
 {
     take_octets(octets, head.octets as usize);
@@ -223,7 +223,7 @@ fn make(
     st: State,
     table: &mut [u32],
     count: usize,
-    head: Head,
+    head: RecordHead,
     octets: &[u8],
     numbers: &[u32],
     buffer: &mut [u8],
@@ -248,10 +248,10 @@ fn serve(
     st: State,
     table: &mut [u32; 4096],
     count: usize,
-    head: Head,
+    head: RecordHead,
     buffer: &mut [u8; 70000],
 ) -> Turn
-    requires { ⌜ (count ≤ 4096) × Within head ⌝ }
+    requires { ⌜ (count ≤ 4096) × InBounds head ⌝ }
     ensures { λ r. ⌜ r .count ≤ 4096 ⌝ }
 {
     if head.kind == 11 {

@@ -36,7 +36,7 @@ fn read_on(c: Course, fd: i32, name: &[u8], piece: &mut [u8]) -> Course {
 fn go_on(c: Course, line: &mut [u8], table: &mut [u32], piece: &[u8], out: &mut [u8]) -> Course
     requires { ⌜ Rooms (now line) (now table) (now out) ⌝ }
 {
-    let w = recording_course::step(c, line, table, piece, out);
+    let w = recording_course::advance(c, line, table, piece, out);
     let next = w.course;
     recording_course::wrote(next, show(out, w.written))
 }

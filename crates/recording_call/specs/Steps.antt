@@ -4,5 +4,5 @@ use Rattle.gateway_state.specs.declared.Outcome.{Outcome}
 use Rattle.recording_call.specs.declared.Called.{Called}
 
 -- its state and its number, with so many octets of lines
-unfoldable pub toldOf : Outcome → ℕ → Called
-toldOf o written = record { state = o .state; answer = o .answer; written = written }
+unfoldable pub calledWith : Outcome → ℕ → Called
+calledWith o written = record { state = o .state; answer = o .answer; written = written }

@@ -14,16 +14,16 @@ unfoldable pub lent : List ℕ
 lent = zeros 2048
 
 -- the address of the neighbour that a call is about
-unfoldable pub addressOf : Call → ℕ
-addressOf (add a asn) = a
-addressOf (remove a) = a
-addressOf (happen event a buffer) = a
-addressOf (receive a o home buffer) = a
-addressOf (listing buffer) = 0
+unfoldable pub addressedTo : Call → ℕ
+addressedTo (add a asn) = a
+addressedTo (remove a) = a
+addressedTo (happen event a buffer) = a
+addressedTo (receive a o home buffer) = a
+addressedTo (listing buffer) = 0
 
 -- its replies, those of a refused message too
 unfoldable pub callText : Call → Gateway → List ℕ
-callText call b = repliesText (addressOf call) (seenOf call b)
+callText call b = repliesText (addressedTo call) (seenOf call b)
 
 -- the state that it leaves, its number, and how many octets are shown
 unfoldable pub calledOf : Call → Gateway → Called

@@ -9,9 +9,9 @@ ghost use lib.ListN.{length};
 ghost use Rattle.octets.specs.Buffer.{over};
 ghost use Rattle.text_values.specs.Hex.{isHex, hexOctets};
 ghost use Rattle.model.specs.Model.{add, remove, start, stop, tick, receive};
-ghost use Rattle.model.specs.Theorem.{tableAfter};
+ghost use Rattle.model.specs.Theorem.{tableLeft};
 ghost use Rattle.recording_call.specs.Told.{lent, callText, calledOf, on};
-ghost use Rattle.recording_call.specs.Steps.{toldOf};
+ghost use Rattle.recording_call.specs.Steps.{calledWith};
 
 // What a call leaves: the state, its number, and how many octets of lines were written.
 pub struct Called {
@@ -22,7 +22,7 @@ pub struct Called {
 
 // What is left of an outcome once its replies are written.
 fn told(o: Outcome, written: usize) -> Called
-    ensures { λ r. ⌜ r ≡ toldOf o written ⌝ }
+    ensures { λ r. ⌜ r ≡ calledWith o written ⌝ }
 {
     let st = o.state;
     Called {
@@ -47,7 +47,7 @@ pub fn remove_neighbour(st: State, address: u32) -> Called
 pub fn start_neighbour(st: State, table: &mut [u32], out: &mut [u8], address: u32) -> Called
     requires { ⌜ 5000 ≤ length (now out) ⌝ }
     ensures { λ r. ⌜ r ≡ calledOf (start address lent) (on st (now (table .entry))) ⌝ }
-    ensures { λ _. ⌜ now (table .exit) ≡ tableAfter (start address lent) (on st (now (table .entry))) ⌝ }
+    ensures { λ _. ⌜ now (table .exit) ≡ tableLeft (start address lent) (on st (now (table .entry))) ⌝ }
     ensures { λ _. ⌜ now (out .exit) ≡ over (callText (start address lent) (on st (now (table .entry)))) (now (out .entry)) ⌝ }
 {
     let mut reply = [0u8; 2048];
@@ -59,7 +59,7 @@ pub fn start_neighbour(st: State, table: &mut [u32], out: &mut [u8], address: u3
 pub fn stop_neighbour(st: State, table: &mut [u32], out: &mut [u8], address: u32) -> Called
     requires { ⌜ 5000 ≤ length (now out) ⌝ }
     ensures { λ r. ⌜ r ≡ calledOf (stop address lent) (on st (now (table .entry))) ⌝ }
-    ensures { λ _. ⌜ now (table .exit) ≡ tableAfter (stop address lent) (on st (now (table .entry))) ⌝ }
+    ensures { λ _. ⌜ now (table .exit) ≡ tableLeft (stop address lent) (on st (now (table .entry))) ⌝ }
     ensures { λ _. ⌜ now (out .exit) ≡ over (callText (stop address lent) (on st (now (table .entry)))) (now (out .entry)) ⌝ }
 {
     let mut reply = [0u8; 2048];
@@ -71,7 +71,7 @@ pub fn stop_neighbour(st: State, table: &mut [u32], out: &mut [u8], address: u32
 pub fn tick_neighbour(st: State, table: &mut [u32], out: &mut [u8], address: u32) -> Called
     requires { ⌜ 5000 ≤ length (now out) ⌝ }
     ensures { λ r. ⌜ r ≡ calledOf (tick address lent) (on st (now (table .entry))) ⌝ }
-    ensures { λ _. ⌜ now (table .exit) ≡ tableAfter (tick address lent) (on st (now (table .entry))) ⌝ }
+    ensures { λ _. ⌜ now (table .exit) ≡ tableLeft (tick address lent) (on st (now (table .entry))) ⌝ }
     ensures { λ _. ⌜ now (out .exit) ≡ over (callText (tick address lent) (on st (now (table .entry)))) (now (out .entry)) ⌝ }
 {
     let mut reply = [0u8; 2048];
@@ -90,7 +90,7 @@ pub fn hear_neighbour(
 ) -> Called
     requires { ⌜ (isHex (now digits) ≡ true) × (length (now digits) ≤ 4098) × (5000 ≤ length (now out)) ⌝ }
     ensures { λ r. ⌜ r ≡ calledOf (receive address (hexOctets (now (digits .entry))) [] lent) (on st (now (table .entry))) ⌝ }
-    ensures { λ _. ⌜ now (table .exit) ≡ tableAfter (receive address (hexOctets (now (digits .entry))) [] lent) (on st (now (table .entry))) ⌝ }
+    ensures { λ _. ⌜ now (table .exit) ≡ tableLeft (receive address (hexOctets (now (digits .entry))) [] lent) (on st (now (table .entry))) ⌝ }
     ensures { λ _. ⌜ now (out .exit) ≡ over (callText (receive address (hexOctets (now (digits .entry))) [] lent) (on st (now (table .entry)))) (now (out .entry)) ⌝ }
 {
     let mut octets = [0u8; 2049];

@@ -14,7 +14,7 @@ use Rattle.octets.specs.Buffer.{over}
 use Rattle.update_rows.specs.Storing.{zeros}
 use Rattle.recording_player.specs.declared.Player.{Player}
 use Rattle.recording_player.specs.Player.{beginning, Step, roomy, callChecks, given, tickStep, freeStep, turnChecked, turnStep, onlyHolds, heldOf, closeStep}
-use Rattle.recording_theorem.specs.Theorem.{Deck, Lent, start, stepOn, afterTurn, Driven, drive, isDone, isPlenty, plenty}
+use Rattle.recording_theorem.specs.Theorem.{Deck, Lent, freshDeck, stepOn, afterTurn, Driven, drive, isDone, isPlenty, plenty}
 use Rattle.recording_theorem.proofs.Turns.{used-within}
 use Rattle.recording_theorem.proofs.Ends.{every-recording-ends}
 use Rattle.recording_course.specs.declared.Stage.{Stage}
@@ -73,7 +73,7 @@ module _ (out : List ℕ) (room : roomy out ≡ true) (recording : List ℕ) whe
     lents : List Lent
     many : turns ≤ plenty lents
     text : List ℕ
-    same : drive lents (start (zeros 4118)) recording ≡ record { deck = d; rest = rest; text = text }
+    same : drive lents (freshDeck (zeros 4118)) recording ≡ record { deck = d; rest = rest; text = text }
 
   lent-plenty : (n : ℕ) → 0 < n → isPlenty (record { size = n; out = out }) ≡ true
   unfolding isPlenty
@@ -96,7 +96,7 @@ module _ (out : List ℕ) (room : roomy out ≡ true) (recording : List ℕ) whe
           lents = t .lents ++ (lent ∷ []);
           many = omega (arith, t .many, plenty-more (t .lents) lent (lent-plenty n k));
           text = t .text ++ s .text;
-          same = drive-onward (t .lents) lent (start (zeros 4118)) recording
+          same = drive-onward (t .lents) lent (freshDeck (zeros 4118)) recording
               ∙ ap (onward lent) (t .same)
               ∙ (λ i. record {
                 deck = record { player = (e i) .player; line = f i; table = (e i) .table };
@@ -318,7 +318,7 @@ module _ (ends : Bool) (out : List ℕ) (room : roomy out ≡ true) (recording :
 
 course-ends : (ends : Bool) (out buffer : List ℕ) (pieces : List (List ℕ)) (room : roomy out ≡ true) → every isSome pieces ≡ true
     → Done ends out room (join pieces) (hostOf buffer pieces)
-unfolding hostOf setOut start drive
+unfolding hostOf setOut freshDeck drive
 course-ends ends out buffer pieces room e =
     goes ends out room (join pieces) (86401 * length (join pieces)) .reads 0 beginning 0 0 _ _ buffer pieces [] e (omega arith)
     (record { lents = []; many = omega arith; text = []; same = refl })

@@ -17,7 +17,7 @@ use Rattle.update_rows.proofs.Laws.{zeros-length}
 use Rattle.recording_player.specs.declared.Player.{Player}
 use Rattle.recording_player.specs.Player.{beginning, Step, roomy, lineFits, turnStep, heldOf, closeStep, finishStep}
 use Rattle.recording_theorem.specs.Output.{outputOf}
-use Rattle.recording_theorem.specs.Theorem.{Deck, Lent, start, stepOn, afterTurn, Driven, writing, drive, isDone, closed, finished, written}
+use Rattle.recording_theorem.specs.Theorem.{Deck, Lent, freshDeck, stepOn, afterTurn, Driven, writing, drive, isDone, closed, finished, allText}
 use Rattle.recording_theorem.proofs.Turns.{used-within}
 use Rattle.recording_theorem.proofs.Playing.{recordings}
 use Rattle.recording_course.specs.declared.Stage.{Stage}
@@ -100,7 +100,7 @@ module _ (ends : Bool) (recording : List ℕ) where
   -- the turns so far
   record Sofar (d : Deck) (rest text : List ℕ) : Type 0 where
     lents : List Lent
-    same : drive lents (start (zeros 4118)) recording ≡ record { deck = d; rest = rest; text = text }
+    same : drive lents (freshDeck (zeros 4118)) recording ≡ record { deck = d; rest = rest; text = text }
 
   -- close was made behind the last turn
   record Closed (p : Player) (table text : List ℕ) : Type 0 where
@@ -215,7 +215,7 @@ module _ (ends : Bool) (recording : List ℕ) where
           let q = take-append-seam rest (join coming) in
           record {
             lents = t .lents ++ (record { size = length rest; out = out } ∷ []);
-            same = drive-onward (t .lents) (record { size = length rest; out = out }) (start (zeros 4118)) recording
+            same = drive-onward (t .lents) (record { size = length rest; out = out }) (freshDeck (zeros 4118)) recording
                 ∙ ap (onward (record { size = length rest; out = out })) (t .same)
                 ∙ (λ i. record {
                   deck = record {
@@ -270,7 +270,7 @@ module _ (ends : Bool) (recording : List ℕ) where
 
     list-step : (out : List ℕ) → roomy out ≡ true → At Listing p from to line table piece coming text
         → Stands (showing (host Listing p from to line table piece coming text) (endedBy (course Listing) (finishStep out p table) Over line table))
-    unfolding showing wroteOf endedBy finished written isDone
+    unfolding showing wroteOf endedBy finished allText isDone
     list-step out room s =
         let k = s .0 in
         let r = k .sofar in
@@ -279,7 +279,7 @@ module _ (ends : Bool) (recording : List ℕ) where
           whole = λ few e.
               (λ i. (k .text-as i) ++ (finishStep out (k .player i) (k .table-as i)) .text)
               ∙ append-assoc (k .before) ((closed (k .deck)) .text) last
-              ∙ ap (written out) (sym (r .same))
+              ∙ ap (allText out) (sym (r .same))
               ∙ recordings .played (zeros 4118) recording (r .lents) zeros-fit (ap isDone (r .same) ∙ k .none) .output few out room;
           unlisted = λ e. absurd (true≢false (sym (s .1) ∙ e));
         }
@@ -328,7 +328,7 @@ module _ (ends : Bool) (recording : List ℕ) where
 
 -- before the first read
 set-out : (ends : Bool) (buffer : List ℕ) (pieces : List (List ℕ)) → every isSome pieces ≡ true → Stands ends (join pieces) (hostOf buffer pieces)
-unfolding hostOf setOut start drive beginning
+unfolding hostOf setOut freshDeck drive beginning
 set-out ends buffer pieces e = (record { lents = []; same = refl }, (refl, e))
 
 module _ (ends : Bool) (pieces outs : List (List ℕ)) (buffer : List ℕ) (some : every isSome pieces ≡ true) (room : every roomy outs ≡ true) where

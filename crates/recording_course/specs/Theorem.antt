@@ -12,7 +12,7 @@ use Rattle.update_rows.specs.Storing.{zeros}
 use Rattle.model.specs.Theorem.{emptyTable}
 use Rattle.recording_player.specs.Player.{roomy}
 use Rattle.recording_theorem.specs.Output.{outputOf}
-use Rattle.recording_theorem.specs.Theorem.{Lent, start, drive, isDone}
+use Rattle.recording_theorem.specs.Theorem.{Lent, freshDeck, drive, isDone}
 use Rattle.recording_course.specs.declared.Course.{Course}
 use Rattle.recording_course.specs.Course.{isRead, isOver, setOut, givenOf, wroteOf, Stepped, courseStep}
 
@@ -71,8 +71,8 @@ isSome octets = not (eqb (length octets) 0)
 -- what the player's turns write, once nothing of the recording is left and no tick is due; neither close nor listing
 pub record Unlisted (recording text : List ℕ) : Type 0 where
   pub lents : List Lent
-  pub done : isDone (drive lents (start (zeros 4118)) recording) ≡ true
-  pub same : text ≡ (drive lents (start (zeros 4118)) recording) .text
+  pub done : isDone (drive lents (freshDeck (zeros 4118)) recording) ≡ true
+  pub same : text ≡ (drive lents (freshDeck (zeros 4118)) recording) .text
 
 pub record Courses : Type 0 where
   -- the recording was read to its end: what it should write was written, all of it; lines are counted in 64 bits

@@ -222,7 +222,7 @@ fn stay(c: Course) -> Went
 }
 
 // One step: a turn of the player, its close or its listing. Where a read comes next or nothing, none.
-pub fn step(c: Course, line: &mut [u8], table: &mut [u32], piece: &[u8], out: &mut [u8]) -> Went
+pub fn advance(c: Course, line: &mut [u8], table: &mut [u32], piece: &[u8], out: &mut [u8]) -> Went
     ensures { λ r. ⌜ r ≡ wentOf (courseStep (now (out .entry)) c (now (line .entry)) (now (table .entry)) (now (piece .entry))) ⌝ }
     ensures { λ _. ⌜ now (line .exit) ≡ (courseStep (now (out .entry)) c (now (line .entry)) (now (table .entry)) (now (piece .entry))) .line ⌝ }
     ensures { λ _. ⌜ now (table .exit) ≡ (courseStep (now (out .entry)) c (now (line .entry)) (now (table .entry)) (now (piece .entry))) .table ⌝ }

@@ -15,12 +15,12 @@ use Rattle.text.specs.Text.{text, decimal, dotted}
 use Rattle.text.proofs.Laws.{decimal-most, dotted-length}
 use Rattle.text_values.specs.declared.Number.{Number}
 use Rattle.text_values.specs.declared.Number.the-variants.{Bad, Is}
-use Rattle.text_values.specs.Places.{placeOf, startsWith}
+use Rattle.text_values.specs.Places.{indexOf, startsWith}
 use Rattle.text_values.specs.Numbers.{whenNumber, decimalOf, dottedOf}
 use Rattle.text_values.specs.Hex.{hexText, isHex, hexOctets}
 use Rattle.text_values.proofs.Readings.{decimals, addresses, hexes, hex-half, slash-place, never, place-found}
 use Rattle.recording_lines.specs.Lines.{behind, ownAsOf, ownOf, capabilityOf, netOf, Event, bad, add, remove, start, stop, tick, rx, alone, slashed, addEvent, tickEvent, rxEvent, eventOf}
-use Rattle.recording_lines.specs.Claims.{eventText, isAddress, inRange, isGood, Events, Setting, Settings}
+use Rattle.recording_lines.specs.Claims.{eventText, isAddress, inRange, isGood, Events, Setting, SettingLines}
 
 -- ---- behind a key
 
@@ -129,7 +129,7 @@ module _ (line : List ℕ) where
       → ((a : ℕ) (rest : List ℕ) → value ≡ dotted a ++ (text "/" ++ rest) → isAddress a ≡ true → Told line (event a rest)) → Told line (slashed event value)
   unfolding slashed text
   told-slashed event value f =
-      let i = placeOf 47 value in
+      let i = indexOf 47 value in
       cond-elim (Told line) (ltb i (length value)) _ bad
       (λ h. told-number (dottedOf (take i value)) (λ a. event a (drop (suc i) value)) (λ a q.
       let found = ltb-true i (length value) h in
@@ -255,7 +255,7 @@ address-setting key h =
     setting key dottedOf dotted 4294967295 h (λ n h. addresses .back n (omega arith))
     (λ n t e. let r = addresses .only n t e in (r .0, omega arith)) (λ n h. dotted-length n)
 
-pub settings : Settings
+pub settings : SettingLines
 unfolding ownAsOf ownOf capabilityOf netOf text
 settings =
     record {

@@ -13,7 +13,7 @@ use Rattle.checks.proofs.Laws.{and-right}
 use Rattle.text.specs.Text.{text}
 use Rattle.text_values.specs.declared.Number.{Number}
 use Rattle.text_values.specs.declared.Number.the-variants as N
-use Rattle.text_values.specs.Places.{placeOf, startsWith}
+use Rattle.text_values.specs.Places.{indexOf, startsWith}
 use Rattle.text_values.specs.Numbers.{whenNumber, decimalOf, dottedOf}
 use Rattle.text_values.specs.Hex.{isHex}
 use Rattle.recording_lines.specs.declared.Front.{Front}
@@ -52,7 +52,7 @@ whenFront (F.At a next) some = some a next
 by-front : (event : ℕ → List ℕ → Event) (value : List ℕ) → slashed event value ≡ whenFront (frontOf value) (λ a next. event a (drop next value))
 unfolding slashed frontOf whenNumber
 by-front event value =
-    go (ltb (placeOf 47 value) (length value)) (dottedOf (take (placeOf 47 value) value)) (suc (placeOf 47 value))
+    go (ltb (indexOf 47 value) (length value)) (dottedOf (take (indexOf 47 value) value)) (suc (indexOf 47 value))
   where
     go : (b : Bool) (n : Number) (next : ℕ)
         → cond b (whenNumber n bad (λ a. event a (drop next value))) bad
@@ -61,7 +61,7 @@ by-front event value =
     go true N.Bad next = refl
     go false n next = refl
 
-module _ (value : List ℕ) (slash : ℕ) (p : slash ≡ placeOf 47 value) where
+module _ (value : List ℕ) (slash : ℕ) (p : slash ≡ indexOf 47 value) where
   pub no-slash : length value ≤ slash → F.Bad ≡ frontOf value
   unfolding frontOf
   no-slash h = rw (← p, le-ltb slash (length value) h)
@@ -85,13 +85,13 @@ module _ (event : ℕ → List ℕ → Event) (value : List ℕ) where
 -- the index behind the slash is within the value
 pub front-fits : (value : List ℕ) (a next : ℕ) → frontOf value ≡ F.At a next → next ≤ length value
 unfolding frontOf whenNumber
-front-fits value a next e = go (ltb (placeOf 47 value) (length value)) refl (dottedOf (take (placeOf 47 value) value)) e
+front-fits value a next e = go (ltb (indexOf 47 value) (length value)) refl (dottedOf (take (indexOf 47 value) value)) e
   where
-    go : (b : Bool) → ltb (placeOf 47 value) (length value) ≡ b → (n : Number)
-        → cond b (whenNumber n F.Bad (λ a. F.At a (suc (placeOf 47 value)))) F.Bad ≡ F.At a next → next ≤ length value
+    go : (b : Bool) → ltb (indexOf 47 value) (length value) ≡ b → (n : Number)
+        → cond b (whenNumber n F.Bad (λ a. F.At a (suc (indexOf 47 value)))) F.Bad ≡ F.At a next → next ≤ length value
     go true h (N.Is m) e =
-        let k = ltb-true (placeOf 47 value) (length value) h in
-        let q : suc (placeOf 47 value) ≡ next = cc in omega arith
+        let k = ltb-true (indexOf 47 value) (length value) h in
+        let q : suc (indexOf 47 value) ≡ next = cc in omega arith
     go true h N.Bad e = let z : _≡_ {A = ℕ} 0 1 = cc in absurd (omega arith)
     go false h n e = let z : _≡_ {A = ℕ} 0 1 = cc in absurd (omega arith)
 

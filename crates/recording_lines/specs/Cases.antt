@@ -70,7 +70,7 @@ badLines =
     ∷ (text "stop=128.9.0.5" ++ (13 ∷ []))
     ∷ []
 
-pub record Cases : Type 0 where
+pub record LineCases : Type 0 where
   pub good : map eventOf goodLines ≡ theirEvents
   pub bad : every (λ line. not (isGood (eventOf line))) badLines ≡ true
   -- 2,049 octets, and one more

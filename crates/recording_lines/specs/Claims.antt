@@ -59,7 +59,7 @@ pub record Setting (read : List ℕ → Number) (key : List ℕ) (value : ℕ �
   pub range : (n : ℕ) (line : List ℕ) → read line ≡ Is n → n ≤ most
   pub longest : (n : ℕ) (line : List ℕ) → read line ≡ Is n → length line ≤ 4117
 
-pub record Settings : Type 0 where
+pub record SettingLines : Type 0 where
   pub own-as : Setting ownAsOf (text "ownas=") decimal 65535
   pub own : Setting ownOf (text "own=") dotted 4294967295
   pub capability : Setting capabilityOf (text "cap=") decimal 255

@@ -7,7 +7,7 @@ use lib.ListN.{length, take, drop}
 use Rattle.text.specs.Text.{text}
 use Rattle.text_values.specs.declared.Number.{Number}
 use Rattle.text_values.specs.declared.Number.the-variants.{Bad}
-use Rattle.text_values.specs.Places.{placeOf, startsWith}
+use Rattle.text_values.specs.Places.{indexOf, startsWith}
 use Rattle.text_values.specs.Numbers.{whenNumber, decimalOf, dottedOf}
 use Rattle.text_values.specs.Hex.{isHex, hexOctets}
 
@@ -50,8 +50,8 @@ alone event value = whenNumber (dottedOf value) bad event
 -- "(address, slash, ..)"
 unfoldable pub slashed : (ℕ → List ℕ → Event) → List ℕ → Event
 slashed event value =
-    cond (ltb (placeOf 47 value) (length value))
-    (whenNumber (dottedOf (take (placeOf 47 value) value)) bad (λ a. event a (drop (suc (placeOf 47 value)) value)))
+    cond (ltb (indexOf 47 value) (length value))
+    (whenNumber (dottedOf (take (indexOf 47 value) value)) bad (λ a. event a (drop (suc (indexOf 47 value)) value)))
     bad
 
 -- "(address, slash, AS)"

@@ -4,7 +4,7 @@ use mathlib.Core.Bool.{Bool, true, cond, _&&_}
 use mathlib.Core.List.{List}
 use lib.Dec.{leb, ltb}
 use lib.ListN.{length, take, drop}
-use Rattle.text_values.specs.Places.{placeOf}
+use Rattle.text_values.specs.Places.{indexOf}
 use Rattle.text_values.specs.Numbers.{whenNumber, dottedOf}
 use Rattle.text_values.specs.Hex.{isHex}
 use Rattle.recording_lines.specs.declared.Front.{Front}
@@ -15,8 +15,8 @@ use Rattle.recording_lines.specs.declared.Read.the-variants as R
 -- the address before the first slash, and the index behind that
 unfoldable pub frontOf : List ℕ → Front
 frontOf value =
-    cond (ltb (placeOf 47 value) (length value))
-    (whenNumber (dottedOf (take (placeOf 47 value) value)) F.Bad (λ a. F.At a (suc (placeOf 47 value))))
+    cond (ltb (indexOf 47 value) (length value))
+    (whenNumber (dottedOf (take (indexOf 47 value) value)) F.Bad (λ a. F.At a (suc (indexOf 47 value))))
     F.Bad
 
 -- the message of an event stands on the line, as hex of at most 2,049 octets

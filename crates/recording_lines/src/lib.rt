@@ -70,7 +70,7 @@ pub fn net(line: &[u8]) -> Number
 fn read_front(value: &[u8]) -> Front
     ensures { λ r. ⌜ r ≡ frontOf (now (value .entry)) ⌝ }
 {
-    let slash = text_values::place(value, 47);
+    let slash = text_values::index_of(value, 47);
     if value.len() <= slash {
         return Front::Bad;
     }

@@ -25,7 +25,7 @@ use Rattle.recording_bad_line.specs.BadLine.{badText}
 use Rattle.listing_lines.specs.Lines.{listingText}
 use Rattle.listing_lines.specs.Listing.{entries, listingChecks, listingOutcome, listingBuffer}
 use Rattle.model.specs.Model as M
-use Rattle.model.specs.Theorem.{outcomeOf, tableAfter, bufferAfter, seenOf}
+use Rattle.model.specs.Theorem.{outcomeOf, tableLeft, bufferLeft, seenOf}
 use Rattle.recording_call.specs.declared.Called.{Called}
 use Rattle.recording_call.specs.Told.{lent, txText, repliesText, callText, calledOf, on}
 use Rattle.text.specs.Text.{text}
@@ -371,18 +371,18 @@ bad-made p table r out new room h k =
 module _ (p next : Player) (n : next ≡ nextLine p) (table after : List ℕ) (k : Called) (r : Told) (out new : List ℕ) where
   pub call-made : (call : M.Call)
       → k ≡ calledOf call (on (p .state) table) → r ≡ carriedTurn next k
-      → after ≡ tableAfter call (on (p .state) table) → new ≡ over (callText call (on (p .state) table)) out → Made (callStep (nextLine p) table call) r after out new
+      → after ≡ tableLeft call (on (p .state) table) → new ≡ over (callText call (on (p .state) table)) out → Made (callStep (nextLine p) table call) r after out new
   unfolding callStep carriedTurn calledOf toldOf nextLine
   call-made call e f h t = (f ∙ ap (λ (q : Player). carriedTurn q k) n ∙ ap (carriedTurn (nextLine p)) e, (h, t))
 
 module _ (p next : Player) (n : next ≡ nextLine p) (table : List ℕ) (k : Called) (r : Told) (out : List ℕ) where
   -- add and remove are silent, and leave the table
   pub add-made : (a asn : ℕ) → k ≡ calledOf (M.add a asn) (on (p .state) table) → r ≡ carriedTurn next k → Made (callStep (nextLine p) table (M.add a asn)) r table out out
-  unfolding tableAfter callText repliesText seenOf outcomeOf bufferAfter addOf silentOf on txText over
+  unfolding tableLeft callText repliesText seenOf outcomeOf bufferLeft addOf silentOf on txText over
   add-made a asn e f = call-made p next n table table k r out out (M.add a asn) e f refl refl
 
   pub remove-made : (a : ℕ) → k ≡ calledOf (M.remove a) (on (p .state) table) → r ≡ carriedTurn next k → Made (callStep (nextLine p) table (M.remove a)) r table out out
-  unfolding tableAfter callText repliesText seenOf outcomeOf bufferAfter removeOf silentOf on txText over
+  unfolding tableLeft callText repliesText seenOf outcomeOf bufferLeft removeOf silentOf on txText over
   remove-made a e f = call-made p next n table table k r out out (M.remove a) e f refl refl
 
 -- what an event is, by the answer of its reader
@@ -431,13 +431,13 @@ rx-stands read line a at e h =
 pub rx-made : (read : Read) (line : List ℕ) (a at : ℕ) → read ≡ R.Receive a at → (digits : List ℕ) → digits ≡ drop at line
     → (p next : Player) → next ≡ nextLine p → (table after : List ℕ) (k : Called) (r : Told) (out new : List ℕ)
     → k ≡ calledOf (M.receive a (hexOctets digits) [] lent) (on (p .state) table) → r ≡ carriedTurn next k
-    → after ≡ tableAfter (M.receive a (hexOctets digits) [] lent) (on (p .state) table)
+    → after ≡ tableLeft (M.receive a (hexOctets digits) [] lent) (on (p .state) table)
     → new ≡ over (callText (M.receive a (hexOctets digits) [] lent) (on (p .state) table)) out → Made (eventStep p table (meant read line)) r after out new
 rx-made read line a at e digits d p next n table after k r out new h f t u =
     made-as out (event-rx p table read line a at e)
     (call-made p next n table after k r out new (M.receive a (hexOctets (drop at line)) [] lent)
     (h ∙ ap (λ (l : List ℕ). calledOf (M.receive a (hexOctets l) [] lent) (on (p .state) table)) d) f
-    (t ∙ ap (λ (l : List ℕ). tableAfter (M.receive a (hexOctets l) [] lent) (on (p .state) table)) d)
+    (t ∙ ap (λ (l : List ℕ). tableLeft (M.receive a (hexOctets l) [] lent) (on (p .state) table)) d)
     (u ∙ ap (λ (l : List ℕ). over (callText (M.receive a (hexOctets l) [] lent) (on (p .state) table)) out) d))
 
 -- ---- lines and ticks
@@ -494,7 +494,7 @@ module _ (p : Player) (table out : List ℕ) (r : Told) (refusal : ℕ) (e : ref
 
   pub tick-made : refusal ≡ 0 → (q : Player) → q ≡ due p (p .address) (p .ticks - 1)
       → (k : Called) (after new : List ℕ) → k ≡ calledOf (M.tick (p .address) lent) (on (p .state) table) → r ≡ carriedTurn q k
-      → after ≡ tableAfter (M.tick (p .address) lent) (on (p .state) table) → new ≡ over (callText (M.tick (p .address) lent) (on (p .state) table)) out
+      → after ≡ tableLeft (M.tick (p .address) lent) (on (p .state) table) → new ≡ over (callText (M.tick (p .address) lent) (on (p .state) table)) out
       → Made ticked r after out new
   unfolding tickStep callStep carriedTurn calledOf toldOf due
   tick-made z q d k after new c f a t =
@@ -623,7 +623,7 @@ module _ (out : List ℕ) (p : Player) (table : List ℕ) where
   pub finish-listed : p .broken ≡ false → 4 ≤ p .lines → (o : Outcome) (new : List ℕ)
       → o ≡ listingOutcome (p .state) table out → new ≡ listingBuffer (p .state) table out
       → Taken (finishStep out p table) record { player = p; answer = o .answer; used = 0; written = o .first } out new
-  unfolding finishStep listedIn seenOf outcomeOf bufferAfter on listingOutcome listingBuffer ifOk toldOf
+  unfolding finishStep listedIn seenOf outcomeOf bufferLeft on listingOutcome listingBuffer ifOk toldOf
   finish-listed b h o new e f =
       let checks = listingChecks (p .state) table out in
       let l = listed-as (eqb checks 0) checks (p .state) (listingText (entries (p .state) table)) out o new e f in

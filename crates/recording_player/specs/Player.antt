@@ -18,7 +18,7 @@ use Rattle.recording_lines.specs.Lines.{Event, bad, add, remove, start, stop, t
 use Rattle.recording_gather.specs.Gathering.{gathered, lineAfter, lineHeld}
 use Rattle.recording_bad_line.specs.BadLine.{badText, oneMore}
 use Rattle.model.specs.Model as M
-use Rattle.model.specs.Theorem.{Gateway, outcomeOf, tableAfter, seenOf}
+use Rattle.model.specs.Theorem.{Gateway, outcomeOf, tableLeft, seenOf}
 use Rattle.recording_call.specs.Told.{lent, callText, on}
 use Rattle.recording_player.specs.declared.Player.{Player}
 use Rattle.recording_player.specs.declared.Told.{Told}
@@ -218,7 +218,7 @@ unfoldable pub callStep : Player → List ℕ → M.Call → Step
 callStep p table call =
     record {
       player = having p ((outcomeOf call (on (p .state) table)) .state);
-      table = tableAfter call (on (p .state) table);
+      table = tableLeft call (on (p .state) table);
       answer = (outcomeOf call (on (p .state) table)) .answer;
       used = 0;
       text = callText call (on (p .state) table);

@@ -9,9 +9,9 @@ use Rattle.recording_lines.specs.Lines.{Event, bad, add, remove, start, stop, t
 use Rattle.recording_bad_line.specs.BadLine.{badText, oneMore}
 use Rattle.model.specs.Model as M
 use Rattle.model.specs.Theorem.{Gateway, Seen, seenOf, gatewayStep, gatewayFrom, begun, run}
-use Rattle.recording_call.specs.Told.{repliesText, addressOf}
+use Rattle.recording_call.specs.Told.{repliesText, addressedTo}
 use Rattle.recording_player.specs.Player.{listedIn}
-use Rattle.recording_theorem.specs.Output.{Line, linesOf, eventIn, Opening, broken, opened, openingOf, callsOf, goodCalls}
+use Rattle.recording_theorem.specs.Output.{RecordedLine, linesOf, eventIn, Opening, broken, opened, openingOf, callsOf, goodCalls}
 
 -- ---- what is told, in order
 
@@ -35,7 +35,7 @@ eventTold number b (tick a count) = callsTold b (callsOf (tick a count))
 eventTold number b (rx a octets) = callsTold b (callsOf (rx a octets))
 
 -- these lines, behind so many
-unfoldable pub toldFrom : ℕ → Gateway → List Line → List Told
+unfoldable pub toldFrom : ℕ → Gateway → List RecordedLine → List Told
 toldFrom lines b [] = []
 toldFrom lines b (line ∷ rest) =
     eventTold (oneMore lines) b (eventIn line) ++ toldFrom (oneMore lines) (gatewayFrom b (callsOf (eventIn line))) rest
@@ -43,9 +43,9 @@ toldFrom lines b (line ∷ rest) =
 -- as text: "each reply message as a `tx` line"
 unfoldable pub toldText : Told → List ℕ
 toldText (badLine number) = badText number
-toldText (called call seen) = repliesText (addressOf call) seen
+toldText (called call seen) = repliesText (addressedTo call) seen
 
-unfoldable pub eventsText : ℕ → Gateway → List Line → List ℕ
+unfoldable pub eventsText : ℕ → Gateway → List RecordedLine → List ℕ
 eventsText lines b events = join (map toldText (toldFrom lines b events))
 
 -- ---- the whole

@@ -26,9 +26,9 @@ use Rattle.recording_bad_line.specs.BadLine.{badText, oneMore}
 use Rattle.model.specs.Model as M
 use Rattle.model.specs.Theorem.{Gateway, Seen, seenOf, seenFrom, gatewayStep, gatewayFrom, begun, run, seenBy, shownIn, shown, bufferOf, carriesOctets}
 use Rattle.model.proofs.Theorem.{list-of-calls}
-use Rattle.recording_call.specs.Told.{txText, repliesText, addressOf}
+use Rattle.recording_call.specs.Told.{txText, repliesText, addressedTo}
 use Rattle.recording_player.specs.Player.{listedIn}
-use Rattle.recording_theorem.specs.Output.{Line, ended, unended, linesFrom, linesOf, eventIn, valueIn, Opening, broken, opened, takenBy, fromNet, fromCapability, fromOwn, openingOf, callsOf, goodCalls, badLine, called, callsTold, eventTold, toldFrom, toldText, eventsText, openingText}
+use Rattle.recording_theorem.specs.Output.{RecordedLine, ended, unended, linesFrom, linesOf, eventIn, valueIn, Opening, broken, opened, takenBy, fromNet, fromCapability, fromOwn, openingOf, callsOf, goodCalls, badLine, called, callsTold, eventTold, toldFrom, toldText, eventsText, openingText}
 use Rattle.recording_theorem.proofs.ByCalls as C
 use Rattle.recording_theorem.proofs.Laws.{join-append}
 use Rattle.recording_theorem.proofs.OneByOne.{in-octets, from-octets}
@@ -82,10 +82,10 @@ unfolding C.toldText C.callsTold toldText callsTold join every
 calls-text [] b m h e = refl
 calls-text (call ∷ calls) b m h e =
     let o = and-left (carriesOctets call) (every carriesOctets calls) e in
-    let one = ap (repliesText (addressOf call)) (agrees-now b m h call o) ∙ shown-text (addressOf call) (bufferOf call) ((M.step call m) .said) in
+    let one = ap (repliesText (addressedTo call)) (agrees-now b m h call o) ∙ shown-text (addressedTo call) (bufferOf call) ((M.step call m) .said) in
     let more = calls-text calls (gatewayStep call b) ((M.step call m) .model) (agrees-next b m h call o) (and-right (carriesOctets call) (every carriesOctets calls) e) in
     ap (λ (l : List ℕ). l ++ join (map C.toldText (C.callsTold (gatewayStep call b) calls))) one
-    ∙ ap (λ (l : List ℕ). (txText (addressOf call) ((M.step call m) .said .first) ++ txText (addressOf call) ((M.step call m) .said .second)) ++ l) more
+    ∙ ap (λ (l : List ℕ). (txText (addressedTo call) ((M.step call m) .said .first) ++ txText (addressedTo call) ((M.step call m) .said .second)) ++ l) more
 
 event-text : (number : ℕ) (b : Gateway) (m : M.Model) → Agrees b m → (e : Event) → every carriesOctets (callsOf e) ≡ true
     → join (map C.toldText (C.eventTold number b e)) ≡ join (map toldText (eventTold number m e))
@@ -103,7 +103,7 @@ counted : (lines : ℕ) → lines < 18446744073709551615 → oneMore lines ≡ s
 unfolding oneMore
 counted lines k = rw (lt-ltb lines 18446744073709551615 k)
 
-events-text : (l : List Line) (lines : ℕ) (b : Gateway) (m : M.Model) → Agrees b m → lines + length l ≤ 18446744073709551615
+events-text : (l : List RecordedLine) (lines : ℕ) (b : Gateway) (m : M.Model) → Agrees b m → lines + length l ≤ 18446744073709551615
     → C.eventsText lines b l ≡ eventsText lines m l
 unfolding C.eventsText eventsText C.toldFrom toldFrom
 events-text [] lines b m h k = refl
@@ -136,7 +136,7 @@ unfoldable pub Opens : ℕ → Opening → Type 0
 Opens lines (broken number) = number ≡ number
 Opens lines (opened g events) = ((freshOf g) .answer ≡ 0) × (4 + length events ≤ lines)
 
-taken-opens : (lines : ℕ) (g : Settings) (events : List Line) → 4 + length events ≤ lines → Opens lines (takenBy g events)
+taken-opens : (lines : ℕ) (g : Settings) (events : List RecordedLine) → 4 + length events ≤ lines → Opens lines (takenBy g events)
 unfolding takenBy Opens
 taken-opens lines g events k =
     cond-elim (λ (o : Opening). Opens lines o) (eqb ((freshOf g) .answer) 0) (opened g events) (broken 4)
@@ -148,23 +148,23 @@ unfolding whenNumber Opens
 value-opens lines number Bad next h = refl
 value-opens lines number (Is n) next h = h n
 
-net-opens : (lines asn own capability : ℕ) (l : List Line) → 3 + length l ≤ lines → Opens lines (fromNet asn own capability l)
+net-opens : (lines asn own capability : ℕ) (l : List RecordedLine) → 3 + length l ≤ lines → Opens lines (fromNet asn own capability l)
 unfolding fromNet Opens
 net-opens lines asn own capability [] k = refl
 net-opens lines asn own capability (line ∷ l) k =
     value-opens lines 4 (valueIn netOf line) _ (λ net. taken-opens lines (record { asn = asn; own = own; capability = capability; net = net }) l (omega (arith, k)))
 
-capability-opens : (lines asn own : ℕ) (l : List Line) → 2 + length l ≤ lines → Opens lines (fromCapability asn own l)
+capability-opens : (lines asn own : ℕ) (l : List RecordedLine) → 2 + length l ≤ lines → Opens lines (fromCapability asn own l)
 unfolding fromCapability Opens
 capability-opens lines asn own [] k = refl
 capability-opens lines asn own (line ∷ l) k = value-opens lines 3 (valueIn capabilityOf line) _ (λ capability. net-opens lines asn own capability l (omega (arith, k)))
 
-own-opens : (lines asn : ℕ) (l : List Line) → 1 + length l ≤ lines → Opens lines (fromOwn asn l)
+own-opens : (lines asn : ℕ) (l : List RecordedLine) → 1 + length l ≤ lines → Opens lines (fromOwn asn l)
 unfolding fromOwn Opens
 own-opens lines asn [] k = refl
 own-opens lines asn (line ∷ l) k = value-opens lines 2 (valueIn ownOf line) _ (λ own. capability-opens lines asn own l (omega (arith, k)))
 
-opening-opens : (l : List Line) → Opens (length l) (openingOf l)
+opening-opens : (l : List RecordedLine) → Opens (length l) (openingOf l)
 unfolding openingOf Opens
 opening-opens [] = refl
 opening-opens (line ∷ l) = value-opens (suc (length l)) 1 (valueIn ownAsOf line) _ (λ asn. own-opens (suc (length l)) asn l (omega arith))
@@ -174,10 +174,10 @@ opening-opens (line ∷ l) = value-opens (suc (length l)) 1 (valueIn ownAsOf lin
 lines-few : (begun rest : List ℕ) → length (linesFrom begun rest) ≤ length begun + length rest
 unfolding linesFrom
 lines-few begun [] =
-    cond-elim (λ (l : List Line). length l ≤ length begun + 0) (eqb (length begun) 0) [] (unended begun ∷ []) (λ e. omega arith)
+    cond-elim (λ (l : List RecordedLine). length l ≤ length begun + 0) (eqb (length begun) 0) [] (unended begun ∷ []) (λ e. omega arith)
     (λ e. let n : (length begun ≡ 0) → ⊥ = eqb-false (length begun) 0 e in omega (arith, n))
 lines-few begun (octet ∷ rest) =
-    cond-elim (λ (l : List Line). length l ≤ length begun + suc (length rest)) (eqb octet 10) (ended begun ∷ linesFrom [] rest) (linesFrom (begun ++ (octet ∷ [])) rest)
+    cond-elim (λ (l : List RecordedLine). length l ≤ length begun + suc (length rest)) (eqb octet 10) (ended begun ∷ linesFrom [] rest) (linesFrom (begun ++ (octet ∷ [])) rest)
     (λ e. omega (arith, lines-few [] rest)) (λ e. omega (arith, lines-few (begun ++ (octet ∷ [])) rest, length-append begun (octet ∷ [])))
 
 -- ---- the whole
@@ -197,7 +197,7 @@ recording-text recording k =
     opening-text (length (linesFrom [] recording)) (openingOf (linesFrom [] recording)) (opening-opens (linesFrom [] recording)) (omega (arith, k, lines-few [] recording))
 
 -- fresh took the settings of a recording that is played
-pub fresh-took : (recording : List ℕ) (g : Settings) (events : List Line) → openingOf (linesOf recording) ≡ opened g events
+pub fresh-took : (recording : List ℕ) (g : Settings) (events : List RecordedLine) → openingOf (linesOf recording) ≡ opened g events
     → (freshOf g) .answer ≡ 0
 unfolding Opens
 fresh-took recording g events e = (rw e at (opening-opens (linesOf recording))) .0

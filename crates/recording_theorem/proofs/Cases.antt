@@ -3,7 +3,7 @@ use mathlib.Core.Path.{refl}
 use Rattle.recording_theorem.specs.Cases as Cases
 use Rattle.recording_theorem.proofs.Unfolded.{opened}
 
-pub cases : Cases.Cases
+pub cases : Cases.PlayedCases
 unfolding opened
 cases =
     record {

@@ -12,7 +12,7 @@ use Rattle.model.specs.Model as M
 use Rattle.model.specs.Theorem.{Gateway, gatewayStep, gatewayFrom, run}
 use Rattle.recording_call.specs.Told.{callText, on}
 use Rattle.recording_player.specs.declared.Player.{Player}
-use Rattle.recording_theorem.specs.Output.{Line, eventIn, Opening, broken, opened, fromNet, fromCapability, fromOwn, openingOf, ticks, callsOf, goodCalls}
+use Rattle.recording_theorem.specs.Output.{RecordedLine, eventIn, Opening, broken, opened, fromNet, fromCapability, fromOwn, openingOf, ticks, callsOf, goodCalls}
 use Rattle.recording_theorem.proofs.ByCalls.{callsTold, eventTold, toldFrom, toldText, eventsText, listed, openingText}
 use Rattle.recording_theorem.proofs.Laws.{join-append, run-append}
 
@@ -40,12 +40,12 @@ unfoldable pub silence : Due
 silence = record { text = []; final = unplayed }
 
 -- from these events on, behind so many lines
-unfoldable pub eventsDue : ℕ → Gateway → List Line → Due
+unfoldable pub eventsDue : ℕ → Gateway → List RecordedLine → Due
 eventsDue lines b events =
     record { text = eventsText lines b events ++ listed (gatewayFrom b (goodCalls events)); final = playedTo (gatewayFrom b (goodCalls events)) }
 
 -- with calls to be made before them
-unfoldable pub callsDue : ℕ → Gateway → List M.Call → List Line → Due
+unfoldable pub callsDue : ℕ → Gateway → List M.Call → List RecordedLine → Due
 callsDue lines b calls events = saying (join (map toldText (callsTold b calls))) (eventsDue lines (gatewayFrom b calls) events)
 
 unfoldable pub finalOf : Opening → Final
@@ -56,19 +56,19 @@ unfoldable pub openingDue : Opening → Due
 openingDue o = record { text = openingText o; final = finalOf o }
 
 -- what is left of the first four lines, behind so many of them
-unfoldable pub openingFrom : ℕ → Settings → List Line → Opening
+unfoldable pub openingFrom : ℕ → Settings → List RecordedLine → Opening
 openingFrom zero g l = openingOf l
 openingFrom (suc zero) g l = fromOwn (g .asn) l
 openingFrom (suc (suc zero)) g l = fromCapability (g .asn) (g .own) l
 openingFrom (suc (suc (suc lines))) g l = fromNet (g .asn) (g .own) (g .capability) l
 
-unfoldable pub remaining : Player → List ℕ → List Line → Due
+unfoldable pub remaining : Player → List ℕ → List RecordedLine → Due
 remaining p table l =
     cond (p .broken) silence
     (cond (ltb (p .lines) 4) (openingDue (openingFrom (p .lines) (p .settings) l))
     (callsDue (p .lines) (on (p .state) table) (ticks (p .address) (p .ticks)) l))
 
-module _ (p : Player) (table : List ℕ) (l : List Line) where
+module _ (p : Player) (table : List ℕ) (l : List RecordedLine) where
   pub remaining-broken : p .broken ≡ true → remaining p table l ≡ silence
   unfolding remaining
   remaining-broken e = rw e
@@ -84,13 +84,13 @@ module _ (p : Player) (table : List ℕ) (l : List Line) where
 
 -- ---- one call, one line
 
-pub call-due : (lines : ℕ) (b : Gateway) (call : M.Call) (calls : List M.Call) (l : List Line)
+pub call-due : (lines : ℕ) (b : Gateway) (call : M.Call) (calls : List M.Call) (l : List RecordedLine)
     → callsDue lines b (call ∷ calls) l ≡ saying (callText call b) (callsDue lines (gatewayStep call b) calls l)
 unfolding callsDue callsTold gatewayFrom join toldText callText
 call-due lines b call calls l =
     sym (saying-twice (callText call b) (join (map toldText (callsTold (gatewayStep call b) calls))) (eventsDue lines (gatewayFrom (gatewayStep call b) calls) l))
 
-pub line-due : (lines : ℕ) (b : Gateway) (line : Line) (l : List Line)
+pub line-due : (lines : ℕ) (b : Gateway) (line : RecordedLine) (l : List RecordedLine)
     → eventsDue lines b (line ∷ l)
     ≡ saying (join (map toldText (eventTold (oneMore lines) b (eventIn line)))) (eventsDue (oneMore lines) (gatewayFrom b (callsOf (eventIn line))) l)
 unfolding eventsDue eventsText toldFrom goodCalls saying

@@ -254,9 +254,9 @@ ends (lent ∷ lents) d held input ok h =
     go s w false e o f n z k = omega (arith, w .no-more, z, k)
 
 pub every-recording-ends : EveryRecordingEnds
-unfolding work T.start beginning
+unfolding work T.freshDeck beginning
 every-recording-ends line recording lents fits h =
-    ends lents (T.start line) [] recording (start-sound line fits) (omega (arith, begun line, h))
+    ends lents (T.freshDeck line) [] recording (start-sound line fits) (omega (arith, begun line, h))
   where
-    begun : (line : List ℕ) → work ((T.start line) .player) recording ≡ 86401 * length recording
+    begun : (line : List ℕ) → work ((T.freshDeck line) .player) recording ≡ 86401 * length recording
     begun line = omega arith

@@ -13,7 +13,7 @@ use borrow.Author.Tests.{ltb-true, ltb-false, le-leb}
 use Rattle.checks.proofs.Laws.{cond-elim}
 use Rattle.recording_gather.specs.declared.Gathered.{Gathered}
 use Rattle.recording_gather.specs.Gathering.{longer, gathered, lineAfter, lineHeld}
-use Rattle.recording_theorem.specs.Output.{Line, ended, linesFrom}
+use Rattle.recording_theorem.specs.Output.{RecordedLine, ended, linesFrom}
 
 -- ---- what is gathered, one octet after the other
 
@@ -66,7 +66,7 @@ lineIn held [] = held
 lineIn held (octet ∷ rest) = cond (eqb octet 10) held (lineIn (held ++ (octet ∷ [])) rest)
 
 -- the lines of what was held, a piece and what is left: a line that the piece ends, or a longer one
-unfoldable pub linesAfter : List ℕ → ℕ → List ℕ → List ℕ → List Line
+unfoldable pub linesAfter : List ℕ → ℕ → List ℕ → List ℕ → List RecordedLine
 linesAfter held count piece left =
     cond ((gathered 0 count piece) .ended) (ended (lineIn held piece) ∷ linesFrom [] (drop ((gathered 0 count piece) .used) piece ++ left))
     (linesFrom (lineIn held piece) (drop ((gathered 0 count piece) .used) piece ++ left))

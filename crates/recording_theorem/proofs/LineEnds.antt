@@ -28,7 +28,7 @@ use Rattle.model.proofs.Theorem.{step-is, begun-is, empty-good}
 use Rattle.recording_call.specs.Told.{lent, callText, on}
 use Rattle.recording_player.specs.declared.Player.{Player}
 use Rattle.recording_player.specs.Player.{nextLine, breaking, due, settled, having, Step, badStep, brokenStep, quietStep, withAs, withOwn, withCapability, withNet, settingStep, freshStep, netStep, headStep, callStep, eventStep, lineStep}
-use Rattle.recording_theorem.specs.Output.{Line, ended, eventIn, valueIn, Opening, broken, opened, takenBy, fromNet, fromCapability, fromOwn, openingOf, ticks, callsOf}
+use Rattle.recording_theorem.specs.Output.{RecordedLine, ended, eventIn, valueIn, Opening, broken, opened, takenBy, fromNet, fromCapability, fromOwn, openingOf, ticks, callsOf}
 use Rattle.recording_theorem.proofs.ByCalls.{badLine, callsTold, eventTold, toldText, openingText}
 use Rattle.recording_theorem.proofs.Short.{event-short, number-short}
 use Rattle.recording_theorem.proofs.Due.{Due, saying, silence, eventsDue, callsDue, finalOf, openingDue, openingFrom, remaining, remaining-early, remaining-late, line-due}
@@ -72,14 +72,14 @@ kept-late p table h e t s =
     }
 
 -- a step after which no octet of a line is held does its part of what was due
-pub record Follows (s : Step) (d : Due) (l : List Line) : Type 0 where
+pub record Follows (s : Step) (d : Due) (l : List RecordedLine) : Type 0 where
   pub kept : Kept (s .player) (s .table)
   pub none : (s .player) .held ≡ 0
   pub same : d ≡ saying (s .text) (remaining (s .player) (s .table) l)
 
 -- ---- one of the first four lines
 
-module _ (p : Player) (l : List Line) (z : p .ticks ≡ 0) where
+module _ (p : Player) (l : List RecordedLine) (z : p .ticks ≡ 0) where
   broken-follows : (answer : ℕ) → Follows (brokenStep p emptyTable answer) (openingDue (broken (oneMore (p .lines)))) l
   unfolding brokenStep breaking nextLine openingDue openingText finalOf remaining saying silence
   broken-follows answer =
@@ -103,7 +103,7 @@ module _ (p : Player) (l : List Line) (z : p .ticks ≡ 0) where
         }
 
 -- fresh starts the gateway, and the events follow
-opened-due : (g : Settings) (l : List Line)
+opened-due : (g : Settings) (l : List RecordedLine)
     → openingDue (opened g l) ≡ callsDue 4 (on ((freshOf g) .state) emptyTable) [] l
 unfolding openingDue openingText finalOf run begun on callsDue callsTold gatewayFrom eventsDue saying join
 opened-due g l = refl
@@ -114,7 +114,7 @@ stands-fresh : (g : Settings) → (freshOf g) .answer ≡ 0
 unfolding begun on
 stands-fresh g e = record { model = M.empty g; good = empty-good g e; is = begun-is g e }
 
-module _ (p : Player) (l : List Line) (z : p .ticks ≡ 0) (f : p .broken ≡ false) (four : oneMore (p .lines) ≡ 4) where
+module _ (p : Player) (l : List RecordedLine) (z : p .ticks ≡ 0) (f : p .broken ≡ false) (four : oneMore (p .lines) ≡ 4) where
   net-broken : (answer : ℕ) → Follows (brokenStep p emptyTable answer) (openingDue (broken 4)) l
   net-broken answer = subst (λ (number : ℕ). Follows (brokenStep p emptyTable answer) (openingDue (broken number)) l) four (broken-follows p l z answer)
 
@@ -143,7 +143,7 @@ module _ (p : Player) (l : List Line) (z : p .ticks ≡ 0) (f : p .broken ≡ fa
   net-follows (Is net) = fresh-follows (withNet (p .settings) net)
 
 -- which of the four it is
-module _ (p : Player) (f : p .broken ≡ false) (z : p .ticks ≡ 0) (line : List ℕ) (l : List Line) where
+module _ (p : Player) (f : p .broken ≡ false) (z : p .ticks ≡ 0) (line : List ℕ) (l : List RecordedLine) where
   abbrev behindLines : ℕ → Player
   behindLines lines =
       record { lines = lines; held = p .held; broken = p .broken; address = p .address; ticks = p .ticks; settings = p .settings; state = p .state }
@@ -187,12 +187,12 @@ module _ (p : Player) (f : p .broken ≡ false) (z : p .ticks ≡ 0) (line : Lis
 -- ---- one of the events
 
 -- no tick is due: what is due are the events
-pub then-events : (p : Player) (table : List ℕ) (l : List Line) → p .broken ≡ false → 4 ≤ p .lines → p .ticks ≡ 0
+pub then-events : (p : Player) (table : List ℕ) (l : List RecordedLine) → p .broken ≡ false → 4 ≤ p .lines → p .ticks ≡ 0
     → remaining p table l ≡ eventsDue (p .lines) (on (p .state) table) l
 unfolding callsDue callsTold gatewayFrom ticks join saying
 then-events p table l f late z = remaining-late p table l f late ∙ rw z
 
-module _ (p : Player) (table : List ℕ) (l : List Line) (f : p .broken ≡ false) (late : 4 ≤ oneMore (p .lines)) (z : p .ticks ≡ 0) (stand : Stands (on (p .state) table)) where
+module _ (p : Player) (table : List ℕ) (l : List RecordedLine) (f : p .broken ≡ false) (late : 4 ≤ oneMore (p .lines)) (z : p .ticks ≡ 0) (stand : Stands (on (p .state) table)) where
   abbrev here : Gateway
   here = on (p .state) table
 
@@ -249,7 +249,7 @@ pub more-lines : (lines : ℕ) → 4 ≤ lines → 4 ≤ oneMore lines
 unfolding oneMore
 more-lines lines h = cond-elim (λ (n : ℕ). 4 ≤ n) (ltb lines 18446744073709551615) (suc lines) lines (λ e. omega (arith, h)) (λ e. h)
 
-module _ (p : Player) (table line : List ℕ) (l : List Line) (f : p .broken ≡ false) (z : p .ticks ≡ 0) (k : Kept p table) where
+module _ (p : Player) (table line : List ℕ) (l : List RecordedLine) (f : p .broken ≡ false) (z : p .ticks ≡ 0) (k : Kept p table) where
   events-follow : 4 ≤ p .lines → Follows (lineStep p table (take 4118 line)) (remaining p table (ended line ∷ l)) l
   unfolding lineStep eventIn
   events-follow late =

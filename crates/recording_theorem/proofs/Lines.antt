@@ -9,17 +9,17 @@ use lib.Seq.{append-snoc}
 use borrow.Author.Tests.{eqb-true}
 use Rattle.checks.specs.Lists.{every, join}
 use Rattle.checks.proofs.Laws.{and-both, cond-elim}
-use Rattle.recording_theorem.specs.Output.{Line, ended, unended, linesFrom, linesOf}
+use Rattle.recording_theorem.specs.Output.{RecordedLine, ended, unended, linesFrom, linesOf}
 use Rattle.recording_theorem.specs.Theorem.{lineOctets, lineText, Lines}
 use Rattle.recording_theorem.proofs.Laws.{no-length, every-append}
 
 whole-from : (begun rest : List ℕ) → join (map lineOctets (linesFrom begun rest)) ≡ begun ++ rest
 unfolding linesFrom join lineOctets
 whole-from begun [] =
-    cond-elim (λ (l : List Line). join (map lineOctets l) ≡ begun ++ []) (eqb (length begun) 0) [] (unended begun ∷ [])
+    cond-elim (λ (l : List RecordedLine). join (map lineOctets l) ≡ begun ++ []) (eqb (length begun) 0) [] (unended begun ∷ [])
     (λ e. rw (no-length begun (eqb-true (length begun) 0 e))) (λ e. refl)
 whole-from begun (octet ∷ rest) =
-    cond-elim (λ (l : List Line). join (map lineOctets l) ≡ begun ++ (octet ∷ rest)) (eqb octet 10)
+    cond-elim (λ (l : List RecordedLine). join (map lineOctets l) ≡ begun ++ (octet ∷ rest)) (eqb octet 10)
     (ended begun ∷ linesFrom [] rest) (linesFrom (begun ++ (octet ∷ [])) rest)
     (λ e. ap (λ (r : List ℕ). begun ++ (10 ∷ []) ++ r) (whole-from [] rest) ∙ append-snoc begun 10 rest
     ∙ ap (λ (o : ℕ). begun ++ (o ∷ rest)) (sym (eqb-true octet 10 e)))
@@ -28,15 +28,15 @@ whole-from begun (octet ∷ rest) =
 abbrev isOther : ℕ → Bool
 isOther octet = not (eqb octet 10)
 
-abbrev isApart : Line → Bool
+abbrev isApart : RecordedLine → Bool
 isApart line = every isOther (lineText line)
 
 apart-from : (begun rest : List ℕ) → every isOther begun ≡ true → every isApart (linesFrom begun rest) ≡ true
 unfolding linesFrom lineText every
 apart-from begun [] h =
-    cond-elim (λ (l : List Line). every isApart l ≡ true) (eqb (length begun) 0) [] (unended begun ∷ []) (λ e. refl) (λ e. and-both (every isOther begun) true h refl)
+    cond-elim (λ (l : List RecordedLine). every isApart l ≡ true) (eqb (length begun) 0) [] (unended begun ∷ []) (λ e. refl) (λ e. and-both (every isOther begun) true h refl)
 apart-from begun (octet ∷ rest) h =
-    cond-elim (λ (l : List Line). every isApart l ≡ true) (eqb octet 10) (ended begun ∷ linesFrom [] rest) (linesFrom (begun ++ (octet ∷ [])) rest)
+    cond-elim (λ (l : List RecordedLine). every isApart l ≡ true) (eqb octet 10) (ended begun ∷ linesFrom [] rest) (linesFrom (begun ++ (octet ∷ [])) rest)
     (λ e. and-both (every isOther begun) (every isApart (linesFrom [] rest)) h (apart-from [] rest refl))
     (λ e. apart-from (begun ++ (octet ∷ [])) rest (every-append isOther begun (octet ∷ []) h (rw e)))
 

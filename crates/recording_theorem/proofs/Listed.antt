@@ -16,7 +16,7 @@ use Rattle.gateway_state.specs.Outcomes.{refusedOf}
 use Rattle.gateway_rules.specs.Calls.{tableFits, lentChecks}
 use Rattle.listing_lines.specs.Lines.{listingText}
 use Rattle.listing_lines.specs.Listing.{entries, listable, listingChecks, listingOutcome, listingBuffer}
-use Rattle.model.specs.Theorem.{Gateway, outcomeOf, bufferAfter, seenOf}
+use Rattle.model.specs.Theorem.{Gateway, outcomeOf, bufferLeft, seenOf}
 use Rattle.recording_call.specs.Told.{on}
 use Rattle.recording_player.specs.declared.Player.{Player}
 use Rattle.recording_player.specs.Player.{Step, roomy, listedIn, quietStep, finishStep}
@@ -39,7 +39,7 @@ unfolding roomy listingChecks lentChecks twoChecks check
 with-room out b h = rw h
 
 listing-in : (out : List ℕ) (b : Gateway) → roomy out ≡ true → listedIn out b ≡ ifOk (twoChecks b) (listingText (entries (b .state) (b .table))) []
-unfolding listedIn seenOf outcomeOf bufferAfter listingOutcome listingBuffer ifOk
+unfolding listedIn seenOf outcomeOf bufferLeft listingOutcome listingBuffer ifOk
 listing-in out b h =
     let c = listingChecks (b .state) (b .table) out in
     told-in (eqb c 0) c (b .state) (listingText (entries (b .state) (b .table))) out ∙ rw (with-room out b h)

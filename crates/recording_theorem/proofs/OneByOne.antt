@@ -14,7 +14,7 @@ use Rattle.recording_lines.proofs.Events.{events}
 use Rattle.model.specs.Model as M
 use Rattle.model.specs.Theorem.{carriesOctets}
 use Rattle.model.proofs.Theorem.{list-of-calls}
-use Rattle.recording_theorem.specs.Output.{Line, ended, unended, eventIn, ticks, callsOf, goodCalls, Told, badLine, called, callsTold, eventTold, toldFrom}
+use Rattle.recording_theorem.specs.Output.{RecordedLine, ended, unended, eventIn, ticks, callsOf, goodCalls, Told, badLine, called, callsTold, eventTold, toldFrom}
 use Rattle.recording_theorem.specs.Theorem.{callsIn, saidIn, OneByOne}
 use Rattle.recording_theorem.proofs.Laws.{every-append, said-append}
 
@@ -41,7 +41,7 @@ event-calls number m (stop a) = calls-told m (callsOf (stop a))
 event-calls number m (tick a count) = calls-told m (callsOf (tick a count))
 event-calls number m (rx a octets) = calls-told m (callsOf (rx a octets))
 
-from-calls : (count : ℕ) (m : M.Model) (l : List Line) → callsIn (toldFrom count m l) ≡ goodCalls l
+from-calls : (count : ℕ) (m : M.Model) (l : List RecordedLine) → callsIn (toldFrom count m l) ≡ goodCalls l
 unfolding toldFrom goodCalls callsIn
 from-calls count m [] = refl
 from-calls count m (line ∷ l) =
@@ -72,7 +72,7 @@ event-seen number m (stop a) = seen-told m (callsOf (stop a))
 event-seen number m (tick a count) = seen-told m (callsOf (tick a count))
 event-seen number m (rx a octets) = seen-told m (callsOf (rx a octets))
 
-from-seen : (count : ℕ) (m : M.Model) (l : List Line) → saidIn (toldFrom count m l) ≡ M.saidFrom m (goodCalls l)
+from-seen : (count : ℕ) (m : M.Model) (l : List RecordedLine) → saidIn (toldFrom count m l) ≡ M.saidFrom m (goodCalls l)
 unfolding toldFrom goodCalls saidIn M.saidFrom
 from-seen count m [] = refl
 from-seen count m (line ∷ l) =
@@ -103,19 +103,19 @@ line-octets line = go (eventOf line) (events .range line)
         (and-right (leb (length octets) 2049) (every (λ o. ltb o 256) octets)
         (and-right (isAddress a) (leb (length octets) 2049 && every (λ o. ltb o 256) octets) (h refl))) refl
 
-pub in-octets : (line : Line) → every carriesOctets (callsOf (eventIn line)) ≡ true
+pub in-octets : (line : RecordedLine) → every carriesOctets (callsOf (eventIn line)) ≡ true
 unfolding eventIn callsOf every
 in-octets (ended line) = line-octets line
 in-octets (unended line) = refl
 
-pub from-octets : (l : List Line) → every carriesOctets (goodCalls l) ≡ true
+pub from-octets : (l : List RecordedLine) → every carriesOctets (goodCalls l) ≡ true
 unfolding goodCalls every
 from-octets [] = refl
 from-octets (line ∷ l) = every-append carriesOctets (callsOf (eventIn line)) (goodCalls l) (in-octets line) (from-octets l)
 
 -- ---- the whole
 
-pub one-by-one : (g : Settings) (l : List Line) → OneByOne g l
+pub one-by-one : (g : Settings) (l : List RecordedLine) → OneByOne g l
 one-by-one g l =
     record {
       calls = from-calls 4 (M.empty g) l;

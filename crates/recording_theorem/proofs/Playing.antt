@@ -19,9 +19,9 @@ use Rattle.model.specs.Theorem.{Gateway, gatewayFrom, run, emptyTable}
 use Rattle.recording_call.specs.Told.{on}
 use Rattle.recording_player.specs.declared.Player.{Player}
 use Rattle.recording_player.specs.Player.{beginning, roomy, lineFits, nextLine, breaking, reportCheck, given, withUsed, reported, badStep, brokenStep, quietStep, turnStep, heldOf, closeStep, finishStep}
-use Rattle.recording_theorem.specs.Output.{Line, unended, linesFrom, linesOf, eventIn, valueIn, broken, opened, openingOf, fromOwn, fromCapability, fromNet, callsOf, goodCalls, outputOf}
+use Rattle.recording_theorem.specs.Output.{RecordedLine, unended, linesFrom, linesOf, eventIn, valueIn, broken, opened, openingOf, fromOwn, fromCapability, fromNet, callsOf, goodCalls, outputOf}
 use Rattle.recording_theorem.proofs.ByCalls.{eventTold, toldFrom, toldText, eventsText, listed, openingText}
-use Rattle.recording_theorem.specs.Theorem.{Deck, start, Lent, stepOn, afterTurn, Driven, writing, drive, isDone, closed, finished, written, EndsAs, Played, Recordings}
+use Rattle.recording_theorem.specs.Theorem.{Deck, freshDeck, Lent, stepOn, afterTurn, Driven, writing, drive, isDone, closed, finished, allText, EndsAs, Played, Recordings}
 use Rattle.recording_theorem.proofs.Laws.{no-length, left-of}
 use Rattle.recording_theorem.proofs.OneByOne.{one-by-one}
 use Rattle.model.proofs.Theorem.{list-of-calls}
@@ -140,12 +140,12 @@ finishes (lent ∷ lents) d held input ok done =
           ∙ saying-twice (s .text) ((drive lents next (drop (s .used) input)) .text) (endDue ((drive lents next (drop (s .used) input)) .deck));
     }
 
-pub start-sound : (line : List ℕ) → lineFits line ≡ true → Sound (start line) []
-unfolding start beginning lineFits
+pub start-sound : (line : List ℕ) → lineFits line ≡ true → Sound (freshDeck line) []
+unfolding freshDeck beginning lineFits
 start-sound line h = record { holds = holds-none line (leb-true 4118 (length line) h); kept = kept-early beginning refl (λ e k. absurd (omega (arith, k))) }
 
-start-due : (line recording : List ℕ) → dueOf (start line) [] recording ≡ openingDue (openingOf (linesOf recording))
-unfolding dueOf start beginning remaining openingFrom linesOf
+start-due : (line recording : List ℕ) → dueOf (freshDeck line) [] recording ≡ openingDue (openingOf (linesOf recording))
+unfolding dueOf freshDeck beginning remaining openingFrom linesOf
 start-due line recording = refl
 
 -- ---- the end, told from what was due
@@ -181,18 +181,18 @@ unplayed-final d k e = go (d .player .broken) refl (ltb (d .player .lines) 4) re
 
 -- ---- the theorem
 
-module _ (line recording : List ℕ) (lents : List Lent) (fits : lineFits line ≡ true) (done : isDone (drive lents (start line) recording) ≡ true) where
+module _ (line recording : List ℕ) (lents : List Lent) (fits : lineFits line ≡ true) (done : isDone (drive lents (freshDeck line) recording) ≡ true) where
   abbrev r : Driven
-  r = drive lents (start line) recording
+  r = drive lents (freshDeck line) recording
 
-  finished-so : Finishes (start line) [] recording r
-  finished-so = finishes lents (start line) [] recording (start-sound line fits) done
+  finished-so : Finishes (freshDeck line) [] recording r
+  finished-so = finishes lents (freshDeck line) [] recording (start-sound line fits) done
 
   whole-due : openingDue (openingOf (linesOf recording)) ≡ saying (r .text) (endDue (r .deck))
   whole-due = sym (start-due line recording) ∙ finished-so .same
 
-  same-output : length recording < 18446744073709551616 → (out : List ℕ) → roomy out ≡ true → written out r ≡ outputOf recording
-  unfolding written finished outputOf openingDue saying endDue
+  same-output : length recording < 18446744073709551616 → (out : List ℕ) → roomy out ≡ true → allText out r ≡ outputOf recording
+  unfolding allText finished outputOf openingDue saying endDue
   same-output few out h =
       ap (λ (l : List ℕ). r .text ++ ((closed (r .deck)) .text ++ l)) (finish-in out ((closed (r .deck)) .player) (r .deck .table) h)
       ∙ sym (ap (λ (d : Due). d .text) whole-due) ∙ recording-text recording few
@@ -201,7 +201,7 @@ module _ (line recording : List ℕ) (lents : List Lent) (fits : lineFits line �
   unfolding openingDue saying endDue
   same-final = ap (λ (d : Due). d .final) whole-due
 
-  ends-as : (g : Settings) (l : List Line) → openingOf (linesOf recording) ≡ opened g l → EndsAs (r .deck) g l
+  ends-as : (g : Settings) (l : List RecordedLine) → openingOf (linesOf recording) ≡ opened g l → EndsAs (r .deck) g l
   unfolding finalOf on
   ends-as g l e =
       let k = played-final (r .deck) (run g (goodCalls l)) (sym (ap finalOf e) ∙ same-final) in

@@ -18,7 +18,7 @@ use Rattle.recording_gather.specs.declared.Gathered.{Gathered}
 use Rattle.recording_gather.specs.Gathering.{gathered, lineAfter, lineHeld}
 use Rattle.recording_player.specs.declared.Player.{Player}
 use Rattle.recording_player.specs.Player.{holding, due, having, Step, lineFits, given, withUsed, quietStep, callStep, lineStep, tickStep, endedLine, freeStep, callChecks, lineChecked, turnChecked, turnStep, onlyHolds, heldOf}
-use Rattle.recording_theorem.specs.Output.{Line, ended, linesFrom, ticks}
+use Rattle.recording_theorem.specs.Output.{RecordedLine, ended, linesFrom, ticks}
 use Rattle.recording_theorem.specs.Theorem.{Deck}
 use Rattle.recording_theorem.proofs.Held.{used-most, lineIn, linesAfter, lines-after, Holds, holds-none, holds-piece, holds-line, holds-front}
 use Rattle.recording_theorem.proofs.Due.{Due, saying, callsDue, remaining, remaining-broken, remaining-late, call-due}
@@ -96,7 +96,7 @@ module _ (d : Deck) (held piece left : List ℕ) (ok : Sound d held) where
       abbrev ticked : Step
       ticked = tickStep p (d .table)
 
-      tick-same : (l : List Line) → remaining p (d .table) l ≡ saying (ticked .text) (remaining (ticked .player) (ticked .table) l)
+      tick-same : (l : List RecordedLine) → remaining p (d .table) l ≡ saying (ticked .text) (remaining (ticked .player) (ticked .table) l)
       unfolding tickStep callStep due having gatewayStep on ticks
       tick-same l =
           let b = on (p .state) (d .table) in

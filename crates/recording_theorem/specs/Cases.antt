@@ -9,7 +9,7 @@ use Rattle.recording_theorem.specs.Output.{outputOf}
 unfoldable pub head : List ℕ
 head = text "ownas=9\nown=128.9.0.1\ncap=1\nnet=128.9.0.0\n"
 
-pub record Cases : Type 0 where
+pub record PlayedCases : Type 0 where
   -- the first of the four that is bad or missing, alone
   pub empty : outputOf (text "") ≡ text "bad=1\n"
   pub blank : outputOf (text "\n") ≡ text "bad=1\n"

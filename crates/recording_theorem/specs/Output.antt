@@ -15,29 +15,29 @@ use Rattle.text_values.specs.Numbers.{whenNumber}
 use Rattle.recording_lines.specs.Lines.{Event, bad, add, remove, start, stop, tick, rx, eventOf, ownAsOf, ownOf, capabilityOf, netOf}
 use Rattle.recording_bad_line.specs.BadLine.{badText}
 use Rattle.model.specs.Model as M
-use Rattle.recording_call.specs.Told.{lent, txText, addressOf}
+use Rattle.recording_call.specs.Told.{lent, txText, addressedTo}
 
 -- ---- lines
 
 -- octets up to an octet 10, or what is left behind the last one
-pub data Line : Type 0 where
-  ended : List ℕ → Line
-  unended : List ℕ → Line
+pub data RecordedLine : Type 0 where
+  ended : List ℕ → RecordedLine
+  unended : List ℕ → RecordedLine
 
 -- the lines of these octets, behind those of a line that has begun
-unfoldable pub linesFrom : List ℕ → List ℕ → List Line
+unfoldable pub linesFrom : List ℕ → List ℕ → List RecordedLine
 linesFrom begun [] = cond (eqb (length begun) 0) [] (unended begun ∷ [])
 linesFrom begun (octet ∷ rest) = cond (eqb octet 10) (ended begun ∷ linesFrom [] rest) (linesFrom (begun ++ (octet ∷ [])) rest)
 
-unfoldable pub linesOf : List ℕ → List Line
+unfoldable pub linesOf : List ℕ → List RecordedLine
 linesOf recording = linesFrom [] recording
 
 -- "an unended last line is bad"
-unfoldable pub eventIn : Line → Event
+unfoldable pub eventIn : RecordedLine → Event
 eventIn (ended line) = eventOf line
 eventIn (unended line) = bad
 
-unfoldable pub valueIn : (List ℕ → Number) → Line → Number
+unfoldable pub valueIn : (List ℕ → Number) → RecordedLine → Number
 valueIn read (ended line) = read line
 valueIn read (unended line) = Bad
 
@@ -46,27 +46,27 @@ valueIn read (unended line) = Bad
 -- the settings and the events after them; or the first line that is bad or missing
 pub data Opening : Type 0 where
   broken : ℕ → Opening
-  opened : Settings → List Line → Opening
+  opened : Settings → List RecordedLine → Opening
 
 -- "or fresh refuses them, the first such line (the fourth for fresh) alone is so reported"
-unfoldable pub takenBy : Settings → List Line → Opening
+unfoldable pub takenBy : Settings → List RecordedLine → Opening
 takenBy g events = cond (eqb ((freshOf g) .answer) 0) (opened g events) (broken 4)
 
-unfoldable pub fromNet : ℕ → ℕ → ℕ → List Line → Opening
+unfoldable pub fromNet : ℕ → ℕ → ℕ → List RecordedLine → Opening
 fromNet asn own capability [] = broken 4
 fromNet asn own capability (line ∷ events) =
     whenNumber (valueIn netOf line) (broken 4) (λ net. takenBy (record { asn = asn; own = own; capability = capability; net = net }) events)
 
-unfoldable pub fromCapability : ℕ → ℕ → List Line → Opening
+unfoldable pub fromCapability : ℕ → ℕ → List RecordedLine → Opening
 fromCapability asn own [] = broken 3
 fromCapability asn own (line ∷ rest) = whenNumber (valueIn capabilityOf line) (broken 3) (λ capability. fromNet asn own capability rest)
 
-unfoldable pub fromOwn : ℕ → List Line → Opening
+unfoldable pub fromOwn : ℕ → List RecordedLine → Opening
 fromOwn asn [] = broken 2
 fromOwn asn (line ∷ rest) = whenNumber (valueIn ownOf line) (broken 2) (λ own. fromCapability asn own rest)
 
 -- "in a fixed order: ownas, own, cap, net, then events"
-unfoldable pub openingOf : List Line → Opening
+unfoldable pub openingOf : List RecordedLine → Opening
 openingOf [] = broken 1
 openingOf (line ∷ rest) = whenNumber (valueIn ownAsOf line) (broken 1) (λ asn. fromOwn asn rest)
 
@@ -86,7 +86,7 @@ callsOf (stop a) = M.stop a lent ∷ []
 callsOf (tick a count) = ticks a count
 callsOf (rx a octets) = M.receive a octets [] lent ∷ []
 
-unfoldable pub goodCalls : List Line → List M.Call
+unfoldable pub goodCalls : List RecordedLine → List M.Call
 goodCalls [] = []
 goodCalls (line ∷ rest) = callsOf (eventIn line) ++ goodCalls rest
 
@@ -112,7 +112,7 @@ eventTold number m (tick a count) = callsTold m (callsOf (tick a count))
 eventTold number m (rx a octets) = callsTold m (callsOf (rx a octets))
 
 -- these lines, behind so many
-unfoldable pub toldFrom : ℕ → M.Model → List Line → List Told
+unfoldable pub toldFrom : ℕ → M.Model → List RecordedLine → List Told
 toldFrom lines m [] = []
 toldFrom lines m (line ∷ rest) =
     eventTold (suc lines) m (eventIn line) ++ toldFrom (suc lines) (M.modelFrom m (callsOf (eventIn line))) rest
@@ -120,9 +120,9 @@ toldFrom lines m (line ∷ rest) =
 -- as text: "each reply message as a `tx` line"
 unfoldable pub toldText : Told → List ℕ
 toldText (badLine number) = badText number
-toldText (called call said) = txText (addressOf call) (said .first) ++ txText (addressOf call) (said .second)
+toldText (called call said) = txText (addressedTo call) (said .first) ++ txText (addressedTo call) (said .second)
 
-unfoldable pub eventsText : ℕ → M.Model → List Line → List ℕ
+unfoldable pub eventsText : ℕ → M.Model → List RecordedLine → List ℕ
 eventsText lines m events = join (map toldText (toldFrom lines m events))
 
 -- ---- the whole, from the model alone

@@ -15,15 +15,15 @@ use Rattle.model.specs.Model as M
 use Rattle.model.specs.Theorem.{emptyTable, stateOf, tableOf, carriesOctets, Agreement}
 use Rattle.recording_player.specs.declared.Player.{Player}
 use Rattle.recording_player.specs.Player.{beginning, Step, roomy, lineFits, turnChecked, turnStep, heldOf, closeStep, finishStep}
-use Rattle.recording_theorem.specs.Output.{Line, ended, unended, linesOf, broken, opened, openingOf, goodCalls, Told, badLine, called, toldFrom, outputOf}
+use Rattle.recording_theorem.specs.Output.{RecordedLine, ended, unended, linesOf, broken, opened, openingOf, goodCalls, Told, badLine, called, toldFrom, outputOf}
 
 -- ---- lines are what they should be
 
-unfoldable pub lineOctets : Line → List ℕ
+unfoldable pub lineOctets : RecordedLine → List ℕ
 lineOctets (ended line) = line ++ (10 ∷ [])
 lineOctets (unended line) = line
 
-unfoldable pub lineText : Line → List ℕ
+unfoldable pub lineText : RecordedLine → List ℕ
 lineText (ended line) = line
 lineText (unended line) = line
 
@@ -47,7 +47,7 @@ saidIn (called call said ∷ rest) = said ∷ saidIn rest
 
 -- "Playing a recording must equal making the calls of its good lines one by one, from a zeroed table and with an empty
 -- home list."
-pub record OneByOne (g : Settings) (events : List Line) : Type 0 where
+pub record OneByOne (g : Settings) (events : List RecordedLine) : Type 0 where
   pub calls : callsIn (toldFrom 4 (M.empty g) events) ≡ goodCalls events
   pub said : saidIn (toldFrom 4 (M.empty g) events) ≡ M.saidFrom (M.empty g) (goodCalls events)
   -- hex says octets only, so what the theorem about lists of calls says of listings holds too
@@ -64,8 +64,8 @@ pub record Deck : Type 0 where
   pub table : List ℕ
 
 -- with any line buffer, whatever it holds
-unfoldable pub start : List ℕ → Deck
-start line = record { player = beginning; line = line; table = emptyTable }
+unfoldable pub freshDeck : List ℕ → Deck
+freshDeck line = record { player = beginning; line = line; table = emptyTable }
 
 -- what is lent for one turn: so many of the octets that are left, and any output buffer
 pub record Lent : Type 0 where
@@ -109,13 +109,13 @@ closed d = closeStep true (d .player) (d .table)
 unfoldable pub finished : List ℕ → Deck → Step
 finished out d = finishStep out ((closed d) .player) (d .table)
 
-unfoldable pub written : List ℕ → Driven → List ℕ
-written out r = r .text ++ ((closed (r .deck)) .text ++ (finished out (r .deck)) .text)
+unfoldable pub allText : List ℕ → Driven → List ℕ
+allText out r = r .text ++ ((closed (r .deck)) .text ++ (finished out (r .deck)) .text)
 
 -- ---- the statement
 
 -- where the first four lines are good: the state and the table that the player ends with are those of the model
-pub record EndsAs (d : Deck) (g : Settings) (events : List Line) : Type 0 where
+pub record EndsAs (d : Deck) (g : Settings) (events : List RecordedLine) : Type 0 where
   pub state : d .player .state ≡ stateOf (M.model g (goodCalls events))
   pub table : d .table ≡ tableOf (M.model g (goodCalls events))
 
@@ -123,18 +123,18 @@ pub record EndsAs (d : Deck) (g : Settings) (events : List Line) : Type 0 where
 pub record Played (line recording : List ℕ) (lents : List Lent) : Type 0 where
   -- lines are counted in 64 bits: no more fit a recording that is shorter than this
   pub output :
-      length recording < 18446744073709551616 → (out : List ℕ) → roomy out ≡ true → written out (drive lents (start line) recording) ≡ outputOf recording
+      length recording < 18446744073709551616 → (out : List ℕ) → roomy out ≡ true → allText out (drive lents (freshDeck line) recording) ≡ outputOf recording
   pub ends :
-      (g : Settings) (events : List Line) → openingOf (linesOf recording) ≡ opened g events → EndsAs ((drive lents (start line) recording) .deck) g events
+      (g : Settings) (events : List RecordedLine) → openingOf (linesOf recording) ≡ opened g events → EndsAs ((drive lents (freshDeck line) recording) .deck) g events
   -- nothing is played: the table is still all zero
   pub untouched :
-      (number : ℕ) → openingOf (linesOf recording) ≡ broken number → (drive lents (start line) recording) .deck .table ≡ emptyTable
+      (number : ℕ) → openingOf (linesOf recording) ≡ broken number → (drive lents (freshDeck line) recording) .deck .table ≡ emptyTable
 
 -- every list of octets is a recording
 pub record Recordings : Type 0 where
-  pub one-by-one : (g : Settings) (events : List Line) → OneByOne g events
+  pub one-by-one : (g : Settings) (events : List RecordedLine) → OneByOne g events
   pub played :
-      (line recording : List ℕ) (lents : List Lent) → lineFits line ≡ true → isDone (drive lents (start line) recording) ≡ true
+      (line recording : List ℕ) (lents : List Lent) → lineFits line ≡ true → isDone (drive lents (freshDeck line) recording) ≡ true
       → Played line recording lents
 
 -- ---- a refusal changes nothing
@@ -167,4 +167,4 @@ plenty (lent ∷ lents) = cond (isPlenty lent) (suc (plenty lents)) (plenty lent
 abbrev pub EveryRecordingEnds : Type 0
 EveryRecordingEnds =
     (line recording : List ℕ) (lents : List Lent) → lineFits line ≡ true → 86401 * length recording ≤ plenty lents
-    → isDone (drive lents (start line) recording) ≡ true
+    → isDone (drive lents (freshDeck line) recording) ≡ true

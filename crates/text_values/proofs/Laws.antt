@@ -16,23 +16,23 @@ use Rattle.octets.specs.Buffer.{over}
 use Rattle.octets.specs.Written.{Written}
 use Rattle.octets.proofs.Storing.{Writing, turn, written-one}
 use Rattle.text_values.specs.declared.Number.the-variants.{Bad, Is}
-use Rattle.text_values.specs.Places.{placeOf, startsWith}
-use Rattle.text_values.specs.Numbers.{whenNumber, isDigit, digitsOf, leadsWithZero, decimalOf, quadOf}
+use Rattle.text_values.specs.Places.{indexOf, startsWith}
+use Rattle.text_values.specs.Numbers.{whenNumber, isDigit, digitsOf, leadsWithZero, decimalOf, dottedFrom}
 use Rattle.text_values.specs.Hex.{hexDigit, hexText, nibble, isHex, hexOctets}
 
 -- ---- places
 
 module _ (octet : ℕ) (l : List ℕ) (i : ℕ) where
-  pub place-here : i < length l → getD l i 0 ≡ octet → placeOf octet (drop i l) ≡ 0
-  unfolding placeOf first
+  pub place-here : i < length l → getD l i 0 ≡ octet → indexOf octet (drop i l) ≡ 0
+  unfolding indexOf first
   place-here h e = rw (drop-cons l i 0 h, eq-eqb _ _ e)
 
-  pub place-next : i < length l → (getD l i 0 ≡ octet → ⊥) → placeOf octet (drop i l) ≡ suc (placeOf octet (drop (i + 1) l))
-  unfolding placeOf first
+  pub place-next : i < length l → (getD l i 0 ≡ octet → ⊥) → indexOf octet (drop i l) ≡ suc (indexOf octet (drop (i + 1) l))
+  unfolding indexOf first
   place-next h n = rw (add-one, drop-cons l i 0 h, ne-eqb _ _ n)
 
-  pub place-end : length l ≤ i → placeOf octet (drop i l) ≡ 0
-  unfolding placeOf first
+  pub place-end : length l ≤ i → indexOf octet (drop i l) ≡ 0
+  unfolding indexOf first
   place-end h = rw (drop-of-length-le l h)
 
 pub starts-short : (front l : List ℕ) → length l < length front → startsWith front l ≡ false
@@ -165,29 +165,29 @@ quad-below (suc (suc (suc zero))) n octet text d h e = omega (arith, decimal-bou
 quad-below (suc (suc (suc (suc more)))) n octet text d h e = absurd (omega arith)
 
 module _ (n : ℕ) (text : List ℕ) where
-  pub quad-no-dot : (dots dot : ℕ) → 0 < dots → dot ≡ placeOf 46 text → length text ≤ dot → quadOf dots n text ≡ Bad
-  unfolding quadOf
+  pub quad-no-dot : (dots dot : ℕ) → 0 < dots → dot ≡ indexOf 46 text → length text ≤ dot → dottedFrom dots n text ≡ Bad
+  unfolding dottedFrom
   quad-no-dot zero dot d p h = absurd (omega arith)
   quad-no-dot (suc dots) dot d p h = rw (← p, le-ltb dot (length text) h)
 
-  pub quad-bad : (dots dot : ℕ) → 0 < dots → dot ≡ placeOf 46 text → dot < length text → decimalOf 255 (take dot text) ≡ Bad → quadOf dots n text ≡ Bad
-  unfolding quadOf whenNumber
+  pub quad-bad : (dots dot : ℕ) → 0 < dots → dot ≡ indexOf 46 text → dot < length text → decimalOf 255 (take dot text) ≡ Bad → dottedFrom dots n text ≡ Bad
+  unfolding dottedFrom whenNumber
   quad-bad zero dot d p h e = absurd (omega arith)
   quad-bad (suc dots) dot d p h e = rw (← p, lt-ltb dot (length text) h, e)
 
-  pub quad-next : (dots dot octet : ℕ) → 0 < dots → dot ≡ placeOf 46 text → dot < length text → decimalOf 255 (take dot text) ≡ Is octet
-      → quadOf dots n text ≡ quadOf (dots - 1) (n * 256 + octet) (drop (dot + 1) text)
-  unfolding quadOf whenNumber
+  pub quad-next : (dots dot octet : ℕ) → 0 < dots → dot ≡ indexOf 46 text → dot < length text → decimalOf 255 (take dot text) ≡ Is octet
+      → dottedFrom dots n text ≡ dottedFrom (dots - 1) (n * 256 + octet) (drop (dot + 1) text)
+  unfolding dottedFrom whenNumber
   quad-next zero dot octet d p h e = absurd (omega arith)
   quad-next (suc dots) dot octet d p h e = let s : suc dots - 1 ≡ dots = omega arith in rw (← p, lt-ltb dot (length text) h, e, add-one, s)
 
-  pub quad-last-bad : (dots : ℕ) → dots ≤ 0 → decimalOf 255 text ≡ Bad → quadOf dots n text ≡ Bad
-  unfolding quadOf whenNumber
+  pub quad-last-bad : (dots : ℕ) → dots ≤ 0 → decimalOf 255 text ≡ Bad → dottedFrom dots n text ≡ Bad
+  unfolding dottedFrom whenNumber
   quad-last-bad zero d e = rw e
   quad-last-bad (suc dots) d e = absurd (omega arith)
 
-  pub quad-last : (dots octet : ℕ) → dots ≤ 0 → decimalOf 255 text ≡ Is octet → quadOf dots n text ≡ Is (n * 256 + octet)
-  unfolding quadOf whenNumber
+  pub quad-last : (dots octet : ℕ) → dots ≤ 0 → decimalOf 255 text ≡ Is octet → dottedFrom dots n text ≡ Is (n * 256 + octet)
+  unfolding dottedFrom whenNumber
   quad-last zero octet d e = rw e
   quad-last (suc dots) octet d e = absurd (omega arith)
 

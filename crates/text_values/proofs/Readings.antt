@@ -16,8 +16,8 @@ use Rattle.text.specs.Text.{text, digit, decimal, dotted}
 use Rattle.text.proofs.Laws.{decimal-one, decimal-more, decimal-elim, decimal-most, dotted-length}
 use Rattle.text_values.specs.declared.Number.{Number}
 use Rattle.text_values.specs.declared.Number.the-variants.{Bad, Is}
-use Rattle.text_values.specs.Places.{placeOf}
-use Rattle.text_values.specs.Numbers.{whenNumber, isDigit, digitsOf, leadsWithZero, decimalOf, quadOf, dottedOf}
+use Rattle.text_values.specs.Places.{indexOf}
+use Rattle.text_values.specs.Numbers.{whenNumber, isDigit, digitsOf, leadsWithZero, decimalOf, dottedFrom, dottedOf}
 use Rattle.text_values.specs.Hex.{hexDigit, hexText, nibble, isHex, hexOctets}
 use Rattle.text_values.specs.Claims.{Decimals, Addresses, Hexes, areOctets}
 
@@ -207,20 +207,20 @@ every-append p (x ∷ a) b h k =
     and-both (p x) (every p (a ++ b)) (and-left (p x) (every p a) h) (every-append p a b (and-right (p x) (every p a) h) k)
 
 -- the first such octet stands behind those that are others
-place-behind : (octet : ℕ) (l rest : List ℕ) → without octet l → placeOf octet (l ++ (octet ∷ rest)) ≡ length l
-unfolding placeOf first every
+place-behind : (octet : ℕ) (l rest : List ℕ) → without octet l → indexOf octet (l ++ (octet ∷ rest)) ≡ length l
+unfolding indexOf first every
 place-behind octet [] rest h = rw (eq-eqb octet octet refl)
 place-behind octet (x ∷ l) rest h =
     let other = not-true (eqb x octet) (and-left (not (eqb x octet)) (every (λ o. not (eqb o octet)) l) h) in
     rw other (ap suc (place-behind octet l rest (and-right (not (eqb x octet)) (every (λ o. not (eqb o octet)) l) h)))
 
-pub place-found : (octet : ℕ) (l : List ℕ) → placeOf octet l < length l → getD l (placeOf octet l) 0 ≡ octet
-unfolding placeOf first
+pub place-found : (octet : ℕ) (l : List ℕ) → indexOf octet l < length l → getD l (indexOf octet l) 0 ≡ octet
+unfolding indexOf first
 place-found octet [] h = absurd (omega arith)
 place-found octet (x ∷ l) h = go (eqb x octet) refl (place-found octet l) h
   where
-    go : (b : Bool) → eqb x octet ≡ b → (placeOf octet l < length l → getD l (placeOf octet l) 0 ≡ octet)
-        → cond b 0 (suc (placeOf octet l)) < suc (length l) → getD (x ∷ l) (cond b 0 (suc (placeOf octet l))) 0 ≡ octet
+    go : (b : Bool) → eqb x octet ≡ b → (indexOf octet l < length l → getD l (indexOf octet l) 0 ≡ octet)
+        → cond b 0 (suc (indexOf octet l)) < suc (length l) → getD (x ∷ l) (cond b 0 (suc (indexOf octet l))) 0 ≡ octet
     go true e r h = eqb-true x octet e
     go false e r h = r (omega arith)
 
@@ -247,8 +247,8 @@ decimal-without octet n h = digits-without octet (decimal n) h (all-digits n)
 drop-behind : (l : List ℕ) (octet : ℕ) (rest : List ℕ) → drop (suc (length l)) (l ++ (octet ∷ rest)) ≡ rest
 drop-behind l octet rest = rw (← (add-one (length l))) (drop-append-add l (octet ∷ rest) 1)
 
-quad-turn : (dots n d : ℕ) (rest : List ℕ) → d ≤ 255 → quadOf (suc dots) n (decimal d ++ (46 ∷ rest)) ≡ quadOf dots (n * 256 + d) rest
-unfolding quadOf whenNumber isDigit
+quad-turn : (dots n d : ℕ) (rest : List ℕ) → d ≤ 255 → dottedFrom (suc dots) n (decimal d ++ (46 ∷ rest)) ≡ dottedFrom dots (n * 256 + d) rest
+unfolding dottedFrom whenNumber isDigit
 quad-turn dots n d rest h =
     let room : length (decimal d) < length (decimal d ++ (46 ∷ rest)) = simp length-append (omega arith) in
     rw (
@@ -259,8 +259,8 @@ quad-turn dots n d rest h =
       decimal-back 255 d h,
     )
 
-quad-last : (n d : ℕ) → d ≤ 255 → quadOf 0 n (decimal d) ≡ Is (n * 256 + d)
-unfolding quadOf whenNumber
+quad-last : (n d : ℕ) → d ≤ 255 → dottedFrom 0 n (decimal d) ≡ Is (n * 256 + d)
+unfolding dottedFrom whenNumber
 quad-last n d h = rw (decimal-back 255 d h)
 
 -- the number of four octets
@@ -294,24 +294,24 @@ record Octet (dots n a : ℕ) (text : List ℕ) : Type 0 where
   rest : List ℕ
   small : number ≤ 255
   same : text ≡ behind number rest
-  goes : quadOf dots (n * 256 + number) rest ≡ Is a
+  goes : dottedFrom dots (n * 256 + number) rest ≡ Is a
 
-quad-only : (dots n a : ℕ) (text : List ℕ) → quadOf (suc dots) n text ≡ Is a → Octet dots n a text
-unfolding quadOf whenNumber
+quad-only : (dots n a : ℕ) (text : List ℕ) → dottedFrom (suc dots) n text ≡ Is a → Octet dots n a text
+unfolding dottedFrom whenNumber
 quad-only dots n a text e =
-    let c = chosen (ltb (placeOf 46 text) (length text)) _ a e in
-    go (decimalOf 255 (take (placeOf 46 text) text)) refl (ltb-true (placeOf 46 text) (length text) (c .0)) (c .1)
+    let c = chosen (ltb (indexOf 46 text) (length text)) _ a e in
+    go (decimalOf 255 (take (indexOf 46 text) text)) refl (ltb-true (indexOf 46 text) (length text) (c .0)) (c .1)
   where
-    go : (x : Number) → decimalOf 255 (take (placeOf 46 text) text) ≡ x → placeOf 46 text < length text
-        → whenNumber x Bad (λ octet. quadOf dots (n * 256 + octet) (drop (suc (placeOf 46 text)) text)) ≡ Is a → Octet dots n a text
+    go : (x : Number) → decimalOf 255 (take (indexOf 46 text) text) ≡ x → indexOf 46 text < length text
+        → whenNumber x Bad (λ octet. dottedFrom dots (n * 256 + octet) (drop (suc (indexOf 46 text)) text)) ≡ Is a → Octet dots n a text
     go Bad q h e = never a e
     go (Is d) q h e =
-        let r = decimal-only 255 (take (placeOf 46 text) text) d q in
+        let r = decimal-only 255 (take (indexOf 46 text) text) d q in
         record {
           number = d;
-          rest = drop (suc (placeOf 46 text)) text;
+          rest = drop (suc (indexOf 46 text)) text;
           small = r .1;
-          same = split-at text (placeOf 46 text) 0 h ∙ rw (r .0, place-found 46 text h);
+          same = split-at text (indexOf 46 text) 0 h ∙ rw (r .0, place-found 46 text h);
           goes = e;
         }
 
@@ -322,8 +322,8 @@ record Last (n a : ℕ) (text : List ℕ) : Type 0 where
   same : text ≡ decimal number
   ends : n * 256 + number ≡ a
 
-quad-end : (n a : ℕ) (text : List ℕ) → quadOf 0 n text ≡ Is a → Last n a text
-unfolding quadOf whenNumber
+quad-end : (n a : ℕ) (text : List ℕ) → dottedFrom 0 n text ≡ Is a → Last n a text
+unfolding dottedFrom whenNumber
 quad-end n a text e = go (decimalOf 255 text) refl e
   where
     go : (x : Number) → decimalOf 255 text ≡ x → whenNumber x Bad (λ octet. Is (n * 256 + octet)) ≡ Is a → Last n a text
@@ -372,7 +372,7 @@ no-slash a =
     behind-slashless (a / 16777216 % 256) _
     (behind-slashless (a / 65536 % 256) _ (behind-slashless (a / 256 % 256) _ (decimal-without 47 (a % 256) refl)))
 
-pub slash-place : (a : ℕ) (rest : List ℕ) → placeOf 47 (dotted a ++ (47 ∷ rest)) ≡ length (dotted a)
+pub slash-place : (a : ℕ) (rest : List ℕ) → indexOf 47 (dotted a ++ (47 ∷ rest)) ≡ length (dotted a)
 slash-place a rest = place-behind 47 (dotted a) rest (no-slash a)
 
 -- ---- octets in hex

@@ -6,7 +6,7 @@ use lib.Dec.{leb, ltb, eqb}
 use lib.ListN.{length, take, drop, getD}
 use Rattle.text_values.specs.declared.Number.{Number}
 use Rattle.text_values.specs.declared.Number.the-variants.{Bad, Is}
-use Rattle.text_values.specs.Places.{placeOf}
+use Rattle.text_values.specs.Places.{indexOf}
 
 -- what is made of a number, if there is one
 unfoldable pub whenNumber : {A : Type 0} → Number → A → (ℕ → A) → A
@@ -32,13 +32,13 @@ unfoldable pub decimalOf : ℕ → List ℕ → Number
 decimalOf limit text = cond (eqb (length text) 0) Bad (cond (leadsWithZero text) Bad (digitsOf limit 0 text))
 
 -- numbers up to 255 with dots between them, so many dots to come, behind those that gave n
-unfoldable pub quadOf : ℕ → ℕ → List ℕ → Number
-quadOf zero n text = whenNumber (decimalOf 255 text) Bad (λ octet. Is (n * 256 + octet))
-quadOf (suc dots) n text =
-    cond (ltb (placeOf 46 text) (length text))
-    (whenNumber (decimalOf 255 (take (placeOf 46 text) text)) Bad (λ octet. quadOf dots (n * 256 + octet) (drop (suc (placeOf 46 text)) text)))
+unfoldable pub dottedFrom : ℕ → ℕ → List ℕ → Number
+dottedFrom zero n text = whenNumber (decimalOf 255 text) Bad (λ octet. Is (n * 256 + octet))
+dottedFrom (suc dots) n text =
+    cond (ltb (indexOf 46 text) (length text))
+    (whenNumber (decimalOf 255 (take (indexOf 46 text) text)) Bad (λ octet. dottedFrom dots (n * 256 + octet) (drop (suc (indexOf 46 text)) text)))
     Bad
 
 -- an address: four numbers with three dots
 unfoldable pub dottedOf : List ℕ → Number
-dottedOf text = quadOf 3 0 text
+dottedOf text = dottedFrom 3 0 text

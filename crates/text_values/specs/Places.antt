@@ -6,8 +6,8 @@ use lib.Dec.{eqb}
 use Rattle.checks.specs.Lists.{first}
 
 -- the index of the first such octet, or the length
-unfoldable pub placeOf : ℕ → List ℕ → ℕ
-placeOf octet l = first (λ o. eqb o octet) l
+unfoldable pub indexOf : ℕ → List ℕ → ℕ
+indexOf octet l = first (λ o. eqb o octet) l
 
 -- whether a list begins with these octets
 unfoldable pub startsWith : List ℕ → List ℕ → Bool

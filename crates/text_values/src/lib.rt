@@ -7,7 +7,7 @@ ghost use Rattle.octets.specs.Buffer.{over};
 ghost use Rattle.octets.specs.Written.{Written};
 ghost use Rattle.text_values.specs.Numbers.{digitsOf, decimalOf, dottedOf};
 ghost use Rattle.text_values.specs.Hex.{nibble, isHex, hexOctets, hexDigit, hexText};
-ghost use Rattle.text_values.specs.Places.{placeOf, startsWith};
+ghost use Rattle.text_values.specs.Places.{indexOf, startsWith};
 
 // What was read: a number, or text that is none.
 pub enum Number {
@@ -16,8 +16,8 @@ pub enum Number {
 }
 
 // The index of the first such octet, or the length.
-pub fn place(octets: &[u8], octet: u8) -> usize
-    ensures { λ r. ⌜ r ≡ placeOf octet (now (octets .entry)) ⌝ }
+pub fn index_of(octets: &[u8], octet: u8) -> usize
+    ensures { λ r. ⌜ r ≡ indexOf octet (now (octets .entry)) ⌝ }
 {
     let mut at = 0;
     while at < octets.len() {
@@ -92,7 +92,7 @@ pub fn read_dotted(text: &[u8]) -> Number
     let mut dots = 3u8;
     let mut rest = text;
     while 0 < dots {
-        let dot = place(rest, 46);
+        let dot = index_of(rest, 46);
         if rest.len() <= dot {
             return Number::Bad;
         }

@@ -13,7 +13,7 @@ use lib.Seq.{sets, length-sets, sets-eq, length-take-le}
 use Rattle.checks.proofs.Laws.{part-from, cond-elim}
 use Rattle.nets.specs.Classes.{netWidth, hostSpan, goodNet}
 use Rattle.nets.specs.Rows.{Row, flat}
-use Rattle.update_walk.specs.Body.{Got, got, stop, andThen, after, many, bigEndian, leftJustified, netRow, groupRows, hostWidth, gatewayOf, blockRows, bothSides, Walk, whole, broken, blocksOf, updateOf, accepted}
+use Rattle.update_walk.specs.Body.{Got, got, stop, andThen, after, many, bigEndian, leftJustified, netRow, groupRows, hostWidth, gatewayOf, blockRows, bothSides, Walk, whole, broken, walkedBlocks, updateOf, accepted}
 use Rattle.update_walk.proofs.Flat.{group-rows, block-rows, both-sides}
 use Rattle.update_walk.proofs.Laws.{never, Front, Sounds, front-fits, front-rest, many-next, many-stop, many-none, many-sound, block-sound}
 use Rattle.update_walk.proofs.Turns.{Stepped, rowAt}
@@ -21,7 +21,7 @@ use Rattle.update_walk.proofs.Groups.{net-good}
 use Rattle.update_walk.proofs.Accepted.{Whole, whole-is, accepted-is}
 use Rattle.update_walk.proofs.Good.{justified-fits, net-of, gateway-fits}
 use Rattle.update_rows.specs.declared.Put.{Put}
-use Rattle.update_rows.specs.Storing.{zeros, padded, isWhole, rowsIn, Storable, isGot, gotRows, gotRest, Room, Stored}
+use Rattle.update_rows.specs.Storing.{zeros, padded, isWhole, walkedRows, Storable, isGot, gotRows, gotRest, Room, Stored}
 
 pub sets-append : (l : List ℕ) (i : ℕ) (xs ys : List ℕ) → sets l i (xs ++ ys) ≡ sets (sets l i xs) (i + length xs) ys
 sets-append l i [] ys = ap (λ (k : ℕ). sets l k ys) (sym (add-zero i))
@@ -276,8 +276,8 @@ module _ (side net : ℕ) (t : List ℕ) where
           → Stored (blockRows side net t) at part new p
       block-stored new p s = rw block-is at s
 
-wholly : (w : Walk) → isWhole w ≡ true → w ≡ whole (rowsIn w)
-unfolding isWhole rowsIn
+wholly : (w : Walk) → isWhole w ≡ true → w ≡ whole (walkedRows w)
+unfolding isWhole walkedRows
 wholly (whole rs) h = refl
 wholly (broken k) h = never h
 
@@ -329,13 +329,13 @@ known g xs rest at old new p e s =
 
 -- storing both sides of whole blocks, then zeros
 module _ (net : ℕ) (message part : List ℕ) (s : Storable net message part) where
-  pub store-whole : Whole net message (rowsIn (blocksOf net message))
-  store-whole = whole-is net message (rowsIn (blocksOf net message)) (wholly (blocksOf net message) (s .sound))
+  pub store-whole : Whole net message (walkedRows (walkedBlocks net message))
+  store-whole = whole-is net message (walkedRows (walkedBlocks net message)) (wholly (walkedBlocks net message) (s .sound))
 
-  parts : Halves net (getD message 10 0) (getD message 11 0) (drop 16 message) (rowsIn (blocksOf net message))
-  parts = halves net (getD message 10 0) (getD message 11 0) (drop 16 message) (rowsIn (blocksOf net message)) (store-whole .is)
+  parts : Halves net (getD message 10 0) (getD message 11 0) (drop 16 message) (walkedRows (walkedBlocks net message))
+  parts = halves net (getD message 10 0) (getD message 11 0) (drop 16 message) (walkedRows (walkedBlocks net message)) (store-whole .is)
 
-  counts : length (rowsIn (blocksOf net message)) ≡ length (parts .inside) + length (parts .outside)
+  counts : length (walkedRows (walkedBlocks net message)) ≡ length (parts .inside) + length (parts .outside)
   counts = ap length (parts .rows) ∙ length-append (parts .inside) (parts .outside)
 
   module _ (body : List ℕ) (b : body ≡ drop 16 message) where
@@ -372,16 +372,16 @@ module _ (net : ℕ) (message part : List ℕ) (s : Storable net message part) w
         pub second-long : length new2 ≡ length part
         second-long = outer .long ∙ inner .long
 
-        pub store-done : (last : List ℕ) → last ≡ sets new2 (q .at) (zeros (length new2 - q .at)) → last ≡ padded (length part) (flat (rowsIn (blocksOf net message)))
+        pub store-done : (last : List ℕ) → last ≡ sets new2 (q .at) (zeros (length new2 - q .at)) → last ≡ padded (length part) (flat (walkedRows (walkedBlocks net message)))
         unfolding padded
         store-done last e =
-            let rs = rowsIn (blocksOf net message) in
+            let rs = walkedRows (walkedBlocks net message) in
             let xs = parts .inside in
             let ys = parts .outside in
-            let k : length (flat (rowsIn (blocksOf net message))) ≡ 3 * length (rowsIn (blocksOf net message)) = flat-length rs in
-            let i : q .at ≡ 0 + length (flat (rowsIn (blocksOf net message))) = omega (arith, k, counts, inner .next, outer .next) in
-            let z : length new2 - q .at ≡ length part - length (flat (rowsIn (blocksOf net message))) = omega (arith, i, outer .long, inner .long) in
-            let n : new2 ≡ sets part 0 (flat (rowsIn (blocksOf net message))) =
+            let k : length (flat (walkedRows (walkedBlocks net message))) ≡ 3 * length (walkedRows (walkedBlocks net message)) = flat-length rs in
+            let i : q .at ≡ 0 + length (flat (walkedRows (walkedBlocks net message))) = omega (arith, k, counts, inner .next, outer .next) in
+            let z : length new2 - q .at ≡ length part - length (flat (walkedRows (walkedBlocks net message))) = omega (arith, i, outer .long, inner .long) in
+            let n : new2 ≡ sets part 0 (flat (walkedRows (walkedBlocks net message))) =
             outer .numbers ∙ ap (λ (l : List ℕ). sets l (p .at) (flat ys)) (inner .numbers) ∙ ap (λ (j : ℕ). sets (sets part 0 (flat xs)) j (flat ys)) (inner .next)
             ∙ sym (sets-rows part 0 xs ys) ∙ ap (λ (l : List Row). sets part 0 (flat l)) (sym (parts .rows)) in
             let size : length (flat rs ++ zeros (length part - length (flat rs))) ≡ length part =
@@ -392,9 +392,9 @@ module _ (net : ℕ) (message part : List ℕ) (s : Storable net message part) w
 
 -- an accepted Update can be stored, and its rows are those stored
 module _ (room net : ℕ) (message : List ℕ) (rs : List Row) (e : updateOf room net message ≡ accepted rs) where
-  pub storable-rows : rowsIn (blocksOf net message) ≡ rs
-  unfolding rowsIn
-  storable-rows = ap rowsIn ((accepted-is room net message rs e) .is)
+  pub storable-rows : walkedRows (walkedBlocks net message) ≡ rs
+  unfolding walkedRows
+  storable-rows = ap walkedRows ((accepted-is room net message rs e) .is)
 
   pub storable : (part : List ℕ) → 3 * room ≤ length part → Storable net message part
   unfolding isWhole

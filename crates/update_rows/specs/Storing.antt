@@ -6,7 +6,7 @@ use mathlib.Core.List.{List, [], _++_}
 use lib.ListN.{length, replicate}
 use lib.Seq.{sets}
 use Rattle.nets.specs.Rows.{Row, flat}
-use Rattle.update_walk.specs.Body.{Got, got, stop, Walk, whole, broken, blocksOf}
+use Rattle.update_walk.specs.Body.{Got, got, stop, Walk, whole, broken, walkedBlocks}
 use Rattle.update_rows.specs.declared.Put.{Put}
 
 -- 01: "Unused rows are zero"
@@ -22,14 +22,14 @@ unfoldable pub isWhole : Walk → Bool
 isWhole (whole rs) = true
 isWhole (broken offset) = false
 
-unfoldable pub rowsIn : Walk → List Row
-rowsIn (whole rs) = rs
-rowsIn (broken offset) = []
+unfoldable pub walkedRows : Walk → List Row
+walkedRows (whole rs) = rs
+walkedRows (broken offset) = []
 
 -- what storing may take for granted: the walk was good, and there is room for its rows
 pub record Storable (net : ℕ) (message part : List ℕ) : Type 0 where
-  pub sound : isWhole (blocksOf net message) ≡ true
-  pub room : 3 * length (rowsIn (blocksOf net message)) ≤ length part
+  pub sound : isWhole (walkedBlocks net message) ≡ true
+  pub room : 3 * length (walkedRows (walkedBlocks net message)) ≤ length part
 
 -- the same of one reading, with its rows and the octets after it
 unfoldable pub isGot : Got (List Row) → Bool

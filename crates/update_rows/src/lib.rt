@@ -7,8 +7,8 @@ ghost use lib.ListN.{length};
 ghost use lib.Seq.{sets};
 ghost use Rattle.nets.specs.Classes.{goodNet};
 ghost use Rattle.nets.specs.Rows.{flat};
-ghost use Rattle.update_walk.specs.Body.{many, leftJustified, netRow, groupRows, blockRows, blocksOf};
-ghost use Rattle.update_rows.specs.Storing.{zeros, padded, Storable, Room, Stored, rowsIn};
+ghost use Rattle.update_walk.specs.Body.{many, leftJustified, netRow, groupRows, blockRows, walkedBlocks};
+ghost use Rattle.update_rows.specs.Storing.{zeros, padded, Storable, Room, Stored, walkedRows};
 
 // Where the next number goes, and how many octets are left.
 struct Put {
@@ -148,7 +148,7 @@ pub fn clear(part: &mut [u32])
 // The rows of an Update that the walk found good, then zeros.
 pub fn store_rows(part: &mut [u32], net: u32, message: &[u8])
     requires { ⌜ Storable net (now message) (now part) ⌝ }
-    ensures { λ r. ⌜ now (part .exit) ≡ padded (length (now (part .entry))) (flat (rowsIn (blocksOf net (now (message .entry))))) ⌝ }
+    ensures { λ r. ⌜ now (part .exit) ≡ padded (length (now (part .entry))) (flat (walkedRows (walkedBlocks net (now (message .entry))))) ⌝ }
 {
     let body = &message[16..];
     let inside = put_blocks(part, 0, body, message[10], 0, net);

@@ -6,10 +6,10 @@ use mathlib.Core.List.{List, [], _∷_}
 use Rattle.checks.specs.Lists.{every, join}
 use Rattle.nets.specs.Classes.{netWidth, hostSpan, goodNet, onNet}
 use Rattle.nets.specs.Rows.{Row}
-use Rattle.update_walk.specs.Body.{digits, many, leftJustified, rowOfWidth, netRow, groupAt, hostWidth, gatewayOf, blockAt, sidesAt, groupsHold, blocksHold, sidesHold, readAs, bothSides, whole, nothingLeft, bodyOf}
-use Rattle.update_writing.specs.Blocks.{sideRows, joined, runs, each, addressOctets, netOctets, hostOctets, netsOctets, groupOctets, groupsOctets, blockOctets, sideOctets, blocksOf, internalBlocks, externalBlocks}
+use Rattle.update_walk.specs.Body.{extended, many, leftJustified, rowOfWidth, netRow, groupAt, hostWidth, gatewayOf, blockAt, sidesAt, groupsHold, blocksHold, sidesHold, readAs, bothSides, whole, nothingLeft, bodyOf}
+use Rattle.update_writing.specs.Blocks.{sideRows, joined, runs, each, addressOctets, netOctets, hostOctets, netsOctets, groupOctets, groupsOctets, blockOctets, sideOctets, blocksWritten, internalBlocks, externalBlocks}
 use Rattle.update_writing.specs.Writable.{ordered, writableRow, writableRows}
-use Rattle.update_theorem.specs.Canonical.{some, apart, fullBlock, fullSide, fullSides, canonical}
+use Rattle.update_theorem.specs.Canonical.{some, adjacentDiffer, fullBlock, fullSide, fullSides, canonical}
 
 -- 128.9.0.0, and its gateways 128.9.0.5 and 128.9.0.6
 net : ℕ
@@ -19,8 +19,8 @@ net = 2148073472
 caseU : List Row
 caseU = record { net = 167772160; gateway = 2148073477; third = 0 } ∷ record { net = 3221554688; gateway = 2148073477; third = 0 } ∷ []
 
-u-written : blocksOf net caseU ≡ 0 ∷ 5 ∷ 1 ∷ 0 ∷ 2 ∷ 10 ∷ 192 ∷ 5 ∷ 6 ∷ []
-unfolding net caseU blocksOf sideRows joined runs each addressOctets netOctets hostOctets netsOctets groupOctets groupsOctets blockOctets sideOctets netWidth
+u-written : blocksWritten net caseU ≡ 0 ∷ 5 ∷ 1 ∷ 0 ∷ 2 ∷ 10 ∷ 192 ∷ 5 ∷ 6 ∷ []
+unfolding net caseU blocksWritten sideRows joined runs each addressOctets netOctets hostOctets netsOctets groupOctets groupsOctets blockOctets sideOctets netWidth
 u-written = refl
 
 u-writable : writableRows net caseU ≡ true
@@ -37,8 +37,8 @@ mixed =
     ∷ record { net = 234881024; gateway = 2148073477; third = 258 }
     ∷ []
 
-mixed-written : blocksOf net mixed ≡ 0 ∷ 5 ∷ 1 ∷ 1 ∷ 1 ∷ 10 ∷ 0 ∷ 6 ∷ 1 ∷ 1 ∷ 1 ∷ 11 ∷ 0 ∷ 5 ∷ 2 ∷ 1 ∷ 1 ∷ 12 ∷ 2 ∷ 1 ∷ 13 ∷ 0 ∷ 5 ∷ 1 ∷ 2 ∷ 1 ∷ 14 ∷ []
-unfolding net mixed blocksOf sideRows joined runs each addressOctets netOctets hostOctets netsOctets groupOctets groupsOctets blockOctets sideOctets netWidth
+mixed-written : blocksWritten net mixed ≡ 0 ∷ 5 ∷ 1 ∷ 1 ∷ 1 ∷ 10 ∷ 0 ∷ 6 ∷ 1 ∷ 1 ∷ 1 ∷ 11 ∷ 0 ∷ 5 ∷ 2 ∷ 1 ∷ 1 ∷ 12 ∷ 2 ∷ 1 ∷ 13 ∷ 0 ∷ 5 ∷ 1 ∷ 2 ∷ 1 ∷ 14 ∷ []
+unfolding net mixed blocksWritten sideRows joined runs each addressOctets netOctets hostOctets netsOctets groupOctets groupsOctets blockOctets sideOctets netWidth
 mixed-written = refl
 
 mixed-counts : (internalBlocks mixed ≡ 3) × (externalBlocks mixed ≡ 1)
@@ -50,13 +50,13 @@ twice : List ℕ
 twice = 0 ∷ 5 ∷ 1 ∷ 0 ∷ 1 ∷ 10 ∷ 0 ∷ 5 ∷ 1 ∷ 0 ∷ 1 ∷ 11 ∷ []
 
 twice-read : bodyOf net 2 0 twice ≡ whole (record { net = 167772160; gateway = 2148073477; third = 0 } ∷ record { net = 184549376; gateway = 2148073477; third = 0 } ∷ [])
-unfolding net twice bodyOf nothingLeft bothSides sidesAt sidesHold readAs many blockAt blocksHold groupAt groupsHold join netRow rowOfWidth leftJustified hostWidth gatewayOf digits netWidth hostSpan
+unfolding net twice bodyOf nothingLeft bothSides sidesAt sidesHold readAs many blockAt blocksHold groupAt groupsHold join netRow rowOfWidth leftJustified hostWidth gatewayOf extended netWidth hostSpan
 twice-read = refl
 
 twice-not : canonical net 2 0 twice ≡ false
-unfolding net twice canonical fullSides fullSide fullBlock every some apart many sidesAt blockAt groupAt netRow rowOfWidth leftJustified hostWidth gatewayOf digits netWidth hostSpan
+unfolding net twice canonical fullSides fullSide fullBlock every some adjacentDiffer many sidesAt blockAt groupAt netRow rowOfWidth leftJustified hostWidth gatewayOf extended netWidth hostSpan
 twice-not = refl
 
 empty-not : (canonical net 1 0 (0 ∷ 5 ∷ 0 ∷ []) ≡ false) × (canonical net 1 0 (0 ∷ 5 ∷ 1 ∷ 7 ∷ 0 ∷ []) ≡ false) × (canonical net 0 0 [] ≡ true)
-unfolding net canonical fullSides fullSide fullBlock every some apart many sidesAt blockAt groupAt netRow rowOfWidth leftJustified hostWidth gatewayOf digits netWidth hostSpan
+unfolding net canonical fullSides fullSide fullBlock every some adjacentDiffer many sidesAt blockAt groupAt netRow rowOfWidth leftJustified hostWidth gatewayOf extended netWidth hostSpan
 empty-not = (refl, refl, refl)

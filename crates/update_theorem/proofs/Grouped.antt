@@ -13,7 +13,7 @@ use Rattle.nets.specs.Rows.{Row}
 use Rattle.update_writing.specs.Blocks.{joined, runs, gatewayRuns, distanceRuns, each, groupOctets, groupsOctets, hostOctets, blockOctets, sideOctets}
 use Rattle.update_writing.proofs.Runs.{runs-whole}
 use Rattle.update_walk.specs.Body.{Group, Block}
-use Rattle.update_theorem.specs.Canonical.{some, apart, fullBlock, fullSide}
+use Rattle.update_theorem.specs.Canonical.{some, adjacentDiffer, fullBlock, fullSide}
 use Rattle.update_theorem.proofs.Readings.{AllOf, every-all, all-every, all-map, all-each, each-map, each-same}
 use Rattle.update_theorem.proofs.Octets.{RowFact}
 use Rattle.update_theorem.proofs.Sent.{groupSent, blockSent, blockHolds, GroupFact, BlockFact}
@@ -45,20 +45,20 @@ module _ (key : Row → ℕ) where
   runs-run [] = tt
   runs-run (row ∷ rest) = joined-run row (runs key rest) (runs-run rest)
 
-  joined-apart : (row : Row) (later : List (List Row)) → AllOf (Run key) later → apart (leader key) later ≡ true → apart (leader key) (joined key row later) ≡ true
-  unfolding joined leader apart some
+  joined-apart : (row : Row) (later : List (List Row)) → AllOf (Run key) later → adjacentDiffer (leader key) later ≡ true → adjacentDiffer (leader key) (joined key row later) ≡ true
+  unfolding joined leader adjacentDiffer some
   joined-apart row [] h a = refl
   joined-apart row ([] ∷ later) h a = absurd (false≢true (h .0 .full))
   joined-apart row ((next ∷ run) ∷ later) h a = go (eqb (key row) (key next)) refl later a
     where
-      go : (b : Bool) → eqb (key row) (key next) ≡ b → (later : List (List Row)) → apart (leader key) ((next ∷ run) ∷ later) ≡ true
-          → apart (leader key) (cond b ((row ∷ next ∷ run) ∷ later) ((row ∷ []) ∷ (next ∷ run) ∷ later)) ≡ true
+      go : (b : Bool) → eqb (key row) (key next) ≡ b → (later : List (List Row)) → adjacentDiffer (leader key) ((next ∷ run) ∷ later) ≡ true
+          → adjacentDiffer (leader key) (cond b ((row ∷ next ∷ run) ∷ later) ((row ∷ []) ∷ (next ∷ run) ∷ later)) ≡ true
       go true e [] a = refl
       go true e (run′ ∷ more) a = rw (eqb-true (key row) (key next) e) a
       go false e later a = rw e a
 
-  pub runs-apart : (rows : List Row) → apart (leader key) (runs key rows) ≡ true
-  unfolding runs apart
+  pub runs-apart : (rows : List Row) → adjacentDiffer (leader key) (runs key rows) ≡ true
+  unfolding runs adjacentDiffer
   runs-apart [] = refl
   runs-apart (row ∷ rest) = joined-apart row (runs key rest) (runs-run rest) (runs-apart rest)
 
@@ -94,24 +94,24 @@ front-run key k row (next ∷ rows) later parts e h p fresh =
 
 -- such items whose neighbours differ are the items of the runs of all their rows
 module _ {B : Type 0} (key : Row → ℕ) (own : B → ℕ) (hold : B → List Row) (make : List Row → B) where
-  fresh : (item : B) (items : List B) → AllOf (Part key own hold make) items → apart own (item ∷ items) ≡ true
+  fresh : (item : B) (items : List B) → AllOf (Part key own hold make) items → adjacentDiffer own (item ∷ items) ≡ true
       → (r : Row) → key r ≡ own item → joined key r (map hold items) ≡ (r ∷ []) ∷ map hold items
-  unfolding joined apart some
+  unfolding joined adjacentDiffer some
   fresh item [] h a r e = refl
   fresh item (next ∷ items) h a r e = go (hold next) (h .0 .full) (h .0 .same)
     where
       go : (l : List Row) → some l ≡ true → AllOf (λ row. key row ≡ own next) l → joined key r (l ∷ map hold items) ≡ (r ∷ []) ∷ l ∷ map hold items
       go [] f m = absurd (false≢true f)
       go (row ∷ rows) f m =
-          let d = eqb-false (own item) (own next) (not-true (eqb (own item) (own next)) (and-left (not (eqb (own item) (own next))) (apart own (next ∷ items)) a)) in
+          let d = eqb-false (own item) (own next) (not-true (eqb (own item) (own next)) (and-left (not (eqb (own item) (own next))) (adjacentDiffer own (next ∷ items)) a)) in
           rw (ne-eqb (key r) (key row) (λ z. d (sym e ∙ z ∙ m .0)))
 
-  apart-rest : (item : B) (items : List B) → apart own (item ∷ items) ≡ true → apart own items ≡ true
-  unfolding apart
+  apart-rest : (item : B) (items : List B) → adjacentDiffer own (item ∷ items) ≡ true → adjacentDiffer own items ≡ true
+  unfolding adjacentDiffer
   apart-rest item [] a = refl
-  apart-rest item (next ∷ items) a = and-right (not (eqb (own item) (own next))) (apart own (next ∷ items)) a
+  apart-rest item (next ∷ items) a = and-right (not (eqb (own item) (own next))) (adjacentDiffer own (next ∷ items)) a
 
-  runs-back : (items : List B) → AllOf (Part key own hold make) items → apart own items ≡ true → runs key (each hold items) ≡ map hold items
+  runs-back : (items : List B) → AllOf (Part key own hold make) items → adjacentDiffer own items ≡ true → runs key (each hold items) ≡ map hold items
   unfolding runs each some
   runs-back [] h a = refl
   runs-back (item ∷ items) h a = go (hold item) (h .0 .full) (h .0 .same) (runs-back items (h .1) (apart-rest item items a))
@@ -125,7 +125,7 @@ module _ {B : Type 0} (key : Row → ℕ) (own : B → ℕ) (hold : B → List R
   map-back [] h = refl
   map-back (item ∷ items) h = ap₂ (λ (x : B) (xs : List B). x ∷ xs) (h .0 .back) (map-back items (h .1))
 
-  pub regroup : (items : List B) → AllOf (Part key own hold make) items → apart own items ≡ true → map make (runs key (each hold items)) ≡ items
+  pub regroup : (items : List B) → AllOf (Part key own hold make) items → adjacentDiffer own items ≡ true → map make (runs key (each hold items)) ≡ items
   regroup items h a = ap (map make) (runs-back items h a) ∙ map-back items h
 
 -- the groups and blocks of rows
@@ -250,8 +250,8 @@ module _ (side net : ℕ) where
       (all-two (λ run a b. block-fact run a b) (gatewayRuns rows) (runs-run (λ row. row .gateway) rows) (runs-keep (λ row. row .gateway) (Sound side net) rows h))
 
 -- groups and blocks made of runs are full, and neighbours differ
-apart-made : {A B : Type 0} (own : B → ℕ) (f : A → B) (xs : List A) → apart own (map f xs) ≡ apart (λ x. own (f x)) xs
-unfolding apart
+apart-made : {A B : Type 0} (own : B → ℕ) (f : A → B) (xs : List A) → adjacentDiffer own (map f xs) ≡ adjacentDiffer (λ x. own (f x)) xs
+unfolding adjacentDiffer
 apart-made own f [] = refl
 apart-made own f (x ∷ []) = refl
 apart-made own f (x ∷ y ∷ xs) = ap (λ (b : Bool). not (eqb (own (f x)) (own (f y))) && b) (apart-made own f (y ∷ xs))
@@ -276,7 +276,7 @@ unfolding some
 some-made f [] = refl
 some-made f (x ∷ xs) = refl
 
-groups-apart : (rows : List Row) → apart (λ (group : Group). group .third) (groupsFrom rows) ≡ true
+groups-apart : (rows : List Row) → adjacentDiffer (λ (group : Group). group .third) (groupsFrom rows) ≡ true
 unfolding groupsFrom groupFrom
 groups-apart rows = apart-made (λ (group : Group). group .third) groupFrom (distanceRuns rows) ∙ runs-apart (λ row. row .third) rows
 
@@ -291,7 +291,7 @@ groups-full rows =
     (all-made (λ (group : Group). some (group .rows) ≡ true) groupFrom (distanceRuns rows)
     (all-map (λ run (r : Run (λ row. row .third) run). r .full) (distanceRuns rows) (runs-run (λ row. row .third) rows)))
 
-blocks-apart : (rows : List Row) → apart (λ (block : Block). block .gateway) (blocksFrom rows) ≡ true
+blocks-apart : (rows : List Row) → adjacentDiffer (λ (block : Block). block .gateway) (blocksFrom rows) ≡ true
 unfolding blocksFrom blockFrom
 blocks-apart rows = apart-made (λ (block : Block). block .gateway) blockFrom (gatewayRuns rows) ∙ runs-apart (λ row. row .gateway) rows
 
@@ -326,7 +326,7 @@ module _ (side gateway : ℕ) where
         back = ap (λ (k : ℕ). record { third = k; rows = group .rows }) (leader-is (λ row. row .third) (group .third) (group .rows) s h);
       }
 
-  groups-back : (groups : List Group) → AllOf (GroupFact side gateway) groups → every (λ group. some (group .rows)) groups ≡ true → apart (λ group. group .third) groups ≡ true
+  groups-back : (groups : List Group) → AllOf (GroupFact side gateway) groups → every (λ group. some (group .rows)) groups ≡ true → adjacentDiffer (λ group. group .third) groups ≡ true
       → groupsFrom (each (λ (group : Group). group .rows) groups) ≡ groups
   unfolding groupsFrom
   groups-back groups f s a =
@@ -348,7 +348,7 @@ module _ (side net : ℕ) where
   block-part block f full =
       let s = and-left (some (block .groups)) (every (λ group. some (group .rows)) (block .groups)) (and-left _ _ full) in
       let e = and-right (some (block .groups)) (every (λ group. some (group .rows)) (block .groups)) (and-left _ _ full) in
-      let a = and-right (some (block .groups) && every (λ group. some (group .rows)) (block .groups)) (apart (λ group. group .third) (block .groups)) full in
+      let a = and-right (some (block .groups) && every (λ group. some (group .rows)) (block .groups)) (adjacentDiffer (λ group. group .third) (block .groups)) full in
       let some-rows = holds-some (block .groups) s e in
       let via = all-each (λ row. row .gateway ≡ block .gateway) (λ (group : Group). group .rows) (block .groups)
       (all-map (λ group (k : GroupFact side (block .gateway) group). all-map (λ row (m : RowFact (block .gateway) (group .third) row). m .via) (group .rows) (k .rows)) (block .groups) (f .groups)) in
@@ -365,8 +365,8 @@ module _ (side net : ℕ) where
   unfolding blocksFrom fullSide
   blocks-back blocks f full =
       regroup (λ row. row .gateway) (λ (block : Block). block .gateway) blockHolds blockFrom blocks
-      (all-two (λ block k m. block-part block k m) blocks f (every-all fullBlock blocks (and-left (every fullBlock blocks) (apart (λ block. block .gateway) blocks) full)))
-      (and-right (every fullBlock blocks) (apart (λ block. block .gateway) blocks) full)
+      (all-two (λ block k m. block-part block k m) blocks f (every-all fullBlock blocks (and-left (every fullBlock blocks) (adjacentDiffer (λ block. block .gateway) blocks) full)))
+      (and-right (every fullBlock blocks) (adjacentDiffer (λ block. block .gateway) blocks) full)
 
   -- the rows of blocks that were read can be sent
   pub holds-sound : (blocks : List Block) → AllOf (BlockFact side net) blocks → AllOf (Sound side net) (each blockHolds blocks)

@@ -13,7 +13,7 @@ use Rattle.checks.proofs.Laws.{and-left, and-right, cond-elim}
 use Rattle.checks.specs.Lists.{every}
 use Rattle.nets.specs.Classes.{netWidth, firstOctet, widthOf, hostSpan, goodNet, onNet}
 use Rattle.nets.specs.Rows.{Row}
-use Rattle.update_walk.specs.Body.{Got, got, stop, digits, bigEndian, leftJustified, rowOfWidth, netRow, hostWidth, gatewayOf}
+use Rattle.update_walk.specs.Body.{Got, got, stop, extended, bigEndian, leftJustified, rowOfWidth, netRow, hostWidth, gatewayOf}
 use Rattle.update_writing.specs.Blocks.{addressOctets, netOctets, hostOctets}
 use Rattle.update_writing.proofs.Claims.{width-most, width-least, net-octets, host-octets}
 use Rattle.update_theorem.specs.Trip.{octetsOnly}
@@ -57,7 +57,7 @@ summed n x y z first second third p q r s = omega arith
 
 -- the leading octets of a left-justified net are its value
 leading : (width n : ℕ) → 0 < width → width ≤ 3 → n / 16777216 < 224 → n % hostSpan width ≡ 0 → bigEndian (take width (addressOctets n)) * hostSpan width ≡ n
-unfolding digits addressOctets hostSpan
+unfolding extended addressOctets hostSpan
 leading zero n a b f j = absurd (omega arith)
 leading (suc zero) n a b f j = omega arith
 leading (suc (suc zero)) n a b f j = omega arith
@@ -72,7 +72,7 @@ leading (suc (suc (suc (suc k)))) n a b f j = absurd (omega arith)
 -- the trailing octets of a gateway on a net are what it has beyond the net
 trailing : (width net gateway : ℕ) → 0 < width → width ≤ 3 → net % hostSpan width ≡ 0 → gateway / hostSpan width ≡ net / hostSpan width
     → net + bigEndian (drop width (addressOctets gateway)) ≡ gateway
-unfolding digits addressOctets hostSpan
+unfolding extended addressOctets hostSpan
 trailing zero net gateway a b j o = absurd (omega arith)
 trailing (suc zero) net gateway a b j o = omega arith
 trailing (suc (suc zero)) net gateway a b j o = omega arith
@@ -94,7 +94,7 @@ record Leading (width : ℕ) (t : List ℕ) (n : ℕ) : Type 0 where
   justified : n % hostSpan width ≡ 0
 
 leading-back : (width : ℕ) (t : List ℕ) → 0 < width → width ≤ 3 → width ≤ length t → octetsOnly t ≡ true → Leading width t (bigEndian (take width t) * hostSpan width)
-unfolding digits addressOctets hostSpan
+unfolding extended addressOctets hostSpan
 leading-back zero t a b l o = absurd (omega arith)
 leading-back (suc zero) [] a b l o = absurd (omega arith)
 leading-back (suc zero) (x ∷ t) a b l o =
@@ -134,7 +134,7 @@ record Trailing (width net : ℕ) (t : List ℕ) (gateway : ℕ) : Type 0 where
 
 trailing-back : (width net : ℕ) (t : List ℕ) → 0 < width → width ≤ 3 → 4 - width ≤ length t → octetsOnly t ≡ true → net % hostSpan width ≡ 0
     → Trailing width net t (net + bigEndian (take (4 - width) t))
-unfolding digits addressOctets hostSpan
+unfolding extended addressOctets hostSpan
 trailing-back zero net t a b l o j = absurd (omega arith)
 trailing-back (suc zero) net [] a b l o j = absurd (omega arith)
 trailing-back (suc zero) net (x ∷ []) a b l o j = absurd (omega arith)

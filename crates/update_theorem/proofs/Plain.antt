@@ -9,7 +9,7 @@ use lib.Dec.{leb, ltb}
 use lib.ListN.{length, take, drop}
 use Rattle.nets.specs.Classes.{widthOf}
 use Rattle.nets.specs.Rows.{Row}
-use Rattle.update_writing.specs.Blocks.{runs, distanceRuns, each, addressOctets, netOctets, hostOctets, netsOctets, groupOctets, groupsOctets, blockOctets, sideRows, sideOctets, blocksOf}
+use Rattle.update_writing.specs.Blocks.{runs, distanceRuns, each, addressOctets, netOctets, hostOctets, netsOctets, groupOctets, groupsOctets, blockOctets, sideRows, sideOctets, blocksWritten}
 use Rattle.update_writing.specs.Writable.{writableRows}
 use Rattle.update_writing.proofs.Claims.{counts, rows-most}
 use Rattle.update_writing.proofs.Runs.{sides-within}
@@ -73,8 +73,8 @@ side-plain : (net : ℕ) (rows : List Row) → length rows ≤ 128 → Plain (si
 unfolding sideOctets
 side-plain net rows m = runs-plain (λ row. row .gateway) (blockOctets net) (block-plain net) rows m
 
-pub blocks-plain : (net : ℕ) (rows : List Row) → writableRows net rows ≡ true → octetsOnly (blocksOf net rows) ≡ true
-unfolding octetsOnly blocksOf
+pub blocks-plain : (net : ℕ) (rows : List Row) → writableRows net rows ≡ true → octetsOnly (blocksWritten net rows) ≡ true
+unfolding octetsOnly blocksWritten
 blocks-plain net rows w =
     let a = sideOctets net (sideRows 0 rows) in
     let b = sideOctets net (sideRows 1 rows) in

@@ -13,7 +13,7 @@ use Rattle.nets.specs.Classes.{goodNet, onNet}
 use Rattle.nets.specs.Rows.{Row}
 use Rattle.update_walk.specs.Body.{Got, got, stop, andThen, after, many, Block, blockAt, sidesAt, blockRows, bothSides, whole, nothingLeft, bodyOf}
 use Rattle.update_walk.proofs.Flat.{both-sides}
-use Rattle.update_writing.specs.Blocks.{sideOf, sideRows, gatewayRuns, each, sideOctets, blocksOf, internalBlocks, externalBlocks}
+use Rattle.update_writing.specs.Blocks.{sideOf, sideRows, gatewayRuns, each, sideOctets, blocksWritten, internalBlocks, externalBlocks}
 use Rattle.update_writing.specs.Writable.{ordered, writableRow, writableRows}
 use Rattle.update_writing.proofs.Claims.{writable-sides}
 use Rattle.update_theorem.specs.Canonical.{fullSide, fullSides, canonical}
@@ -59,8 +59,8 @@ side-reads : (side net : ℕ) → goodNet net ≡ true → (rows : List Row) →
 side-reads side net good rows h q = rw (← (blocks-number rows), ← (blocks-sent net rows)) (blocks-read side net good (blocksFrom rows) (blocks-facts side net rows h) q)
 
 module _ (net : ℕ) (good : goodNet net ≡ true) (rows : List Row) (s : Sides net rows) where
-  inside-read : many (blockAt 0 net) (internalBlocks rows) (blocksOf net rows) ≡ got (blocksFrom (sideRows 0 rows)) (sideOctets net (sideRows 1 rows))
-  unfolding internalBlocks blocksOf
+  inside-read : many (blockAt 0 net) (internalBlocks rows) (blocksWritten net rows) ≡ got (blocksFrom (sideRows 0 rows)) (sideOctets net (sideRows 1 rows))
+  unfolding internalBlocks blocksWritten
   inside-read = side-reads 0 net good (sideRows 0 rows) (s .inside) (sideOctets net (sideRows 1 rows))
 
   outside-read : many (blockAt 256 net) (externalBlocks rows) (sideOctets net (sideRows 1 rows)) ≡ got (blocksFrom (sideRows 1 rows)) []
@@ -69,16 +69,16 @@ module _ (net : ℕ) (good : goodNet net ≡ true) (rows : List Row) (s : Sides 
       ap (many (blockAt 256 net) (length (gatewayRuns (sideRows 1 rows)))) (sym (append-nil (sideOctets net (sideRows 1 rows))))
       ∙ side-reads 256 net good (sideRows 1 rows) (s .outside) []
 
-  written-canonical : canonical net (internalBlocks rows) (externalBlocks rows) (blocksOf net rows) ≡ true
+  written-canonical : canonical net (internalBlocks rows) (externalBlocks rows) (blocksWritten net rows) ≡ true
   unfolding canonical fullSides sidesAt
   written-canonical = rw (inside-read, outside-read, blocks-full (sideRows 0 rows), blocks-full (sideRows 1 rows))
 
-  written-both : bothSides net (internalBlocks rows) (externalBlocks rows) (blocksOf net rows) ≡ got (sideRows 0 rows ++ sideRows 1 rows) []
+  written-both : bothSides net (internalBlocks rows) (externalBlocks rows) (blocksWritten net rows) ≡ got (sideRows 0 rows ++ sideRows 1 rows) []
   unfolding spread
   written-both =
       rw (
-        both-sides net (internalBlocks rows) (externalBlocks rows) (blocksOf net rows),
-        blocks-spread 0 net (internalBlocks rows) (blocksOf net rows),
+        both-sides net (internalBlocks rows) (externalBlocks rows) (blocksWritten net rows),
+        blocks-spread 0 net (internalBlocks rows) (blocksWritten net rows),
         inside-read,
         blocks-spread 256 net (externalBlocks rows) (sideOctets net (sideRows 1 rows)),
         outside-read,
@@ -86,7 +86,7 @@ module _ (net : ℕ) (good : goodNet net ≡ true) (rows : List Row) (s : Sides 
         blocks-hold (sideRows 1 rows),
       )
 
-read-back : (net : ℕ) → goodNet net ≡ true → (rows : List Row) → writableRows net rows ≡ true → bodyOf net (internalBlocks rows) (externalBlocks rows) (blocksOf net rows) ≡ whole rows
+read-back : (net : ℕ) → goodNet net ≡ true → (rows : List Row) → writableRows net rows ≡ true → bodyOf net (internalBlocks rows) (externalBlocks rows) (blocksWritten net rows) ≡ whole rows
 unfolding bodyOf nothingLeft
 read-back net good rows w = rw (written-both net good rows (writable-sound net rows w), writable-sides net rows w)
 
@@ -224,7 +224,7 @@ module _ (net internal external : ℕ) (octets : List ℕ) (rows : List Row) (re
     outside-full = and-right (fullSide (s .inside)) (fullSide (s .outside)) both-full
 
     grouped : WrittenBack net internal external octets rows
-    unfolding blocksOf internalBlocks externalBlocks
+    unfolding blocksWritten internalBlocks externalBlocks
     grouped =
         record {
           blocks =

@@ -11,19 +11,19 @@ unfoldable pub some : {A : Type 0} → List A → Bool
 some [] = false
 some (item ∷ rest) = true
 
--- neighbours have different keys
-unfoldable pub apart : {A : Type 0} → (A → ℕ) → List A → Bool
-apart key [] = true
-apart key (item ∷ []) = true
-apart key (item ∷ next ∷ rest) = not (eqb (key item) (key next)) && apart key (next ∷ rest)
+-- adjacent items have different keys
+unfoldable pub adjacentDiffer : {A : Type 0} → (A → ℕ) → List A → Bool
+adjacentDiffer key [] = true
+adjacentDiffer key (item ∷ []) = true
+adjacentDiffer key (item ∷ next ∷ rest) = not (eqb (key item) (key next)) && adjacentDiffer key (next ∷ rest)
 
 -- 01: "so grouped with no empty group": no empty block, no empty group, neighbouring groups differ in distance
 unfoldable pub fullBlock : Block → Bool
-fullBlock block = some (block .groups) && every (λ group. some (group .rows)) (block .groups) && apart (λ group. group .third) (block .groups)
+fullBlock block = some (block .groups) && every (λ group. some (group .rows)) (block .groups) && adjacentDiffer (λ group. group .third) (block .groups)
 
 -- the blocks of one side: neighbouring blocks differ in gateway
 unfoldable pub fullSide : List Block → Bool
-fullSide blocks = every fullBlock blocks && apart (λ block. block .gateway) blocks
+fullSide blocks = every fullBlock blocks && adjacentDiffer (λ block. block .gateway) blocks
 
 -- the blocks of both sides, where they could be read
 unfoldable pub fullSides : Got Sides → Bool

@@ -9,7 +9,7 @@ use Rattle.checks.specs.Lists.{every}
 use Rattle.nets.specs.Classes.{goodNet}
 use Rattle.nets.specs.Rows.{Row}
 use Rattle.update_walk.specs.Body.{bodyOf, whole}
-use Rattle.update_writing.specs.Blocks.{blocksOf, internalBlocks, externalBlocks}
+use Rattle.update_writing.specs.Blocks.{blocksWritten, internalBlocks, externalBlocks}
 use Rattle.update_writing.specs.Writable.{mostWritten, writableRows}
 use Rattle.update_theorem.specs.Canonical.{canonical}
 
@@ -20,11 +20,11 @@ octetsOnly octets = every (λ octet. ltb octet 256) octets
 -- 01: "Otherwise reading gives back exactly the rows."
 pub record WritesReadBack : Type 0 where
   pub rows : (net : ℕ) → goodNet net ≡ true → (rows : List Row) → writableRows net rows ≡ true
-      → bodyOf net (internalBlocks rows) (externalBlocks rows) (blocksOf net rows) ≡ whole rows
+      → bodyOf net (internalBlocks rows) (externalBlocks rows) (blocksWritten net rows) ≡ whole rows
   -- what is written are octets, and grouped
-  pub plain : (net : ℕ) (rows : List Row) → writableRows net rows ≡ true → octetsOnly (blocksOf net rows) ≡ true
+  pub plain : (net : ℕ) (rows : List Row) → writableRows net rows ≡ true → octetsOnly (blocksWritten net rows) ≡ true
   pub grouped : (net : ℕ) → goodNet net ≡ true → (rows : List Row) → writableRows net rows ≡ true
-      → canonical net (internalBlocks rows) (externalBlocks rows) (blocksOf net rows) ≡ true
+      → canonical net (internalBlocks rows) (externalBlocks rows) (blocksWritten net rows) ≡ true
 
 -- blocks that were read: of octets with these counts, on a good net, whole, with these rows
 pub record Read (net internal external : ℕ) (octets : List ℕ) (rows : List Row) : Type 0 where
@@ -34,7 +34,7 @@ pub record Read (net internal external : ℕ) (octets : List ℕ) (rows : List R
 
 -- writing these rows gives back the octets and the counts
 pub record WrittenBack (net internal external : ℕ) (octets : List ℕ) (rows : List Row) : Type 0 where
-  pub blocks : blocksOf net rows ≡ octets
+  pub blocks : blocksWritten net rows ≡ octets
   pub inside : internalBlocks rows ≡ internal
   pub outside : externalBlocks rows ≡ external
 

@@ -11,7 +11,7 @@ use lib.Seq.{length-take-le}
 use Rattle.checks.proofs.Laws.{cond-elim, and-left, and-right}
 use Rattle.nets.specs.Classes.{goodNet}
 use Rattle.nets.specs.Rows.{Row}
-use Rattle.update_walk.specs.Body.{bigEndian, Got, got, stop, bothSides, Walk, whole, broken, nothingLeft, bodyOf, further, netAt, blocksOf, UpdateRead, accepted, brokenAt, tooMany, judged, updateOf, walkedOf, rowsRead}
+use Rattle.update_walk.specs.Body.{bigEndian, Got, got, stop, bothSides, Walk, whole, broken, nothingLeft, bodyOf, further, netAt, walkedBlocks, UpdateRead, accepted, brokenAt, tooMany, readWithin, updateOf, walkedOf, rowsRead}
 use Rattle.update_walk.specs.declared.Walked.the-variants.{Rows}
 use Rattle.update_walk.proofs.Laws.{Front, front-fits, sides-sound}
 use Rattle.update_walk.proofs.Digits.{Octets, octets-drop, octets-take, big-below}
@@ -30,8 +30,8 @@ left-none n (got ys []) rs h = cc
 left-none n (got ys (o ∷ r)) rs h = cc
 left-none n (stop k) rs h = cc
 
-pub whole-is : (net : ℕ) (message : List ℕ) (rs : List Row) → blocksOf net message ≡ whole rs → Whole net message rs
-unfolding blocksOf bodyOf
+pub whole-is : (net : ℕ) (message : List ℕ) (rs : List Row) → walkedBlocks net message ≡ whole rs → Whole net message rs
+unfolding walkedBlocks bodyOf
 whole-is net message rs h =
     let y = bothSides net (getD message 10 0) (getD message 11 0) (drop 16 message) in
     cond-elim (λ x. x ≡ whole rs → Whole net message rs) (ltb (length message) 16) _ _ (λ a g. bad (length message) g)
@@ -49,11 +49,11 @@ whole-is net message rs h =
     bad k g = let z : _≡_ {A = ℕ} 0 1 = cc in absurd (omega arith)
 
 pub record Accepted (room net : ℕ) (message : List ℕ) (rs : List Row) : Type 0 where
-  pub is : blocksOf net message ≡ whole rs
+  pub is : walkedBlocks net message ≡ whole rs
   pub fits : length rs ≤ room
 
-judged-is : (room : ℕ) (w : Walk) (rs : List Row) → judged room w ≡ accepted rs → (w ≡ whole rs) × (length rs ≤ room)
-unfolding judged
+judged-is : (room : ℕ) (w : Walk) (rs : List Row) → readWithin room w ≡ accepted rs → (w ≡ whole rs) × (length rs ≤ room)
+unfolding readWithin
 judged-is room (whole ys) rs e = go (leb (length ys) room) refl e
   where
     go : (b : Bool) → leb (length ys) room ≡ b → cond b (accepted ys) tooMany ≡ accepted rs → (whole ys ≡ whole rs) × (length rs ≤ room)
@@ -70,10 +70,10 @@ counted tooMany n e = let z : _≡_ {A = ℕ} 0 1 = cc in absurd (omega arith)
 module _ (room net : ℕ) (message : List ℕ) where
   pub accepted-is : (rs : List Row) → updateOf room net message ≡ accepted rs → Accepted room net message rs
   unfolding updateOf
-  accepted-is rs e = let w = judged-is room (blocksOf net message) rs e in record { is = w .0; fits = w .1 }
+  accepted-is rs e = let w = judged-is room (walkedBlocks net message) rs e in record { is = w .0; fits = w .1 }
 
   pub accepted-of : (rs : List Row) → Accepted room net message rs → updateOf room net message ≡ accepted rs
-  unfolding updateOf judged
+  unfolding updateOf readWithin
   accepted-of rs a = rw (a .is, le-leb (length rs) room (a .fits))
 
   -- a walk that counted rows

@@ -7,14 +7,14 @@ use mathlib.Core.Path.{_≡_, sym, ap, _∙_}
 use mathlib.Core.List.{List, [], _∷_}
 use lib.ListN.{length, take, drop, getD, drop-of-length-le}
 use lib.Seq.{drop-cons, getD-drop}
-use Rattle.update_walk.specs.Body.{digits, bigEndian}
+use Rattle.update_walk.specs.Body.{extended, bigEndian}
 
-pub digits-turn : (n i : ℕ) (l : List ℕ) → i < length l → digits n (drop i l) ≡ digits (n * 256 + getD l i 0) (drop (i + 1) l)
-unfolding digits
+pub digits-turn : (n i : ℕ) (l : List ℕ) → i < length l → extended n (drop i l) ≡ extended (n * 256 + getD l i 0) (drop (i + 1) l)
+unfolding extended
 digits-turn n i l h = rw (add-one, drop-cons l i 0 h)
 
-pub digits-done : (n i : ℕ) (l : List ℕ) → length l ≤ i → digits n (drop i l) ≡ n
-unfolding digits
+pub digits-done : (n i : ℕ) (l : List ℕ) → length l ≤ i → extended n (drop i l) ≡ n
+unfolding extended
 digits-done n i l h = rw (drop-of-length-le l h)
 
 pub one-more : (n i o : ℕ) → n < 256 ^ i → o < 256 → n * 256 + o < 256 ^ (i + 1)
@@ -39,8 +39,8 @@ octets-take (a ∷ t) zero o i = omega arith
 octets-take (a ∷ t) (suc n) o zero = o zero
 octets-take (a ∷ t) (suc n) o (suc i) = octets-take t n (λ j. o (suc j)) i
 
-pub digits-split : (n : ℕ) (l : List ℕ) → digits n l ≡ n * 256 ^ length l + bigEndian l
-unfolding digits
+pub digits-split : (n : ℕ) (l : List ℕ) → extended n l ≡ n * 256 ^ length l + bigEndian l
+unfolding extended
 digits-split n [] = omega arith
 digits-split n (o ∷ l) =
     let p = 256 ^ length l in
@@ -48,7 +48,7 @@ digits-split n (o ∷ l) =
     omega (arith, digits-split (n * 256 + o) l, digits-split (0 * 256 + o) l, e, add-mul (n * 256) o p)
 
 pub big-below : (l : List ℕ) → Octets l → bigEndian l < 256 ^ length l
-unfolding digits
+unfolding extended
 big-below [] o = omega arith
 big-below (a ∷ l) o =
     let p = 256 ^ length l in

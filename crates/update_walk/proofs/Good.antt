@@ -14,7 +14,7 @@ use Rattle.checks.proofs.Laws.{cond-elim, and-left, and-right}
 use Rattle.nets.specs.Classes.{netWidth, firstOctet, widthOf, hostSpan, goodNet, onNet}
 use Rattle.nets.specs.Rows.{Row}
 use Rattle.nets.proofs.Laws.{span-positive}
-use Rattle.update_walk.specs.Body.{digits, bigEndian, Got, got, stop, andThen, after, many, leftJustified, rowOfWidth, netRow, groupRows, hostWidth, gatewayOf, blockRows, bothSides}
+use Rattle.update_walk.specs.Body.{extended, bigEndian, Got, got, stop, andThen, after, many, leftJustified, rowOfWidth, netRow, groupRows, hostWidth, gatewayOf, blockRows, bothSides}
 use Rattle.update_walk.proofs.Flat.{group-rows, block-rows, both-sides}
 use Rattle.update_walk.proofs.Laws.{width-small, nonzero}
 use Rattle.update_walk.proofs.Digits.{Octets, octets-drop, octets-take, digits-split, big-below}
@@ -81,7 +81,7 @@ module _ (net : ℕ) (n : Net net) where
         rw (ne-eqb (widthOf net) 0 (n .classed), eq-eqb ((net + host) / span) (net / span) e)
 
 -- the first octet of a number whose octets start with it
-pub first-of : (a : ℕ) (l : List ℕ) → Octets l → length l ≤ 3 → firstOctet (digits a l * hostSpan (suc (length l))) ≡ a
+pub first-of : (a : ℕ) (l : List ℕ) → Octets l → length l ≤ 3 → firstOctet (extended a l * hostSpan (suc (length l))) ≡ a
 unfolding hostSpan
 first-of a l o h =
     let n = length l in
@@ -90,22 +90,22 @@ first-of a l o h =
     let e : 16777216 ≡ 256 ^ length l * 256 ^ (4 - suc (length l)) = ap (λ (m : ℕ). 256 ^ m) (sym k) ∙ pow-add 256 n (4 - suc n) in
     let p : 0 < 256 ^ length l = one-le-pow n 256 (omega arith) in
     let q : 0 < 256 ^ (4 - suc (length l)) = one-le-pow (4 - suc n) 256 (omega arith) in
-    ap (λ (m : ℕ). digits a l * span / m) e ∙ mul-div-mul-right (digits a l) (256 ^ n) q ∙ ap (λ (m : ℕ). m / 256 ^ n) (digits-split a l)
+    ap (λ (m : ℕ). extended a l * span / m) e ∙ mul-div-mul-right (extended a l) (256 ^ n) q ∙ ap (λ (m : ℕ). m / 256 ^ n) (digits-split a l)
     ∙ mul-add-div-right p a (bigEndian l) ∙ ap (λ (m : ℕ). a + m) (div-eq-of-lt (big-below l o)) ∙ add-zero a
 
 pub justified-good : (t : List ℕ) (w : ℕ) → Octets t → netWidth (getD t 0 0) ≡ w → 0 < w → w ≤ length t → Net (leftJustified w t)
-unfolding leftJustified digits
+unfolding leftJustified extended
 justified-good [] w o e p f = absurd (omega arith)
 justified-good (a ∷ t) zero o e p f = absurd (omega arith)
 justified-good (a ∷ t) (suc v) o e p f =
     let l = take v t in
     let n : length (take v t) ≡ v = length-take-le v t (omega arith) in
     let z : 0 * 256 + a ≡ a = omega arith in
-    let q : firstOctet (digits (0 * 256 + a) (take v t) * hostSpan (suc v)) ≡ a =
-    ap (λ (k : ℕ). firstOctet (digits (0 * 256 + a) l * hostSpan (suc k))) (sym n)
+    let q : firstOctet (extended (0 * 256 + a) (take v t) * hostSpan (suc v)) ≡ a =
+    ap (λ (k : ℕ). firstOctet (extended (0 * 256 + a) l * hostSpan (suc k))) (sym n)
     ∙ first-of (0 * 256 + a) l (octets-take t v (λ i. o (suc i))) (omega (arith, n, width-small a)) ∙ z in
-    let x : widthOf (digits (0 * 256 + a) (take v t) * hostSpan (suc v)) ≡ suc v = ap netWidth q ∙ e in
-    record { classed = λ y. omega (arith, x, y); justified = rw x (mul-mod-left (digits (0 * 256 + a) l) (hostSpan (suc v))) }
+    let x : widthOf (extended (0 * 256 + a) (take v t) * hostSpan (suc v)) ≡ suc v = ap netWidth q ∙ e in
+    record { classed = λ y. omega (arith, x, y); justified = rw x (mul-mod-left (extended (0 * 256 + a) l) (hostSpan (suc v))) }
 
 pub justified-below : (t : List ℕ) (w : ℕ) → Octets t → w ≤ length t → w ≤ 3 → leftJustified w t < 4294967296
 unfolding leftJustified

@@ -11,8 +11,8 @@ use lib.ListN.{length, take, drop, getD, length-append, length-drop}
 use Rattle.checks.proofs.Laws.{part-from, cond-elim}
 use Rattle.nets.specs.Classes.{netWidth, goodNet}
 use Rattle.nets.specs.Rows.{Row}
-use Rattle.update_walk.specs.Body.{Got, got, stop, after, many, leftJustified, rowOfWidth, netRow, groupRows, hostWidth, gatewayOf, blockRows, bothSides, nothingLeft, bodyOf, further, netAt, blocksOf, judged, updateOf, bigEndian, accepted, tooMany, walkedOf}
-use Rattle.update_walk.specs.Walked.{skipOf, netStep, verdict, WithinEnd, taken, groupEnd, groupNets}
+use Rattle.update_walk.specs.Body.{Got, got, stop, after, many, leftJustified, rowOfWidth, netRow, groupRows, hostWidth, gatewayOf, blockRows, bothSides, nothingLeft, bodyOf, further, netAt, walkedBlocks, readWithin, updateOf, bigEndian, accepted, tooMany, walkedOf}
+use Rattle.update_walk.specs.Walked.{skipOf, netTaken, walkVerdict, WithinEnd, taken, groupEnd, groupNets}
 use Rattle.update_walk.specs.declared.Skip.{Skip}
 use Rattle.update_walk.specs.declared.Skip.the-variants.{Past, Stop}
 use Rattle.update_walk.specs.declared.Walked.the-variants.{Rows, Broken, TooMany}
@@ -100,16 +100,16 @@ module _ {goal : Skip} {size rows : ℕ} {f : List ℕ → Got (List Row)} {k : 
 
 -- what a step over one net says of its reading
 module _ (gateway third : ℕ) (t : List ℕ) where
-  pub step-none : netStep t ≡ 0 → netRow gateway third t ≡ stop (length t)
-  unfolding netStep netRow rowOfWidth
+  pub step-none : netTaken t ≡ 0 → netRow gateway third t ≡ stop (length t)
+  unfolding netTaken netRow rowOfWidth
   step-none e =
       let w = netWidth (getD t 0 0) in
       cond-elim (λ (x : ℕ). x ≡ 0 → netRow gateway third t ≡ stop (length t)) (eqb (length t) 0) 4 _ (λ a h. absurd (omega arith))
       (λ a. cond-elim (λ (x : ℕ). x ≡ 0 → netRow gateway third t ≡ stop (length t)) (ltb (length t) w) 4 w (λ b h. absurd (omega arith)) (λ b h. rw (a, h)))
       e
 
-  pub step-short : netStep t ≡ 4 → netRow gateway third t ≡ stop 0
-  unfolding netStep netRow rowOfWidth
+  pub step-short : netTaken t ≡ 4 → netRow gateway third t ≡ stop 0
+  unfolding netTaken netRow rowOfWidth
   step-short e =
       let w = netWidth (getD t 0 0) in
       cond-elim (λ (x : ℕ). x ≡ 4 → netRow gateway third t ≡ stop 0) (eqb (length t) 0) 4 _ (λ a h. rw a)
@@ -125,8 +125,8 @@ module _ (gateway third : ℕ) (t : List ℕ) where
     pub some : 0 < w
     pub fits : w ≤ length t
 
-  pub stepped : (w : ℕ) → w ≡ netStep t → (w ≡ 0 → ⊥) → (w ≡ 4 → ⊥) → Stepped w
-  unfolding netStep netRow rowOfWidth
+  pub stepped : (w : ℕ) → w ≡ netTaken t → (w ≡ 0 → ⊥) → (w ≡ 4 → ⊥) → Stepped w
+  unfolding netTaken netRow rowOfWidth
   stepped w e n m =
       let v = netWidth (getD t 0 0) in
       cond-elim (λ (x : ℕ). w ≡ x → Stepped w) (eqb (length t) 0) 4 _ (λ a h. absurd (m h))
@@ -150,25 +150,25 @@ module _ (end : ℕ) (s : Skip) (count left : ℕ) (e : s ≡ Past count left) w
   past-within h = rw e at h
 
 module _ (end room : ℕ) (s : Skip) (count left : ℕ) (e : s ≡ Past count left) where
-  pub verdict-left : (left ≡ 0 → ⊥) → Broken (end - left) ≡ verdict end room s
-  unfolding verdict
+  pub verdict-left : (left ≡ 0 → ⊥) → Broken (end - left) ≡ walkVerdict end room s
+  unfolding walkVerdict
   verdict-left n = rw (e, ne-eqb left 0 n)
 
   module _ (z : left ≡ 0) where
-    pub verdict-rows : count ≤ room → Rows count ≡ verdict end room s
-    unfolding verdict
+    pub verdict-rows : count ≤ room → Rows count ≡ walkVerdict end room s
+    unfolding walkVerdict
     verdict-rows h = rw (e, eq-eqb left 0 z, le-leb count room h)
 
-    pub verdict-many : room < count → TooMany ≡ verdict end room s
-    unfolding verdict
+    pub verdict-many : room < count → TooMany ≡ walkVerdict end room s
+    unfolding walkVerdict
     verdict-many h = rw (e, eq-eqb left 0 z, lt-leb count room h)
 
 module _ (end : ℕ) (s : Skip) (left : ℕ) (e : s ≡ Stop left) where
   pub stop-within : WithinEnd end s → left ≤ end
   stop-within h = rw e at h
 
-  pub verdict-stop : (room : ℕ) → Broken (end - left) ≡ verdict end room s
-  unfolding verdict
+  pub verdict-stop : (room : ℕ) → Broken (end - left) ≡ walkVerdict end room s
+  unfolding walkVerdict
   verdict-stop room = rw e
 
 -- one group and one block, from what the walk of their parts came to
@@ -282,22 +282,22 @@ counted false rs = refl
 -- the whole message, from what the walk of its blocks came to
 module _ (room net : ℕ) (message : List ℕ) where
   pub walk-short : length message < 16 → Broken (length message) ≡ walkedOf (updateOf room net message)
-  unfolding updateOf blocksOf judged
+  unfolding updateOf walkedBlocks readWithin
   walk-short h = rw (lt-ltb (length message) 16 h)
 
   module _ (h : 16 ≤ length message) where
     pub walk-classless : false ≡ goodNet net → Broken 12 ≡ walkedOf (updateOf room net message)
-    unfolding updateOf blocksOf judged
+    unfolding updateOf walkedBlocks readWithin
     walk-classless g = rw (le-ltb (length message) 16 h, ← g)
 
     module _ (g : true ≡ goodNet net) where
       pub walk-other : (said : ℕ) → said ≡ bigEndian (take 4 (drop 12 message)) → (said ≡ net → ⊥) → Broken 12 ≡ walkedOf (updateOf room net message)
-      unfolding updateOf blocksOf judged netAt
+      unfolding updateOf walkedBlocks readWithin netAt
       walk-other said e n = rw (le-ltb (length message) 16 h, ← g, ← e, ne-eqb said net n)
 
       judge-is : (y : Got (List Row)) → WithinEnd (length (drop 16 message)) (skipOf y)
-          → verdict (length message) room (skipOf y) ≡ walkedOf (judged room (further 16 (nothingLeft (length (drop 16 message)) y)))
-      unfolding verdict skipOf judged further nothingLeft
+          → walkVerdict (length message) room (skipOf y) ≡ walkedOf (readWithin room (further 16 (nothingLeft (length (drop 16 message)) y)))
+      unfolding walkVerdict skipOf readWithin further nothingLeft
       judge-is (got rs []) b = counted (leb (length rs) room) rs
       judge-is (got rs (o ∷ rest)) b =
           let e : length message - suc (length rest) ≡ length (drop 16 message) - suc (length rest) + 16 = omega (arith, length-drop 16 message) in
@@ -308,8 +308,8 @@ module _ (room net : ℕ) (message : List ℕ) where
 
       pub walk-judged : (said : ℕ) (s : Skip) → said ≡ bigEndian (take 4 (drop 12 message)) → said ≡ net
           → s ≡ skipOf (bothSides net (getD message 10 0) (getD message 11 0) (take (length message - 16) (drop 16 message)))
-          → verdict (length message) room s ≡ walkedOf (updateOf room net message)
-      unfolding updateOf blocksOf bodyOf netAt
+          → walkVerdict (length message) room s ≡ walkedOf (updateOf room net message)
+      unfolding updateOf walkedBlocks bodyOf netAt
       walk-judged said s e n k =
           let y = bothSides net (getD message 10 0) (getD message 11 0) (drop 16 message) in
           let w = within (length (drop 16 message)) _ (drop 16 message) y (sides-sound net (getD message 10 0) (getD message 11 0) (drop 16 message)) (le-refl (length (drop 16 message))) in

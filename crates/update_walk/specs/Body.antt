@@ -11,12 +11,12 @@ use Rattle.update_walk.specs.declared.Walked.{Walked}
 use Rattle.update_walk.specs.declared.Walked.the-variants.{Rows, Broken, TooMany}
 
 -- 01: "All numbers are big-endian": the number n, continued by these octets
-unfoldable pub digits : ℕ → List ℕ → ℕ
-digits n [] = n
-digits n (octet ∷ rest) = digits (n * 256 + octet) rest
+unfoldable pub extended : ℕ → List ℕ → ℕ
+extended n [] = n
+extended n (octet ∷ rest) = extended (n * 256 + octet) rest
 
 abbrev pub bigEndian : List ℕ → ℕ
-bigEndian octets = digits 0 octets
+bigEndian octets = extended 0 octets
 
 -- what was read and the octets after it, or how many octets were left at the first that can't be right (0 where octets are missing)
 pub data Got (A : Type 0) : Type 0 where
@@ -144,8 +144,8 @@ netAt message = bigEndian (take 4 (drop 12 message))
 
 -- 01: "An Update has at octet 10 the internal and external gateway counts, at 12 the net"; "blocks are read from octet 16 on";
 -- "a net that is not the common net", and a bad common net, break at 12; octets missing before 16 break at the length
-unfoldable pub blocksOf : ℕ → List ℕ → Walk
-blocksOf net message =
+unfoldable pub walkedBlocks : ℕ → List ℕ → Walk
+walkedBlocks net message =
     cond (ltb (length message) 16) (broken (length message))
     (cond (goodNet net && eqb (netAt message) net)
     (further 16 (bodyOf net (getD message 10 0) (getD message 11 0) (drop 16 message)))
@@ -158,12 +158,12 @@ pub data UpdateRead : Type 0 where
   tooMany : UpdateRead
 
 -- 01: "such an Update, otherwise good, of more than 128 rows", room being the rows that may be accepted
-unfoldable pub judged : ℕ → Walk → UpdateRead
-judged room (whole rs) = cond (leb (length rs) room) (accepted rs) tooMany
-judged room (broken offset) = brokenAt offset
+unfoldable pub readWithin : ℕ → Walk → UpdateRead
+readWithin room (whole rs) = cond (leb (length rs) room) (accepted rs) tooMany
+readWithin room (broken offset) = brokenAt offset
 
 unfoldable pub updateOf : ℕ → ℕ → List ℕ → UpdateRead
-updateOf room net message = judged room (blocksOf net message)
+updateOf room net message = readWithin room (walkedBlocks net message)
 
 -- how many rows an Update has, or the offset where it breaks: the answer that the code gives
 abbrev pub walkedOf : UpdateRead → Walked
@@ -177,8 +177,8 @@ walkedNumber (Rows count) = 0
 walkedNumber (Broken offset) = 14
 walkedNumber TooMany = 15
 
-unfoldable pub numberOf : UpdateRead → ℕ
-numberOf update = walkedNumber (walkedOf update)
+unfoldable pub updateNumber : UpdateRead → ℕ
+updateNumber update = walkedNumber (walkedOf update)
 
 -- the rows of an accepted Update, none otherwise
 unfoldable pub rowsRead : UpdateRead → List Row

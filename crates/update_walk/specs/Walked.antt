@@ -19,8 +19,8 @@ skipOf (got rs t) = Past (length rs) (length t)
 skipOf (stop left) = Stop left
 
 -- how many octets the net at the front takes; 0: no class; 4: octets are missing
-unfoldable pub netStep : List ℕ → ℕ
-netStep t = cond (eqb (length t) 0) 4 (cond (ltb (length t) (netWidth (getD t 0 0))) 4 (netWidth (getD t 0 0)))
+unfoldable pub netTaken : List ℕ → ℕ
+netTaken t = cond (eqb (length t) 0) 4 (cond (ltb (length t) (netWidth (getD t 0 0))) 4 (netWidth (getD t 0 0)))
 
 -- how many octets of t a reading took, 0 where it is bad
 unfoldable pub taken : {A : Type 0} → List ℕ → Got A → ℕ
@@ -44,9 +44,9 @@ pub record NetsAlone : Type 0 where
   pub none : (side gateway : ℕ) (t : List ℕ) (left : ℕ) → groupRows side gateway t ≡ stop left → groupNets t ≡ []
 
 -- what the walk answers, from what it counted, the message's end and the room for rows
-unfoldable pub verdict : ℕ → ℕ → Skip → Walked
-verdict end room (Past count left) = cond (eqb left 0) (cond (leb count room) (Rows count) TooMany) (Broken (end - left))
-verdict end room (Stop left) = Broken (end - left)
+unfoldable pub walkVerdict : ℕ → ℕ → Skip → Walked
+walkVerdict end room (Past count left) = cond (eqb left 0) (cond (leb count room) (Rows count) TooMany) (Broken (end - left))
+walkVerdict end room (Stop left) = Broken (end - left)
 
 -- the octets that are left stand before the end
 abbrev pub WithinEnd : ℕ → Skip → Type 0

@@ -3,7 +3,7 @@ ghost use mathlib.Core.Path.{_≡_};
 ghost use Prim.Native.Nat.{ℕ, _^_, _≤_, _<_};
 ghost use lib.ListN.{length};
 ghost use Rattle.update_walk.specs.Body.{bigEndian, many, netRow, groupRows, hostWidth, blockRows, bothSides, updateOf, walkedOf, walkedNumber};
-ghost use Rattle.update_walk.specs.Walked.{skipOf, netStep, groupNets, verdict, WithinEnd};
+ghost use Rattle.update_walk.specs.Walked.{skipOf, netTaken, groupNets, walkVerdict, WithinEnd};
 
 // How far a part of the walk came: past so many rows, or to a stop; and how many octets are left there.
 enum Skip {
@@ -49,7 +49,7 @@ pub fn host_width(net: u32) -> usize
 
 // How many octets the net at the front takes: 1, 2 or 3; 0 for a first octet of no class, 4 where octets are missing.
 fn net_step(t: &[u8]) -> usize
-    ensures { λ r. ⌜ r ≡ netStep (now (t .entry)) ⌝ }
+    ensures { λ r. ⌜ r ≡ netTaken (now (t .entry)) ⌝ }
 {
     if t.len() == 0 {
         return 4;
@@ -220,7 +220,7 @@ fn skip_sides(net: u32, internal: u8, external: u8, body: &[u8]) -> Skip
 // What it means that the walk came so far in a message that ends here.
 fn judge(end: usize, room: usize, s: Skip) -> Walked
     requires { ⌜ WithinEnd end s ⌝ }
-    ensures { λ r. ⌜ r ≡ verdict end room s ⌝ }
+    ensures { λ r. ⌜ r ≡ walkVerdict end room s ⌝ }
 {
     match s {
         Skip::Past { rows, left } => {
@@ -255,7 +255,7 @@ pub fn walk(net: u32, message: &[u8], room: usize) -> Walked
 }
 
 // 01's number for what the walk found.
-pub fn number_of(walked: Walked) -> u8
+pub fn update_number(walked: Walked) -> u8
     ensures { λ r. ⌜ r ≡ walkedNumber walked ⌝ }
 {
     match walked {

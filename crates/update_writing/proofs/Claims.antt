@@ -12,9 +12,9 @@ use Rattle.checks.proofs.Laws.{and-left, and-right, and-both}
 use Rattle.checks.specs.Lists.{every}
 use Rattle.nets.specs.Classes.{netWidth, firstOctet, widthOf, hostSpan, goodNet, onNet}
 use Rattle.nets.specs.Rows.{Row}
-use Rattle.update_writing.specs.Blocks.{sideOf, joined, sideRows, runs, distanceRuns, each, addressOctets, netOctets, hostOctets, netsOctets, groupOctets, groupsOctets, blockOctets, sideOctets, blocksOf, internalBlocks, externalBlocks}
+use Rattle.update_writing.specs.Blocks.{sideOf, joined, sideRows, runs, distanceRuns, each, addressOctets, netOctets, hostOctets, netsOctets, groupOctets, groupsOctets, blockOctets, sideOctets, blocksWritten, internalBlocks, externalBlocks}
 use Rattle.update_writing.specs.Writable.{ordered, writableRow, writableRows}
-use Rattle.update_writing.specs.Claims.{Short, Counts, Distances}
+use Rattle.update_writing.specs.Claims.{ShortBlocks, Counts, Distances}
 use Rattle.update_writing.proofs.Runs.{runs-front, runs-octets, runs-number, runs-whole, sides-within, sides-whole, thirdsFit}
 
 pub width-most : (first : ℕ) → netWidth first ≤ 3
@@ -75,8 +75,8 @@ module _ (net : ℕ) (good : goodNet net ≡ true) where
   unfolding sideOctets
   side-octets rows = runs-octets (λ row. row .gateway) (blockOctets net) 9 block-octets rows
 
-  blocks-octets : (rows : List Row) → length (blocksOf net rows) ≤ 9 * length rows
-  unfolding blocksOf
+  blocks-octets : (rows : List Row) → length (blocksWritten net rows) ≤ 9 * length rows
+  unfolding blocksWritten
   blocks-octets rows =
       let a = length-append (sideOctets net (sideRows 0 rows)) (sideOctets net (sideRows 1 rows)) in
       omega (arith, side-octets (sideRows 0 rows), side-octets (sideRows 1 rows), sides-within rows)
@@ -101,7 +101,7 @@ writable-sides net rows w =
     (thirds net rows (and-right (leb (length rows) 128) (every (writableRow net) rows) (and-left (leb (length rows) 128 && every (writableRow net) rows) (ordered 0 rows) w)))
     (and-right (leb (length rows) 128 && every (writableRow net) rows) (ordered 0 rows) w)
 
-pub short : Short
+pub short : ShortBlocks
 short = record {
   blocks = λ net good rows. blocks-octets net good rows;
   most = λ net good rows w. omega (arith, blocks-octets net good rows, rows-most net rows w);

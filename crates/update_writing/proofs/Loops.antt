@@ -15,7 +15,7 @@ use Rattle.octets.specs.Written.{Written}
 use Rattle.octets.proofs.Storing.{written-append, Writing, start, room, turn, done}
 use Rattle.nets.specs.Classes.{goodNet}
 use Rattle.nets.specs.Rows.{Row, rowsOf}
-use Rattle.update_writing.specs.Blocks.{sideRows, runs, distanceRuns, each, netOctets, hostOctets, netsOctets, groupOctets, groupsOctets, blockOctets, gatewayRuns, sideOctets, blocksOf, internalBlocks, externalBlocks}
+use Rattle.update_writing.specs.Blocks.{sideRows, runs, distanceRuns, each, netOctets, hostOctets, netsOctets, groupOctets, groupsOctets, blockOctets, gatewayRuns, sideOctets, blocksWritten, internalBlocks, externalBlocks}
 use Rattle.update_writing.specs.Writable.{ordered, writableRow, writableRows, writableNumbers}
 use Rattle.update_writing.specs.Steps.{column, agreeing, runLength}
 use Rattle.update_writing.proofs.Lists.{and-false, set-before, rows-turn, rows-short, rows-length}
@@ -258,8 +258,8 @@ module _ {net : ℕ} {u : List ℕ} {at : ℕ} {old : List ℕ} {split : ℕ} (s
   pub internal-length : length (take split u) ≡ split
   internal-length = length-take-le split u split-in
 
-  parts : blocksOf net (rowsOf u) ≡ sideOctets net (rowsOf (take split u)) ++ sideOctets net (rowsOf (drop split u))
-  unfolding blocksOf
+  parts : blocksWritten net (rowsOf u) ≡ sideOctets net (rowsOf (take split u)) ++ sideOctets net (rowsOf (drop split u))
+  unfolding blocksWritten
   parts = rw (internal-part u split sides-are (s .is), external-part u split sides-are (s .is))
 
   parts-length : length (sideOctets net (rowsOf (take split u))) + length (sideOctets net (rowsOf (drop split u))) ≤ 9 * length (rowsOf u)
@@ -279,7 +279,7 @@ module _ {net : ℕ} {u : List ℕ} {at : ℕ} {old : List ℕ} {split : ℕ} (s
       )
 
   pub blocks-written : {mid new : List ℕ} {middle end : ℕ} → Written (sideOctets net (rowsOf (take split u))) at old mid middle
-      → Written (sideOctets net (rowsOf (take (length u - split) (drop split u)))) middle mid new end → Written (blocksOf net (rowsOf u)) at old new end
+      → Written (sideOctets net (rowsOf (take (length u - split) (drop split u)))) middle mid new end → Written (blocksWritten net (rowsOf u)) at old new end
   blocks-written p q =
       rw parts (written-append (sideOctets net (rowsOf (take split u))) (sideOctets net (rowsOf (drop split u))) p (rw (part-from split u) at q))
 

@@ -75,8 +75,8 @@ unfoldable pub sideOctets : ℕ → List Row → List ℕ
 sideOctets net rows = each (blockOctets net) (gatewayRuns rows)
 
 -- 01: "Internal blocks come first."
-unfoldable pub blocksOf : ℕ → List Row → List ℕ
-blocksOf net rows = sideOctets net (sideRows 0 rows) ++ sideOctets net (sideRows 1 rows)
+unfoldable pub blocksWritten : ℕ → List Row → List ℕ
+blocksWritten net rows = sideOctets net (sideRows 0 rows) ++ sideOctets net (sideRows 1 rows)
 
 -- 01: "the internal and external gateway counts"
 unfoldable pub internalBlocks : List Row → ℕ

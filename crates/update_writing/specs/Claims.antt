@@ -8,13 +8,13 @@ use lib.ListN.{length}
 use Rattle.checks.specs.Lists.{every}
 use Rattle.nets.specs.Classes.{goodNet}
 use Rattle.nets.specs.Rows.{Row}
-use Rattle.update_writing.specs.Blocks.{sideOf, runs, distanceRuns, blocksOf, internalBlocks, externalBlocks}
+use Rattle.update_writing.specs.Blocks.{sideOf, runs, distanceRuns, blocksWritten, internalBlocks, externalBlocks}
 use Rattle.update_writing.specs.Writable.{mostWritten, writableRows}
 
 -- at most 9 octets a row, so at most 1,152 octets in all
-pub record Short : Type 0 where
-  pub blocks : (net : ℕ) → goodNet net ≡ true → (rows : List Row) → length (blocksOf net rows) ≤ 9 * length rows
-  pub most : (net : ℕ) → goodNet net ≡ true → (rows : List Row) → writableRows net rows ≡ true → length (blocksOf net rows) ≤ 9 * mostWritten
+pub record ShortBlocks : Type 0 where
+  pub blocks : (net : ℕ) → goodNet net ≡ true → (rows : List Row) → length (blocksWritten net rows) ≤ 9 * length rows
+  pub most : (net : ℕ) → goodNet net ≡ true → (rows : List Row) → writableRows net rows ≡ true → length (blocksWritten net rows) ≤ 9 * mostWritten
 
 -- no count exceeds the number of rows: of gateways on a side, of distances or nets in a run
 pub record Counts : Type 0 where

@@ -7,7 +7,7 @@ ghost use lib.Seq.{sets};
 ghost use Rattle.octets.specs.Written.{Written};
 ghost use Rattle.nets.specs.Classes.{goodNet};
 ghost use Rattle.nets.specs.Rows.{rowsOf};
-ghost use Rattle.update_writing.specs.Blocks.{addressOctets, netOctets, hostOctets, netsOctets, groupOctets, groupsOctets, blockOctets, sideOctets, sideRows, distanceRuns, gatewayRuns, blocksOf, internalBlocks, externalBlocks};
+ghost use Rattle.update_writing.specs.Blocks.{addressOctets, netOctets, hostOctets, netsOctets, groupOctets, groupsOctets, blockOctets, sideOctets, sideRows, distanceRuns, gatewayRuns, blocksWritten, internalBlocks, externalBlocks};
 ghost use Rattle.update_writing.specs.Writable.{mostWrittenNumbers, writableNumbers, writableRow};
 ghost use Rattle.update_writing.specs.Steps.{column, runLength};
 
@@ -215,8 +215,8 @@ fn internal_numbers(rows: &[u32]) -> usize
 pub fn write_blocks(out: &mut [u8], at: usize, net: u32, rows: &[u32]) -> Blocks
     requires { ⌜ (goodNet net ≡ true) × (writableNumbers net (now rows) ≡ true) ⌝ }
     requires { ⌜ at + 9 * length (rowsOf (now rows)) ≤ length (now out) ⌝ }
-    ensures { λ _. ⌜ now (out .exit) ≡ sets (now (out .entry)) at (blocksOf net (rowsOf (now (rows .entry)))) ⌝ }
-    ensures { λ r. ⌜ r .end ≡ at + length (blocksOf net (rowsOf (now (rows .entry)))) ⌝ }
+    ensures { λ _. ⌜ now (out .exit) ≡ sets (now (out .entry)) at (blocksWritten net (rowsOf (now (rows .entry)))) ⌝ }
+    ensures { λ r. ⌜ r .end ≡ at + length (blocksWritten net (rowsOf (now (rows .entry)))) ⌝ }
     ensures { λ r. ⌜ r .internal ≡ internalBlocks (rowsOf (now (rows .entry))) ⌝ }
     ensures { λ r. ⌜ r .external ≡ externalBlocks (rowsOf (now (rows .entry))) ⌝ }
 {

@@ -20,8 +20,8 @@ decode-requires c κs = search needs
 enum-known-decoded : tie.Need-enum-known-decoded
 enum-known-decoded c = search needs
 
-number-of-requires : tie.Need-number-of-requires
-number-of-requires c κs = search needs
+decoded-number-requires : tie.Need-decoded-number-requires
+decoded-number-requires c κs = search needs
 
 refuse-requires-2 : tie.Need-refuse-requires-2
 refuse-requires-2 c κs = search needs
@@ -44,7 +44,7 @@ read-spec =
     returns
     decode-requires
     enum-known-decoded
-    number-of-requires
+    decoded-number-requires
     refuse-requires-2
     returns-2
     read-rows-requires

@@ -12,8 +12,8 @@ walk-requires c κs = search needs
 enum-known-walked : tie.Need-enum-known-walked
 enum-known-walked c = search needs
 
-number-of-requires : tie.Need-number-of-requires
-number-of-requires c κs = search needs
+decoded-number-requires : tie.Need-decoded-number-requires
+decoded-number-requires c κs = search needs
 
 refuse-requires : tie.Need-refuse-requires
 refuse-requires c κs = search needs
@@ -39,7 +39,7 @@ read-update-spec =
     (tie.spec
     walk-requires
     enum-known-walked
-    number-of-requires
+    decoded-number-requires
     refuse-requires
     returns
     slice-aggregate-store-rows

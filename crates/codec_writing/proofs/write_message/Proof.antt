@@ -1,6 +1,6 @@
 use mathlib.Core.Path.{sym, _∙_}
 use Rattle.octets_checksum.proofs.Laws.{sealed-length}
-use Rattle.codec_writing.specs.Octets.{plainOctets, octetsOf}
+use Rattle.codec_writing.specs.Octets.{plainOctets, messageOctets}
 use Rattle.codec_writing.specs.Room.{roomFor}
 use Rattle.codec_writing.proofs.Laws.{update-asked}
 use borrow.Author.Needs.{needs}
@@ -80,56 +80,56 @@ same-length : tie.Need-same-length
 same-length c = search needs
 
 returns : tie.Need-returns
-unfolding octetsOf plainOctets
+unfolding messageOctets plainOctets
 returns c = rw (c .before .before .before .before .before .message .given .1) (c .before .before .write-intervals .ensures .0 ∙ sym (sealed-length _), c .before .before .write-intervals .ensures .1)
 
 same-length-2 : tie.Need-same-length-2
 same-length-2 c = search needs
 
 returns-2 : tie.Need-returns-2
-unfolding octetsOf plainOctets
+unfolding messageOctets plainOctets
 returns-2 c = rw (c .before .before .before .before .before .message2 .given .1) (c .before .before .write-intervals2 .ensures .0 ∙ sym (sealed-length _), c .before .before .write-intervals2 .ensures .1)
 
 same-length-3 : tie.Need-same-length-3
 same-length-3 c = search needs
 
 returns-3 : tie.Need-returns-3
-unfolding octetsOf plainOctets
+unfolding messageOctets plainOctets
 returns-3 c = rw (c .before .before .before .before .before .message3 .given .1) (c .before .before .write-short .ensures .0 ∙ sym (sealed-length _), c .before .before .write-short .ensures .1)
 
 same-length-4 : tie.Need-same-length-4
 same-length-4 c = search needs
 
 returns-4 : tie.Need-returns-4
-unfolding octetsOf plainOctets
+unfolding messageOctets plainOctets
 returns-4 c = rw (c .before .before .before .before .before .message4 .given .1) (c .before .before .write-short2 .ensures .0 ∙ sym (sealed-length _), c .before .before .write-short2 .ensures .1)
 
 same-length-5 : tie.Need-same-length-5
 same-length-5 c = search needs
 
 returns-5 : tie.Need-returns-5
-unfolding octetsOf plainOctets
+unfolding messageOctets plainOctets
 returns-5 c = rw (c .before .before .before .before .before .message5 .given .1) (c .before .before .write-short3 .ensures .0 ∙ sym (sealed-length _), c .before .before .write-short3 .ensures .1)
 
 same-length-6 : tie.Need-same-length-6
 same-length-6 c = search needs
 
 returns-6 : tie.Need-returns-6
-unfolding octetsOf plainOctets
+unfolding messageOctets plainOctets
 returns-6 c = rw (c .before .before .before .before .before .message6 .given .1) (c .before .before .write-short4 .ensures .0 ∙ sym (sealed-length _), c .before .before .write-short4 .ensures .1)
 
 same-length-7 : tie.Need-same-length-7
 same-length-7 c = search needs
 
 returns-7 : tie.Need-returns-7
-unfolding octetsOf plainOctets
+unfolding messageOctets plainOctets
 returns-7 c = rw (c .before .before .before .before .before .message7 .given .1) (c .before .before .write-short5 .ensures .0 ∙ sym (sealed-length _), c .before .before .write-short5 .ensures .1)
 
 same-length-8 : tie.Need-same-length-8
 same-length-8 c = search needs
 
 returns-8 : tie.Need-returns-8
-unfolding octetsOf plainOctets
+unfolding messageOctets plainOctets
 returns-8 c = rw (c .before .before .before .before .before .message8 .given .1) (c .before .before .write-poll .ensures .0 ∙ sym (sealed-length _), c .before .before .write-poll .ensures .1)
 
 same-length-9 : tie.Need-same-length-9
@@ -142,7 +142,7 @@ same-length-10 : tie.Need-same-length-10
 same-length-10 c = search needs
 
 returns-10 : tie.Need-returns-10
-unfolding octetsOf plainOctets
+unfolding messageOctets plainOctets
 returns-10 c = rw (c .before .before .before .before .before .message10 .given .1) (c .before .before .write-error .ensures .0 ∙ sym (sealed-length _), c .before .before .write-error .ensures .1)
 
 pub write-message-spec : {M : Type 1} → statement M

@@ -1,4 +1,4 @@
-use Rattle.driver_records.specs.Meaning.{netAt}
+use Rattle.driver_records.specs.Meaning.{netMessageAt}
 use borrow.Author.Tests.{eq-eqb, ne-eqb}
 use borrow.Author.Needs.{needs}
 use Rattle.driver_records.proofs.net_at.Statement.{statement}
@@ -17,11 +17,11 @@ word32-at-requires : tie.Need-word32-at-requires
 word32-at-requires c κs = search needs
 
 returns : tie.Need-returns
-unfolding netAt
+unfolding netMessageAt
 returns c = rw (eq-eqb _ _ (c .if1 .taken), c .before .word32-at .ensures, c .before .before .word16-at2 .ensures, c .before .before .before .word16-at .ensures, c .before .before .before .before .octet .ensures)
 
 returns-2 : tie.Need-returns-2
-unfolding netAt
+unfolding netMessageAt
 returns-2 c = rw (ne-eqb _ _ (c .if1 .left), c .before .word32-at .ensures, c .before .before .word16-at2 .ensures, c .before .before .before .word16-at .ensures, c .before .before .before .before .octet .ensures)
 
 pub net-at-spec : {M : Type 1} → statement M

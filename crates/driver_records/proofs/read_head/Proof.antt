@@ -1,4 +1,4 @@
-use Rattle.driver_records.specs.Records.{headAt}
+use Rattle.driver_records.specs.Records.{recordHead}
 use borrow.Author.Needs.{needs}
 use Rattle.driver_records.proofs.read_head.Statement.{statement}
 use Rattle.driver_records.proofs.read_head.Tie as tie
@@ -31,7 +31,7 @@ word32-at-requires-6 : tie.Need-word32-at-requires-6
 word32-at-requires-6 c κs = search needs
 
 returns : tie.Need-returns
-unfolding headAt
+unfolding recordHead
 returns c = rw (c .word32-at6 .ensures, c .before .word32-at5 .ensures, c .before .before .word32-at4 .ensures, c .before .before .before .word32-at3 .ensures, c .before .before .before .before .word32-at2 .ensures, c .before .before .before .before .before .word32-at .ensures, c .before .before .before .before .before .before .word16-at .ensures, c .before .before .before .before .before .before .before .octet2 .ensures, c .before .before .before .before .before .before .before .before .octet .ensures)
 
 pub read-head-spec : {M : Type 1} → statement M

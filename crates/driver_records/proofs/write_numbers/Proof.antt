@@ -3,13 +3,13 @@ use Prim.Native.Nat.{_+_, _*_, _-_, _≤_}
 use native.Mathlib.Omega.{arith}
 use lib.ListN.{length, drop, length-set}
 use lib.Seq.{sets, length-sets}
-use Rattle.driver_records.specs.Numbers.{octetsOf}
+use Rattle.driver_records.specs.Numbers.{numberOctets}
 use Rattle.driver_records.proofs.Laws.{number-kept, numbers-turn, numbers-done, numbers-over}
 use Rattle.driver_records.proofs.write_numbers.Statement.{statement}
 use Rattle.driver_records.proofs.write_numbers.Tie as tie
 
 abbrev Inv-loop : tie.InvT-loop
-Inv-loop out₀ numbers i₀ at₀ out i at = (i ≤ length numbers) × (at ≡ i * 4) × (length out ≡ length out₀) × (sets out₀ 0 (octetsOf numbers) ≡ sets out at (octetsOf (drop i numbers)))
+Inv-loop out₀ numbers i₀ at₀ out i at = (i ≤ length numbers) × (at ≡ i * 4) × (length out ≡ length out₀) × (sets out₀ 0 (numberOctets numbers) ≡ sets out at (numberOctets (drop i numbers)))
 
 abbrev μ-loop : tie.MeasureT-loop
 μ-loop out₀ numbers i₀ at₀ out i at = length numbers - i

@@ -1,4 +1,4 @@
-use Rattle.gateway_rules.specs.Number.{headAt}
+use Rattle.gateway_rules.specs.Number.{errorHead}
 use borrow.Author.Needs.{needs}
 use Rattle.gateway_stages.proofs.head_of.Statement.{statement}
 use Rattle.gateway_stages.proofs.head_of.Tie as tie
@@ -13,7 +13,7 @@ word32-at-requires-3 : tie.Need-word32-at-requires-3
 word32-at-requires-3 c κs = search needs
 
 returns : tie.Need-returns
-unfolding headAt
+unfolding errorHead
 returns c = rw (c .before .before .word32-at .ensures, c .before .word32-at2 .ensures, c .word32-at3 .ensures)
 
 pub head-of-spec : {M : Type 1} → statement M

@@ -11,8 +11,8 @@ walk-requires c κs = search needs
 enum-known-walked : tie.Need-enum-known-walked
 enum-known-walked c = search needs
 
-number-of-requires : tie.Need-number-of-requires
-number-of-requires c κs = search needs
+update-number-requires : tie.Need-update-number-requires
+update-number-requires c κs = search needs
 
 refuse-requires : tie.Need-refuse-requires
 refuse-requires c κs = search needs
@@ -35,7 +35,7 @@ take-update-spec =
     (tie.spec
     walk-requires
     enum-known-walked
-    number-of-requires
+    update-number-requires
     refuse-requires
     returns
     step-for-requires

@@ -1,4 +1,4 @@
-use Rattle.host_state_block.specs.Block.{slotAt}
+use Rattle.host_state_block.specs.Block.{slotRead}
 use borrow.Author.Needs.{needs}
 use Rattle.host_state_block.proofs.read_slot.Statement.{statement}
 use Rattle.host_state_block.proofs.read_slot.Tie as tie
@@ -97,7 +97,7 @@ word16-at-requires-9 : tie.Need-word16-at-requires-9
 word16-at-requires-9 c κs = search needs
 
 returns : tie.Need-returns
-unfolding slotAt
+unfolding slotRead
 returns c =
     rw (
       c .word16-at9 .ensures,

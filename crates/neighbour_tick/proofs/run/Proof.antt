@@ -1,4 +1,4 @@
-use Rattle.neighbour_machine.specs.Tick.{runs}
+use Rattle.neighbour_machine.specs.Tick.{tickOn}
 use mathlib.Core.Path.{sym, _∙_}
 use Rattle.neighbour.proofs.Laws.{at-idle, at-acquisition, at-down, at-up, at-cease}
 use borrow.Author.Needs.{needs}
@@ -48,23 +48,23 @@ repeat-requires-2 : tie.Need-repeat-requires-2
 repeat-requires-2 c κs = search needs
 
 returns : tie.Need-returns
-unfolding runs
+unfolding tickOn
 returns c = c .keep .ensures ∙ sym (at-idle _ _ _ _ _ _ (c .before .enum-told .given .1))
 
 returns-2 : tie.Need-returns-2
-unfolding runs
+unfolding tickOn
 returns-2 c = (rw (c .before .request-message .ensures) at (c .repeat .ensures)) ∙ sym (at-acquisition _ _ _ _ _ _ (c .before .before .enum-told2 .given .1))
 
 returns-3 : tie.Need-returns-3
-unfolding runs
+unfolding tickOn
 returns-3 c = (rw (c .before .listen .ensures) at (c .poll-on-entry .ensures)) ∙ sym (at-down _ _ _ _ _ _ (c .before .before .enum-told3 .given .1))
 
 returns-4 : tie.Need-returns-4
-unfolding runs
+unfolding tickOn
 returns-4 c = (rw (c .before .listen2 .ensures) at (c .poll-in-up .ensures)) ∙ sym (at-up _ _ _ _ _ _ (c .before .before .enum-told4 .given .1))
 
 returns-5 : tie.Need-returns-5
-unfolding runs
+unfolding tickOn
 returns-5 c = (rw (c .before .cease-message .ensures) at (c .repeat2 .ensures)) ∙ sym (at-cease _ _ _ _ _ _ (c .before .before .enum-told5 .given .1))
 
 pub run-spec : {M : Type 1} → statement M

@@ -4,8 +4,8 @@ use borrow.Author.Needs.{needs}
 use Rattle.program_playback.proofs.go_on.Statement.{statement}
 use Rattle.program_playback.proofs.go_on.Tie as tie
 
-step-requires : tie.Need-step-requires
-step-requires c κs = search needs
+advance-requires : tie.Need-advance-requires
+advance-requires c κs = search needs
 
 show-requires : tie.Need-show-requires
 show-requires c κs = written-fits _ _ _ _ (c .before .before .before .before .before .before .before .before .step .ensures .0) (c .before .before .before .before .before .before .before .before .step .ensures .1 .1 .1) (c .before .before .before .before .before .before .before .before .step .kept .1 .1 .1 .1 .0)
@@ -29,7 +29,7 @@ pub go-on-spec : {M : Type 1} → statement M
 go-on-spec =
     tie.close
     (tie.spec
-    step-requires
+    advance-requires
     show-requires
     wrote-requires
     same-length

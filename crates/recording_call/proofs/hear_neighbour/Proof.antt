@@ -1,6 +1,6 @@
 -- `recording_call::hear_neighbour` meets its contract: the octets read, the call, and its replies as lines. Assumes nothing.
 use Rattle.recording_call.proofs.Laws.{message-room, message-is, message-within, message-long, lent-is, receive-made, made-done}
-use Rattle.recording_call.specs.Told.{addressOf}
+use Rattle.recording_call.specs.Told.{addressedTo}
 use borrow.Author.Needs.{needs}
 use Rattle.recording_call.proofs.hear_neighbour.Statement.{statement}
 use Rattle.recording_call.proofs.hear_neighbour.Tie as tie
@@ -44,7 +44,7 @@ same-length-2 : tie.Need-same-length-2
 same-length-2 c = search needs
 
 returns : tie.Need-returns
-unfolding addressOf
+unfolding addressedTo
 returns c = made-done (receive-made (c .before .before .before .before .before .before .before .before .before .before .before .before .before .before .before .before .before .before .before .before .args .st) (c .before .before .before .before .before .before .before .before .before .before .before .before .before .before .before .before .before .before .before .before .args .table .now) (c .before .before .before .before .before .before .before .before .before .before .before .before .before .before .before .before .before .before .before .before .args .address) lent-is (message-is (c .before .before .before .before .before .before .before .before .before .before .before .before .before .before .before .before .before .before .before .before .args .digits .now) _ (c .before .before .before .before .before .before .before .before .before .before .before .before .before .before .before .read-hex .ensures .0) (c .before .before .before .before .before .before .before .before .before .before .before .before .before .before .before .read-hex .ensures .1)) (c .before .before .before .before .before .before .before .before .before .receive .ensures .0) (c .before .before .before .before .before .before .before .before .before .receive .ensures .1 .0) (c .before .before .before .before .before .before .before .before .before .receive .ensures .1 .1)) (c .before .before .before .before .before .before .before .before .before .before .before .before .before .before .before .before .before .before .before .before .args .out .now) (c .before .before .before .put-replies .ensures .0) (c .before .before .before .put-replies .ensures .1) (c .told .ensures)
 
 pub hear-neighbour-spec : {M : Type 1} → statement M

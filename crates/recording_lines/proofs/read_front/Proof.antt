@@ -7,8 +7,8 @@ use borrow.Author.Needs.{needs}
 use Rattle.recording_lines.proofs.read_front.Statement.{statement}
 use Rattle.recording_lines.proofs.read_front.Tie as tie
 
-place-requires : tie.Need-place-requires
-place-requires c κs = tt
+index-of-requires : tie.Need-index-of-requires
+index-of-requires c κs = tt
 
 returns : tie.Need-returns
 returns c = no-slash (c .before .before .before .args .value .now) (c .before .place .result) (c .before .place .ensures) (c .if1 .taken)
@@ -38,7 +38,7 @@ pub read-front-spec : {M : Type 1} → statement M
 read-front-spec =
     tie.close
     (tie.spec
-    place-requires
+    index-of-requires
     returns
     slice-aggregate-read-dotted
     read-dotted-requires

@@ -5,13 +5,13 @@ use mathlib.Core.Path.{_≡_, refl, sym, _∙_}
 use lib.ListN.{length, length-take, length-drop}
 use borrow.Author.Needs.{needs}
 use Rattle.checks.proofs.Laws.{part-from}
-use Rattle.text_values.specs.Numbers.{quadOf, dottedOf}
+use Rattle.text_values.specs.Numbers.{dottedFrom, dottedOf}
 use Rattle.text_values.proofs.Laws.{quadLimit, quad-start, quad-fits, quad-below, quad-no-dot, quad-bad, quad-next, quad-last-bad, quad-last}
 use Rattle.text_values.proofs.read_dotted.Statement.{statement}
 use Rattle.text_values.proofs.read_dotted.Tie as tie
 
 abbrev Inv-loop : tie.InvT-loop
-Inv-loop text n₀ dots₀ rest₀ n dots rest = (n < quadLimit dots) × (length rest ≤ length text) × (dottedOf text ≡ quadOf dots n rest)
+Inv-loop text n₀ dots₀ rest₀ n dots rest = (n < quadLimit dots) × (length rest ≤ length text) × (dottedOf text ≡ dottedFrom dots n rest)
 
 abbrev μ-loop : tie.MeasureT-loop
 μ-loop text n₀ dots₀ rest₀ n dots rest = dots
@@ -20,8 +20,8 @@ loop-holds : tie.Need-loop-holds Inv-loop μ-loop
 unfolding dottedOf
 loop-holds c = (quad-start, omega arith, refl)
 
-place-requires : tie.Need-place-requires Inv-loop μ-loop
-place-requires c κs = tt
+index-of-requires : tie.Need-index-of-requires Inv-loop μ-loop
+index-of-requires c κs = tt
 
 returns : tie.Need-returns Inv-loop μ-loop
 returns c =
@@ -113,7 +113,7 @@ read-dotted-spec =
     Inv-loop
     μ-loop
     loop-holds
-    place-requires
+    index-of-requires
     returns
     slice-aggregate-read-decimal
     read-decimal-requires

@@ -1,7 +1,7 @@
 -- `update_walk::value` meets its contract: the number so far, continued by the octets ahead, is the number of them all; it is below 256 to the power of the octets passed. Assumes nothing.
 use lib.ListN.{getD, length, drop}
 use Rattle.update_walk.proofs.Digits.{digits-turn, digits-done, one-more, three-octets}
-use Rattle.update_walk.specs.Body.{digits, bigEndian}
+use Rattle.update_walk.specs.Body.{extended, bigEndian}
 use mathlib.Core.Path.{_≡_, refl, sym, _∙_}
 use Prim.Native.Nat.{zero-le, _≤_, _<_, _-_, _^_}
 use native.Mathlib.Omega.{arith}
@@ -9,7 +9,7 @@ use Rattle.update_walk.proofs.value.Statement.{statement}
 use Rattle.update_walk.proofs.value.Tie as tie
 
 abbrev Inv-loop : tie.InvT-loop
-Inv-loop octets sum₀ i₀ sum i = (i ≤ length octets) × (bigEndian octets ≡ digits sum (drop i octets)) × (sum < 256 ^ i)
+Inv-loop octets sum₀ i₀ sum i = (i ≤ length octets) × (bigEndian octets ≡ extended sum (drop i octets)) × (sum < 256 ^ i)
 
 abbrev μ-loop : tie.MeasureT-loop
 μ-loop octets sum₀ i₀ sum i = length octets - i

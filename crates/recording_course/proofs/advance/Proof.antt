@@ -1,12 +1,12 @@
--- `recording_course::step` meets its contract. Assumes nothing.
+-- `recording_course::advance` meets its contract. Assumes nothing.
 use mathlib.Core.Path.{refl}
 use Rattle.octets.specs.Buffer.{over}
 use Rattle.recording_course.specs.declared.Stage.the-variants.{Read, Play, Close, List as Listing, Over}
 use Rattle.recording_course.specs.Course.{stillOn, closeOn, listOn, endedBy, courseAt}
 use Rattle.recording_course.proofs.Laws.{at-step}
 use borrow.Author.Needs.{needs}
-use Rattle.recording_course.proofs.step.Statement.{statement}
-use Rattle.recording_course.proofs.step.Tie as tie
+use Rattle.recording_course.proofs.advance.Statement.{statement}
+use Rattle.recording_course.proofs.advance.Tie as tie
 
 enum-told : tie.Need-enum-told
 enum-told c = search needs
@@ -76,8 +76,8 @@ returns-5 : tie.Need-returns-5
 unfolding courseAt stillOn over
 returns-5 c = let a = c .before .before .before .before .before .before .before .args in at-step (a .out .now) (a .c) (a .line .now) (a .table .now) (a .piece .now) Over (c .before .enum-told5 .given .1) _ _ _ _ (c .stay2 .ensures (a .line .now) (a .table .now), (refl, (refl, refl)))
 
-pub step-spec : {M : Type 1} → statement M
-step-spec =
+pub advance-spec : {M : Type 1} → statement M
+advance-spec =
     tie.close
     (tie.spec
     enum-told

@@ -1,7 +1,7 @@
--- `update_walk::number_of` meets its contract, case by case. Assumes nothing.
+-- `update_walk::update_number` meets its contract, case by case. Assumes nothing.
 use borrow.Author.Needs.{needs}
-use Rattle.update_walk.proofs.number_of.Statement.{statement}
-use Rattle.update_walk.proofs.number_of.Tie as tie
+use Rattle.update_walk.proofs.update_number.Statement.{statement}
+use Rattle.update_walk.proofs.update_number.Tie as tie
 
 enum-told : tie.Need-enum-told
 enum-told c = search needs
@@ -21,6 +21,6 @@ returns-2 c = rw (c .enum-told2 .given .1)
 returns-3 : tie.Need-returns-3
 returns-3 c = rw (c .enum-told3 .given .1)
 
-pub number-of-spec : {M : Type 1} → statement M
-number-of-spec =
+pub update-number-spec : {M : Type 1} → statement M
+update-number-spec =
     tie.close (tie.spec enum-told enum-told-2 enum-told-3 returns returns-2 returns-3)

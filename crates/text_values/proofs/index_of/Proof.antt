@@ -1,15 +1,15 @@
--- `text_values::place` meets its contract. The loop keeps: none of the octets passed is the one looked for. Assumes nothing.
+-- `text_values::index_of` meets its contract. The loop keeps: none of the octets passed is the one looked for. Assumes nothing.
 use Prim.Native.Nat.{_+_, _-_, _≤_}
 use native.Mathlib.Omega.{arith}
 use mathlib.Core.Path.{_≡_}
 use lib.ListN.{length, drop}
-use Rattle.text_values.specs.Places.{placeOf}
+use Rattle.text_values.specs.Places.{indexOf}
 use Rattle.text_values.proofs.Laws.{place-here, place-next, place-end}
-use Rattle.text_values.proofs.place.Statement.{statement}
-use Rattle.text_values.proofs.place.Tie as tie
+use Rattle.text_values.proofs.index_of.Statement.{statement}
+use Rattle.text_values.proofs.index_of.Tie as tie
 
 abbrev Inv-loop : tie.InvT-loop
-Inv-loop octets octet at₀ at = (at ≤ length octets) × (placeOf octet octets ≡ at + placeOf octet (drop at octets))
+Inv-loop octets octet at₀ at = (at ≤ length octets) × (indexOf octet octets ≡ at + indexOf octet (drop at octets))
 
 abbrev μ-loop : tie.MeasureT-loop
 μ-loop octets octet at₀ at = length octets - at
@@ -44,8 +44,8 @@ returns-2 c =
     let a = c .before .before .args in
     omega (arith, l .inv .1, place-end (a .octet) (a .octets .now) (l .at) (c .loop-test .left))
 
-pub place-spec : {M : Type 1} → statement M
-place-spec =
+pub index-of-spec : {M : Type 1} → statement M
+index-of-spec =
     tie.close
     (tie.spec
     Inv-loop

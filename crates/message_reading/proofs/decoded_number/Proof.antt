@@ -1,7 +1,7 @@
-use Rattle.message_reading.specs.Reading.{numberOf}
+use Rattle.message_reading.specs.Reading.{decodedNumber}
 use borrow.Author.Needs.{needs}
-use Rattle.message_reading.proofs.number_of.Statement.{statement}
-use Rattle.message_reading.proofs.number_of.Tie as tie
+use Rattle.message_reading.proofs.decoded_number.Statement.{statement}
+use Rattle.message_reading.proofs.decoded_number.Tie as tie
 
 enum-told : tie.Need-enum-told
 enum-told c = search needs
@@ -16,22 +16,22 @@ enum-told-4 : tie.Need-enum-told-4
 enum-told-4 c = search needs
 
 returns : tie.Need-returns
-unfolding numberOf
+unfolding decodedNumber
 returns c = rw (c .enum-told .given .1)
 
 returns-2 : tie.Need-returns-2
-unfolding numberOf
+unfolding decodedNumber
 returns-2 c = rw (c .enum-told2 .given .1)
 
 returns-3 : tie.Need-returns-3
-unfolding numberOf
+unfolding decodedNumber
 returns-3 c = rw (c .enum-told3 .given .1)
 
 returns-4 : tie.Need-returns-4
-unfolding numberOf
+unfolding decodedNumber
 returns-4 c = rw (c .enum-told4 .given .1)
 
-pub number-of-spec : {M : Type 1} → statement M
-number-of-spec =
+pub decoded-number-spec : {M : Type 1} → statement M
+decoded-number-spec =
     tie.close
     (tie.spec enum-told enum-told-2 enum-told-3 enum-told-4 returns returns-2 returns-3 returns-4)

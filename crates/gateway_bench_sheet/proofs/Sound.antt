@@ -95,7 +95,6 @@ phaseFrom k =
     cond (eqb k 0) Phase.Idle (cond (eqb k 1) Phase.Acquisition (cond (eqb k 2) Phase.Down (cond (eqb k 3) Phase.Up Phase.Cease)))
 
 phase-from : (p : Phase) → phaseFrom (phaseNumber p) ≡ p
-unfolding phaseNumber
 phase-from Phase.Idle = refl
 phase-from Phase.Acquisition = refl
 phase-from Phase.Down = refl
@@ -106,7 +105,6 @@ abbrev modeFrom : ℕ → Mode
 modeFrom k = cond (eqb k 0) Unset (cond (eqb k 1) Active Passive)
 
 mode-from : (m : Mode) → modeFrom (modeNumber m) ≡ m
-unfolding modeNumber
 mode-from Unset = refl
 mode-from Active = refl
 mode-from Passive = refl

@@ -47,6 +47,6 @@ pub record CheckSheet : Type 0 where
   -- what a call that is carried out leaves in the state, the buffer and the table
   pub effects : map Effects.computed effects ≡ map Effects.written effects
   -- which Update is an indication, and that a refused one is none
-  pub indicationLines : map Indications.computed indicationLines ≡ map Indications.written indicationLines
+  pub indications : map Indications.computed indicationLines ≡ map Indications.written indicationLines
   -- an Update read on a net of class C
   pub class-c : readOnC ≡ writtenOnC

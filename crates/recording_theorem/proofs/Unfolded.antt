@@ -1,4 +1,4 @@
--- from specs/Cases.antt Cases
+-- from specs/Cases.antt PlayedCases
 -- Made by ./unfoldings from the line above: all definitions that it rests on. To unfold `opened` is to unfold them all.
 use Prim.Native.Nat.{ℕ}
 use Rattle.checks.specs.Checks as Checks

@@ -27,7 +27,7 @@ refuse-requires-2 : tie.Need-refuse-requires-2
 refuse-requires-2 c κs = search needs
 
 returns-2 : tie.Need-returns-2
-returns-2 c = c .refuse2 .ensures ∙ ap refusal (c .before .number-of .ensures) ∙ read-kind-bad _ _ _ (c .before .before .before .before .before .read-header .ensures) (c .before .before .before .before .if1 .left) _ (c .before .before .before .decode .ensures) (c .before .before .match .keys2)
+returns-2 c = c .refuse2 .ensures ∙ ap refusal (c .before .decoded-number .ensures) ∙ read-kind-bad _ _ _ (c .before .before .before .before .before .read-header .ensures) (c .before .before .before .before .if1 .left) _ (c .before .before .before .decode .ensures) (c .before .before .match .keys2)
 
 read-rows-requires : tie.Need-read-rows-requires
 read-rows-requires c κs = search needs

@@ -12,14 +12,14 @@ walk-requires c κs = search needs
 enum-known-walked : tie.Need-enum-known-walked
 enum-known-walked c = search needs
 
-decoded-number-requires : tie.Need-decoded-number-requires
-decoded-number-requires c κs = search needs
+update-number-requires : tie.Need-update-number-requires
+update-number-requires c κs = search needs
 
 refuse-requires : tie.Need-refuse-requires
 refuse-requires c κs = search needs
 
 returns : tie.Need-returns
-returns c = c .refuse .ensures ∙ ap refusal (c .before .number-of .ensures) ∙ update-refused _ _ _ _ (c .before .before .before .walk .ensures) (c .before .before .match .keys2)
+returns c = c .refuse .ensures ∙ ap refusal (c .before .update-number .ensures) ∙ update-refused _ _ _ _ (c .before .before .before .walk .ensures) (c .before .before .match .keys2)
 
 slice-aggregate-store-rows : tie.Need-slice-aggregate-store-rows
 slice-aggregate-store-rows c = search needs
@@ -39,7 +39,7 @@ read-update-spec =
     (tie.spec
     walk-requires
     enum-known-walked
-    decoded-number-requires
+    update-number-requires
     refuse-requires
     returns
     slice-aggregate-store-rows

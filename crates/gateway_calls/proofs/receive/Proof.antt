@@ -49,13 +49,13 @@ reply-to-requires-2 : tie.Need-reply-to-requires-2
 reply-to-requires-2 c κs = search needs
 
 refuse-requires-2 : tie.Need-refuse-requires-2
-refuse-requires-2 c κs = let k = kind-is _ (c .before .before .before .before .before .before .before .before .before .before .before .before .before .before .before .before .before .args .table .now) (c .before .before .before .before .before .before .before .before .before .before .before .before .before .before .before .before .before .args .reply .now) (c .before .before .before .before .before .before .before .before .before .before .before .before .before .before .before .before .before .args .home .now) _ (c .before .before .before .before .before .before .before .before .before .before .before .before .before .before .before .before .before .args .message .now) _ (c .before .before .before .before .before .before .before .before .before .before .before .before .message-answer .ensures _ _ refl refl) (c .before .before .before .before .before .before .before .before .before .before .before .if1 .left) _ _ (c .before .before .before .before .before .before .before .before .before .before .slot-of .ensures) (c .before .before .before .before .before .before .before .before .before .slot-at .ensures) (sym (c .before .before .before .before .before .before .head-number .ensures) ∙ c .before .before .before .before .before .if2 .left) _ (c .before .before .number-of .ensures ∙ ap decodedNumber (c .before .before .before .before .decode .ensures)) (rw (c .before .before .before .before .decode .ensures) at (c .before .before .before .match .keys2)) in number-asked _ (c .before .before .before .before .before .before .before .before .before .before .before .before .before .before .before .before .before .args .table .now) (c .before .before .before .before .before .before .before .before .before .before .before .before .before .before .before .before .before .args .reply .now) (c .before .before .before .before .before .before .before .before .before .before .before .before .before .before .before .before .before .args .home .now) _ (c .before .before .before .before .before .before .before .before .before .before .before .before .before .before .before .before .before .args .message .now) _ (c .before .before .before .before .before .before .before .before .before .before .before .before .message-answer .ensures _ _ refl refl) (c .before .before .before .before .before .before .before .before .before .before .before .if1 .left) _ _ (c .before .before .before .before .before .before .before .before .before .before .slot-of .ensures) (c .before .before .before .before .before .before .before .before .before .slot-at .ensures) _ (k .0) (k .1) _ (c .before .reply-to2 .ensures)
+refuse-requires-2 c κs = let k = kind-is _ (c .before .before .before .before .before .before .before .before .before .before .before .before .before .before .before .before .before .args .table .now) (c .before .before .before .before .before .before .before .before .before .before .before .before .before .before .before .before .before .args .reply .now) (c .before .before .before .before .before .before .before .before .before .before .before .before .before .before .before .before .before .args .home .now) _ (c .before .before .before .before .before .before .before .before .before .before .before .before .before .before .before .before .before .args .message .now) _ (c .before .before .before .before .before .before .before .before .before .before .before .before .message-answer .ensures _ _ refl refl) (c .before .before .before .before .before .before .before .before .before .before .before .if1 .left) _ _ (c .before .before .before .before .before .before .before .before .before .before .slot-of .ensures) (c .before .before .before .before .before .before .before .before .before .slot-at .ensures) (sym (c .before .before .before .before .before .before .head-number .ensures) ∙ c .before .before .before .before .before .if2 .left) _ (c .before .before .decoded-number .ensures ∙ ap decodedNumber (c .before .before .before .before .decode .ensures)) (rw (c .before .before .before .before .decode .ensures) at (c .before .before .before .match .keys2)) in number-asked _ (c .before .before .before .before .before .before .before .before .before .before .before .before .before .before .before .before .before .args .table .now) (c .before .before .before .before .before .before .before .before .before .before .before .before .before .before .before .before .before .args .reply .now) (c .before .before .before .before .before .before .before .before .before .before .before .before .before .before .before .before .before .args .home .now) _ (c .before .before .before .before .before .before .before .before .before .before .before .before .before .before .before .before .before .args .message .now) _ (c .before .before .before .before .before .before .before .before .before .before .before .before .message-answer .ensures _ _ refl refl) (c .before .before .before .before .before .before .before .before .before .before .before .if1 .left) _ _ (c .before .before .before .before .before .before .before .before .before .before .slot-of .ensures) (c .before .before .before .before .before .before .before .before .before .slot-at .ensures) _ (k .0) (k .1) _ (c .before .reply-to2 .ensures)
 
 same-length-2 : tie.Need-same-length-2
 same-length-2 c = search needs
 
 returns-3 : tie.Need-returns-3
-returns-3 c = let k = kind-is _ (c .before .before .before .before .before .before .before .before .before .before .before .before .before .before .before .before .before .before .before .before .args .table .now) (c .before .before .before .before .before .before .before .before .before .before .before .before .before .before .before .before .before .before .before .before .args .reply .now) (c .before .before .before .before .before .before .before .before .before .before .before .before .before .before .before .before .before .before .before .before .args .home .now) _ (c .before .before .before .before .before .before .before .before .before .before .before .before .before .before .before .before .before .before .before .before .args .message .now) _ (c .before .before .before .before .before .before .before .before .before .before .before .before .before .before .before .message-answer .ensures _ _ refl refl) (c .before .before .before .before .before .before .before .before .before .before .before .before .before .before .if1 .left) _ _ (c .before .before .before .before .before .before .before .before .before .before .before .before .before .slot-of .ensures) (c .before .before .before .before .before .before .before .before .before .before .before .before .slot-at .ensures) (sym (c .before .before .before .before .before .before .before .before .before .head-number .ensures) ∙ c .before .before .before .before .before .before .before .before .if2 .left) _ (c .before .before .before .before .before .number-of .ensures ∙ ap decodedNumber (c .before .before .before .before .before .before .before .decode .ensures)) (rw (c .before .before .before .before .before .before .before .decode .ensures) at (c .before .before .before .before .before .before .match .keys2)) in number-done _ (c .before .before .before .before .before .before .before .before .before .before .before .before .before .before .before .before .before .before .before .before .args .table .now) (c .before .before .before .before .before .before .before .before .before .before .before .before .before .before .before .before .before .before .before .before .args .reply .now) (c .before .before .before .before .before .before .before .before .before .before .before .before .before .before .before .before .before .before .before .before .args .home .now) _ (c .before .before .before .before .before .before .before .before .before .before .before .before .before .before .before .before .before .before .before .before .args .message .now) _ (c .before .before .before .before .before .before .before .before .before .before .before .before .before .before .before .message-answer .ensures _ _ refl refl) (c .before .before .before .before .before .before .before .before .before .before .before .before .before .before .if1 .left) _ _ (c .before .before .before .before .before .before .before .before .before .before .before .before .before .slot-of .ensures) (c .before .before .before .before .before .before .before .before .before .before .before .before .slot-at .ensures) _ (k .0) (k .1) _ (c .before .before .before .before .reply-to2 .ensures) _ _ (c .before .before .refuse2 .ensures .0) (c .before .before .refuse2 .ensures .1)
+returns-3 c = let k = kind-is _ (c .before .before .before .before .before .before .before .before .before .before .before .before .before .before .before .before .before .before .before .before .args .table .now) (c .before .before .before .before .before .before .before .before .before .before .before .before .before .before .before .before .before .before .before .before .args .reply .now) (c .before .before .before .before .before .before .before .before .before .before .before .before .before .before .before .before .before .before .before .before .args .home .now) _ (c .before .before .before .before .before .before .before .before .before .before .before .before .before .before .before .before .before .before .before .before .args .message .now) _ (c .before .before .before .before .before .before .before .before .before .before .before .before .before .before .before .message-answer .ensures _ _ refl refl) (c .before .before .before .before .before .before .before .before .before .before .before .before .before .before .if1 .left) _ _ (c .before .before .before .before .before .before .before .before .before .before .before .before .before .slot-of .ensures) (c .before .before .before .before .before .before .before .before .before .before .before .before .slot-at .ensures) (sym (c .before .before .before .before .before .before .before .before .before .head-number .ensures) ∙ c .before .before .before .before .before .before .before .before .if2 .left) _ (c .before .before .before .before .before .decoded-number .ensures ∙ ap decodedNumber (c .before .before .before .before .before .before .before .decode .ensures)) (rw (c .before .before .before .before .before .before .before .decode .ensures) at (c .before .before .before .before .before .before .match .keys2)) in number-done _ (c .before .before .before .before .before .before .before .before .before .before .before .before .before .before .before .before .before .before .before .before .args .table .now) (c .before .before .before .before .before .before .before .before .before .before .before .before .before .before .before .before .before .before .before .before .args .reply .now) (c .before .before .before .before .before .before .before .before .before .before .before .before .before .before .before .before .before .before .before .before .args .home .now) _ (c .before .before .before .before .before .before .before .before .before .before .before .before .before .before .before .before .before .before .before .before .args .message .now) _ (c .before .before .before .before .before .before .before .before .before .before .before .before .before .before .before .message-answer .ensures _ _ refl refl) (c .before .before .before .before .before .before .before .before .before .before .before .before .before .before .if1 .left) _ _ (c .before .before .before .before .before .before .before .before .before .before .before .before .before .slot-of .ensures) (c .before .before .before .before .before .before .before .before .before .before .before .before .slot-at .ensures) _ (k .0) (k .1) _ (c .before .before .before .before .reply-to2 .ensures) _ _ (c .before .before .refuse2 .ensures .0) (c .before .before .refuse2 .ensures .1)
 
 take-requires : tie.Need-take-requires
 take-requires c κs = record { head = sym (c .before .before .before .before .before .head-number .ensures) ∙ c .before .before .before .before .if2 .left; meaning = sym (c .before .before .before .decode .ensures) ∙ c .before .decoded .given .1 }

@@ -18,7 +18,7 @@ refuse-requires : tie.Need-refuse-requires
 refuse-requires c κs = search needs
 
 returns : tie.Need-returns
-returns c = c .refuse .ensures ∙ rw (c .before .number-of .ensures, c .before .before .before .walk .ensures) (refused-taken _ _ _ _ 0 _ (rw (c .before .before .before .walk .ensures) at (c .before .before .match .keys2)))
+returns c = c .refuse .ensures ∙ rw (c .before .update-number .ensures, c .before .before .before .walk .ensures) (refused-taken _ _ _ _ 0 _ (rw (c .before .before .before .walk .ensures) at (c .before .before .match .keys2)))
 
 step-for-requires : tie.Need-step-for-requires
 step-for-requires c κs = search needs

@@ -8,7 +8,7 @@ advance-requires : tie.Need-advance-requires
 advance-requires c κs = search needs
 
 show-requires : tie.Need-show-requires
-show-requires c κs = written-fits _ _ _ _ (c .before .before .before .before .before .before .before .before .step .ensures .0) (c .before .before .before .before .before .before .before .before .step .ensures .1 .1 .1) (c .before .before .before .before .before .before .before .before .step .kept .1 .1 .1 .1 .0)
+show-requires c κs = written-fits _ _ _ _ (c .before .before .before .before .before .before .before .before .advance .ensures .0) (c .before .before .before .before .before .before .before .before .advance .ensures .1 .1 .1) (c .before .before .before .before .before .before .before .before .advance .kept .1 .1 .1 .1 .0)
 
 wrote-requires : tie.Need-wrote-requires
 wrote-requires c κs = search needs

@@ -11,10 +11,10 @@ index-of-requires : tie.Need-index-of-requires
 index-of-requires c κs = tt
 
 returns : tie.Need-returns
-returns c = no-slash (c .before .before .before .args .value .now) (c .before .place .result) (c .before .place .ensures) (c .if1 .taken)
+returns c = no-slash (c .before .before .before .args .value .now) (c .before .index-of .result) (c .before .index-of .ensures) (c .if1 .taken)
 
 slice-aggregate-read-dotted : tie.Need-slice-aggregate-read-dotted
-slice-aggregate-read-dotted c = sym (length-take-le (c .before .before .place .result) (c .before .before .before .before .args .value .now) (omega (arith, c .before .if1 .left)))
+slice-aggregate-read-dotted c = sym (length-take-le (c .before .before .index-of .result) (c .before .before .before .before .args .value .now) (omega (arith, c .before .if1 .left)))
 
 read-dotted-requires : tie.Need-read-dotted-requires
 read-dotted-requires c κs = tt
@@ -26,13 +26,13 @@ enum-told : tie.Need-enum-told
 enum-told c = search needs
 
 returns-2 : tie.Need-returns-2
-returns-2 c = no-address (c .before .before .before .before .before .before .before .args .value .now) (c .before .before .before .before .before .place .result) (c .before .before .before .before .before .place .ensures) (c .before .before .before .before .if1 .left) (sym (c .before .before .read-dotted .ensures) ∙ c .enum-told .given .1)
+returns-2 c = no-address (c .before .before .before .before .before .before .before .args .value .now) (c .before .before .before .before .before .index-of .result) (c .before .before .before .before .before .index-of .ensures) (c .before .before .before .before .if1 .left) (sym (c .before .before .read-dotted .ensures) ∙ c .enum-told .given .1)
 
 add-t4 : tie.Need-add-t4
 add-t4 c = search needs
 
 returns-3 : tie.Need-returns-3
-returns-3 c = front-read (c .before .before .before .before .before .before .before .before .args .value .now) (c .before .before .before .before .before .before .place .result) (c .before .before .before .before .before .before .place .ensures) (c .before .before .before .before .before .if1 .left) (c .before .address .given .0 .0) (sym (c .before .before .before .read-dotted .ensures) ∙ c .before .address .given .1)
+returns-3 c = front-read (c .before .before .before .before .before .before .before .before .args .value .now) (c .before .before .before .before .before .before .index-of .result) (c .before .before .before .before .before .before .index-of .ensures) (c .before .before .before .before .before .if1 .left) (c .before .address .given .0 .0) (sym (c .before .before .before .read-dotted .ensures) ∙ c .before .address .given .1)
 
 pub read-front-spec : {M : Type 1} → statement M
 read-front-spec =

@@ -26,7 +26,7 @@ index-of-requires c κs = tt
 returns : tie.Need-returns Inv-loop μ-loop
 returns c =
     let l = c .before .before .before .loop in
-    sym (l .inv .2 ∙ quad-no-dot _ (l .rest .now) _ _ (c .before .before .loop-test .taken) (c .before .place .ensures) (c .if1 .taken))
+    sym (l .inv .2 ∙ quad-no-dot _ (l .rest .now) _ _ (c .before .before .loop-test .taken) (c .before .index-of .ensures) (c .if1 .taken))
 
 slice-aggregate-read-decimal : tie.Need-slice-aggregate-read-decimal Inv-loop μ-loop
 slice-aggregate-read-decimal c = simp length-take (omega arith)
@@ -43,7 +43,7 @@ enum-told c = search needs
 returns-2 : tie.Need-returns-2 Inv-loop μ-loop
 returns-2 c =
     let l = c .before .before .before .before .before .before .before .loop in
-    sym (l .inv .2 ∙ quad-bad _ (l .rest .now) _ _ (c .before .before .before .before .before .before .loop-test .taken) (c .before .before .before .before .before .place .ensures) (c .before .before .before .before .if1 .left) (sym (c .before .before .read-decimal .ensures) ∙ c .enum-told .given .1))
+    sym (l .inv .2 ∙ quad-bad _ (l .rest .now) _ _ (c .before .before .before .before .before .before .loop-test .taken) (c .before .before .before .before .before .index-of .ensures) (c .before .before .before .before .if1 .left) (sym (c .before .before .read-decimal .ensures) ∙ c .enum-told .given .1))
 
 mul-n : tie.Need-mul-n Inv-loop μ-loop
 mul-n c = omega (arith, quad-fits _ _ _ _ (c .before .before .before .before .before .before .before .before .loop .inv .0) (sym (c .before .before .before .read-decimal .ensures) ∙ c .before .octet .given .1))
@@ -73,7 +73,7 @@ loop-again : tie.Need-loop-again Inv-loop μ-loop
 loop-again c =
     let l = c .before .before .before .before .before .before .before .before .before .loop in
     let more = c .before .before .before .before .before .before .before .before .loop-test .taken in
-    let dot = c .before .before .before .before .before .before .before .place in
+    let dot = c .before .before .before .before .before .before .before .index-of in
     let e = sym (c .before .before .before .before .read-decimal .ensures) ∙ c .before .before .octet .given .1 in
     rw (part-from (dot .result + 1) (l .rest .now)) (
       quad-below _ _ _ _ more (l .inv .0) e,

@@ -6,6 +6,10 @@ use Rattle.checks.specs.Lists as Lists
 use Rattle.octets_checksum.specs.Checksum as Checksum
 use Rattle.nets.specs.Classes as Classes
 use Rattle.nets.specs.Rows as Rows
+use Rattle.text.specs.Text as Text
+use Rattle.text_values.specs.Numbers as Numbers
+use Rattle.text_values.specs.Hex as Hex
+use Rattle.text_values.specs.Places as Places
 use Rattle.message.specs.Kinds as Kinds
 use Rattle.message_reading.specs.Reading as Reading
 use Rattle.message_writing.specs.Writing as Writing
@@ -21,12 +25,8 @@ use Rattle.gateway_state.specs.Formed as Formed
 use Rattle.gateway_state.specs.Outcomes as Outcomes
 use Rattle.gateway_slots.specs.Calls as Calls
 use Rattle.gateway_rules.specs.Home as Home
-use Rattle.text.specs.Text as Text
 use Rattle.listing_lines.specs.Lines as ListingLinesLines
 use Rattle.model.specs.Model as Model
-use Rattle.text_values.specs.Numbers as Numbers
-use Rattle.text_values.specs.Hex as Hex
-use Rattle.text_values.specs.Places as Places
 use Rattle.recording_lines.specs.Lines as RecordingLinesLines
 use Rattle.recording_bad_line.specs.BadLine as BadLine
 use Rattle.recording_call.specs.Told as Told
@@ -34,5 +34,5 @@ use Rattle.recording_theorem.specs.Output as Output
 use Rattle.recording_theorem.specs.Cases as Cases
 
 unfoldable pub opened : ℕ
-unfolding Checks.check Checks.ifOk Lists.first Lists.every Lists.join Checksum.onesAdd Checksum.onesSum Checksum.checksumOf Checksum.sealed Classes.netWidth Classes.hostSpan Classes.goodNet Classes.onNet Rows.rowsOf Kinds.kindAt Kinds.plainStatus Kinds.refusalStatus Kinds.markedStatus Reading.headerAnswer Reading.meaningOf Reading.decodeAs Reading.decodeOf Writing.headOf Storing.zeros Octets.plainOctets Octets.messageOctets Record.under Record.withNumbers Record.withTimers Record.withReach Record.idle Record.leftIdle Record.waiting Record.initialised Record.heardFrom Record.shifted Record.enterUp Record.leaveUp Record.polled Rules.inSequence Rules.commanded Rules.indicates Rules.noted Rules.period1Of Rules.period2Of Rules.unacceptable Rules.modeOf Rules.offerOf Rules.onesOf Rules.goesUp Rules.goesDown Rules.judged Table.followed Table.quiet Table.answers Table.says Table.helloIf Table.doesA Table.doesB Table.ceases Table.repeatsCease Table.acquires Table.stray Table.onRequest Table.settles Table.onConfirm Table.onRefuse Table.onCease Table.onCeaseAck Table.onHello Table.onIHeardYou Table.answersPoll Table.onPoll Table.onUpdate Table.onStart Table.onStop Tick.expired Tick.repeats Tick.listens Tick.polls Tick.pollsOnEntry Tick.takesT2 Tick.pollsInUp Tick.tickOn Tick.onTick Step.onMessage Step.stepOf Slots.freeSlot Formed.goodSettings Outcomes.silentOf Calls.freeSlots Calls.emptyState Calls.zeroState Calls.freshAnswer Calls.freshOf Home.homeRow Home.ownFirst Home.goodHome Text.text Text.digit Text.digits Text.decimal Text.dotted Text.line ListingLinesLines.stateWord ListingLinesLines.modeWord ListingLinesLines.distanceIn ListingLinesLines.sideWord ListingLinesLines.headLines ListingLinesLines.rowLines ListingLinesLines.rowText ListingLinesLines.entryText ListingLinesLines.listingText Model.empty Model.slotIn Model.put Model.isFree Model.hasAddress Model.foundAt Model.isPresent Model.vacancy Model.silent Model.spoken Model.addable Model.answerToAdd Model.isIdleSlot Model.answerToRemove Model.addTurn Model.removeTurn Model.noMove Model.rowsInPhase Model.moved Model.noOctets Model.eventMove Model.bodyAnswer Model.isUpdate Model.kindAnswer Model.answerTo Model.firstTwelve Model.errorReply Model.refuseReply Model.refusalReply Model.afterMessage Model.rowsAfter Model.messageMove Model.eventAnswer Model.messageAnswer Model.turnAt Model.eventTurn Model.messageTurn Model.listedFrom Model.listed Model.listingAnswer Model.listingSaid Model.listingTurn Model.step Model.modelFrom Model.model Numbers.whenNumber Numbers.isDigit Numbers.digitsOf Numbers.leadsWithZero Numbers.decimalOf Numbers.dottedFrom Numbers.dottedOf Hex.hexDigit Hex.hexText Hex.nibble Hex.isHex Hex.hexOctets Places.indexOf Places.startsWith RecordingLinesLines.behind RecordingLinesLines.ownAsOf RecordingLinesLines.ownOf RecordingLinesLines.capabilityOf RecordingLinesLines.netOf RecordingLinesLines.alone RecordingLinesLines.slashed RecordingLinesLines.addEvent RecordingLinesLines.tickEvent RecordingLinesLines.rxEvent RecordingLinesLines.eventOf BadLine.badText Told.txText Told.lent Told.addressedTo Output.linesFrom Output.linesOf Output.eventIn Output.valueIn Output.takenBy Output.fromNet Output.fromCapability Output.fromOwn Output.openingOf Output.ticks Output.callsOf Output.goodCalls Output.callsTold Output.eventTold Output.toldFrom Output.toldText Output.eventsText Output.openingText Output.outputOf Cases.head
+unfolding Checks.check Checks.ifOk Lists.first Lists.every Lists.join Checksum.onesAdd Checksum.onesSum Checksum.checksumOf Checksum.sealed Classes.netWidth Classes.hostSpan Classes.goodNet Classes.onNet Rows.rowsOf Text.text Text.digit Text.digits Text.decimal Text.dotted Text.line Numbers.whenNumber Numbers.isDigit Numbers.digitsOf Numbers.leadsWithZero Numbers.decimalOf Numbers.dottedFrom Numbers.dottedOf Hex.hexDigit Hex.hexText Hex.nibble Hex.isHex Hex.hexOctets Places.indexOf Places.startsWith Kinds.kindAt Kinds.plainStatus Kinds.refusalStatus Kinds.markedStatus Reading.headerAnswer Reading.meaningOf Reading.decodeAs Reading.decodeOf Writing.headOf Storing.zeros Octets.plainOctets Octets.messageOctets Record.under Record.withNumbers Record.withTimers Record.withReach Record.idle Record.leftIdle Record.waiting Record.initialised Record.heardFrom Record.shifted Record.enterUp Record.leaveUp Record.polled Rules.inSequence Rules.commanded Rules.indicates Rules.noted Rules.period1Of Rules.period2Of Rules.unacceptable Rules.modeOf Rules.offerOf Rules.onesOf Rules.goesUp Rules.goesDown Rules.judged Table.followed Table.quiet Table.answers Table.says Table.helloIf Table.doesA Table.doesB Table.ceases Table.repeatsCease Table.acquires Table.stray Table.onRequest Table.settles Table.onConfirm Table.onRefuse Table.onCease Table.onCeaseAck Table.onHello Table.onIHeardYou Table.answersPoll Table.onPoll Table.onUpdate Table.onStart Table.onStop Tick.expired Tick.repeats Tick.listens Tick.polls Tick.pollsOnEntry Tick.takesT2 Tick.pollsInUp Tick.tickOn Tick.onTick Step.onMessage Step.stepOf Slots.freeSlot Formed.goodSettings Outcomes.silentOf Calls.freeSlots Calls.emptyState Calls.zeroState Calls.freshAnswer Calls.freshOf Home.homeRow Home.ownFirst Home.goodHome ListingLinesLines.stateWord ListingLinesLines.modeWord ListingLinesLines.distanceIn ListingLinesLines.sideWord ListingLinesLines.headLines ListingLinesLines.rowLines ListingLinesLines.rowText ListingLinesLines.entryText ListingLinesLines.listingText Model.empty Model.slotIn Model.put Model.isFree Model.hasAddress Model.foundAt Model.isPresent Model.vacancy Model.silent Model.spoken Model.addable Model.answerToAdd Model.isIdleSlot Model.answerToRemove Model.addTurn Model.removeTurn Model.noMove Model.rowsInPhase Model.moved Model.noOctets Model.eventMove Model.bodyAnswer Model.isUpdate Model.kindAnswer Model.answerTo Model.firstTwelve Model.errorReply Model.refuseReply Model.refusalReply Model.afterMessage Model.rowsAfter Model.messageMove Model.eventAnswer Model.messageAnswer Model.turnAt Model.eventTurn Model.messageTurn Model.listedFrom Model.listed Model.listingAnswer Model.listingSaid Model.listingTurn Model.step Model.modelFrom Model.model RecordingLinesLines.behind RecordingLinesLines.ownAsOf RecordingLinesLines.ownOf RecordingLinesLines.capabilityOf RecordingLinesLines.netOf RecordingLinesLines.alone RecordingLinesLines.slashed RecordingLinesLines.addEvent RecordingLinesLines.tickEvent RecordingLinesLines.rxEvent RecordingLinesLines.eventOf BadLine.badText Told.txText Told.lent Told.addressedTo Output.linesFrom Output.linesOf Output.eventIn Output.valueIn Output.takenBy Output.fromNet Output.fromCapability Output.fromOwn Output.openingOf Output.ticks Output.callsOf Output.goodCalls Output.callsTold Output.eventTold Output.toldFrom Output.toldText Output.eventsText Output.openingText Output.outputOf Cases.head
 opened = 0

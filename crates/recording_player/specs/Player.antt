@@ -1,6 +1,6 @@
 -- The player: it is handed a recording in pieces, and each turn makes at most one call. 02: "Playing a recording must
 -- equal
--- making the calls of its good lines one by one"; that it does is stated in the crate `played`.
+-- making the calls of its good lines one by one"; that it does is stated in the crate `recording_theorem`.
 use Prim.Native.Nat.{ℕ, _-_}
 use mathlib.Core.Bool.{Bool, true, false, cond, not, _&&_}
 use mathlib.Core.List.{List, []}

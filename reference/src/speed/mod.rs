@@ -1,0 +1,227 @@
+//! How long the calls take: the proved ones beside the reference's and beside those in C, on the
+//! same state, table and arguments in memory.
+//!
+//! A record asks a driver to make one call so many times, each time from the same state; the
+//! reference does the same in a loop. All run in turn, and the best round of each counts.
+
+pub mod cases;
+pub mod growth;
+pub mod instructions;
+
+use std::fmt::Write as _;
+use std::hint::black_box;
+use std::io::{self, BufWriter, Write};
+use std::process::ChildStdin;
+use std::time::{Duration, Instant};
+
+use crate::answer::Answer;
+use crate::call::{Buffer, Call};
+use crate::compare::Driver;
+use crate::gateway::{self, Outcome, State};
+use crate::listing;
+use crate::record::{self, Given};
+
+use cases::Case;
+
+/// The programs under time, in this order everywhere.
+pub const NAMES: [&str; 3] = ["proved", "reference", "C"];
+
+/// How many rounds are run; the best counts.
+const ROUNDS: usize = 80;
+/// How long a round should last: short, so that some are not disturbed by what else is running.
+const ROUND: Duration = Duration::from_millis(2);
+
+/// The reference's own call, so many times.
+fn time_reference(case: &Case, times: u32) -> Duration {
+    let state = case.bench.state;
+    let mut table = case.bench.table.clone();
+    let mut buffer = case.call.buffer().map(Buffer::octets).unwrap_or_default();
+    let start = Instant::now();
+    for _ in 0..times {
+        black_box(once(
+            black_box(&state),
+            &mut table,
+            &mut buffer,
+            black_box(&case.call),
+        ));
+    }
+    start.elapsed()
+}
+
+fn once(state: &State, table: &mut [u32], buffer: &mut [u8], call: &Call) -> Outcome {
+    match call {
+        Call::Start { address, .. } => gateway::start(state, table, buffer, *address),
+        Call::Stop { address, .. } => gateway::stop(state, table, buffer, *address),
+        Call::Tick { address, .. } => gateway::tick(state, table, buffer, *address),
+        Call::Message {
+            address,
+            octets,
+            home,
+            ..
+        } => gateway::message(state, table, buffer, home, *address, octets),
+        Call::Listing { .. } => listing::listing(state, table, buffer),
+        // No call: the loop alone.
+        _ => Outcome {
+            answer: Answer::Done,
+            lengths: (0, 0),
+            state: *state,
+        },
+    }
+}
+
+/// A driver's end: it is handed state and table, then the call with a count.
+struct Timed {
+    driver: Driver,
+    records: BufWriter<ChildStdin>,
+}
+
+impl Timed {
+    fn start(program: &str) -> io::Result<Timed> {
+        let (driver, records) = Driver::start(program)
+            .map_err(|error| io::Error::other(format!("{program}: {error}")))?;
+        Ok(Timed { driver, records })
+    }
+
+    fn ask(&mut self, record: &[u8]) -> io::Result<(Given, Duration)> {
+        let start = Instant::now();
+        self.records.write_all(record)?;
+        self.records.flush()?;
+        let given = Given::decode(&mut self.driver.answers)?;
+        Ok((given, start.elapsed()))
+    }
+
+    fn hand_state(&mut self, case: &Case) -> io::Result<()> {
+        let state = Call::HandState(Box::new(case.bench.state));
+        self.ask(&record::encode(&state, 1)).map(|_| ())
+    }
+
+    /// Hands in what the case starts from. A call that does not give what the reference gives is
+    /// not timed.
+    fn prepare(&mut self, case: &Case) -> io::Result<()> {
+        let table = Call::HandTable(case.bench.table.clone());
+        self.ask(&record::encode(&table, 1))?;
+        self.hand_state(case)?;
+        let (given, _) = self.ask(&record::encode(&case.call, 1))?;
+        let mut bench = case.bench.clone();
+        let ours = bench.run(&case.call);
+        let ours = Given::expected(&case.call, &ours, &bench);
+        match ours.difference(&given) {
+            Some(difference) => Err(io::Error::other(format!("{}: {difference}", case.name))),
+            None => Ok(()),
+        }
+    }
+
+    /// The driver's call with the way there and back, so many times.
+    fn time(&mut self, case: &Case, times: u32) -> io::Result<Duration> {
+        self.hand_state(case)?;
+        let (_, time) = self.ask(&record::encode(&case.call, times))?;
+        Ok(time)
+    }
+
+    fn end(self) -> io::Result<()> {
+        drop(self.records);
+        self.driver.end().map(|_| ())
+    }
+}
+
+/// The programs, in the order of [`NAMES`].
+pub struct Bench {
+    proved: Timed,
+    c: Timed,
+}
+
+impl Bench {
+    pub fn start(proved: &str, c: &str) -> io::Result<Bench> {
+        Ok(Bench {
+            proved: Timed::start(proved)?,
+            c: Timed::start(c)?,
+        })
+    }
+
+    /// Nanoseconds a call of each, the best of several rounds in turn.
+    pub fn measure(&mut self, case: &Case, rounds: usize) -> io::Result<[f64; 3]> {
+        self.proved.prepare(case)?;
+        self.c.prepare(case)?;
+        let mut times = 16;
+        while time_reference(case, times) < ROUND && times < 1 << 24 {
+            times *= 2;
+        }
+        // A driver's call is made once more, and what the record takes with one call is taken off:
+        // the best of each, since what disturbs the one does not disturb the other.
+        let (mut all, mut one) = ([Duration::MAX; 3], [Duration::MAX; 3]);
+        for _ in 0..rounds {
+            let once = [
+                self.proved.time(case, 1)?,
+                Duration::ZERO,
+                self.c.time(case, 1)?,
+            ];
+            let more = [
+                self.proved.time(case, times + 1)?,
+                time_reference(case, times),
+                self.c.time(case, times + 1)?,
+            ];
+            one = least(one, once);
+            all = least(all, more);
+        }
+        let each = |place: usize| all[place].saturating_sub(one[place]).as_secs_f64() * 1e9;
+        Ok([0, 1, 2].map(|place| each(place) / f64::from(times)))
+    }
+
+    pub fn end(self) -> io::Result<()> {
+        self.proved.end()?;
+        self.c.end()
+    }
+}
+
+fn least(left: [Duration; 3], right: [Duration; 3]) -> [Duration; 3] {
+    [0, 1, 2].map(|place| left[place].min(right[place]))
+}
+
+/// A number with its thousands apart.
+fn grouped(number: f64) -> String {
+    let digits = format!("{number:.0}");
+    let mut text = String::new();
+    for (index, digit) in digits.chars().enumerate() {
+        if index > 0 && (digits.len() - index) % 3 == 0 {
+            text.push(',');
+        }
+        text.push(digit);
+    }
+    text
+}
+
+/// One line of a table: what each takes, and the proved call's ratio to the others'.
+fn line(name: &str, [proved, reference, c]: [f64; 3]) -> String {
+    format!(
+        "{name:<44} {:>10} {:>10} {:>10} {:>8.2} {:>8.2}",
+        grouped(proved),
+        grouped(reference),
+        grouped(c),
+        proved / reference,
+        proved / c
+    )
+}
+
+fn head(what: &str) -> String {
+    let [proved, reference, c] = NAMES;
+    format!(
+        "{what:<44} {proved:>10} {reference:>10} {c:>10} {:>8} {:>8}",
+        "to ref.", "to C"
+    )
+}
+
+/// The table of times.
+pub fn times(proved: &str, c: &str) -> io::Result<String> {
+    let mut bench = Bench::start(proved, c)?;
+    let mut report = head(&format!("nanoseconds a call, best of {ROUNDS}"));
+    report.push('\n');
+    for case in cases::all() {
+        let _ = writeln!(
+            report,
+            "{}",
+            line(&case.name, bench.measure(&case, ROUNDS)?)
+        );
+    }
+    bench.end()?;
+    Ok(report)
+}

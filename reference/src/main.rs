@@ -48,12 +48,12 @@ fn speed_command(words: &[&str]) -> ExitCode {
             instructions::repeat(index, times as u32);
             ExitCode::SUCCESS
         }),
-        ["growth", driver, c, file] => print_times(growth::report(driver, c).and_then(
-            |(report, plot)| {
+        ["growth", driver, c, file] => {
+            print_times(growth::report(driver, c).and_then(|(report, plot)| {
                 fs::write(file, plot)?;
                 Ok(report)
-            },
-        )),
+            }))
+        }
         ["checksum-speed", program] => print_times(checksums::report(program)),
         _ => recording_command(words),
     }

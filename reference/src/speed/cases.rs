@@ -282,7 +282,9 @@ pub fn all() -> Vec<Case> {
         Case::full("tick in Up", tick),
         Case::full("Hello in Up", hello),
         Case::full("I-H-U in Up", i_heard_you),
-        Case::full("Update of 128 rows", |at| update(at, class_c(at, MOST_ROWS))),
+        Case::full("Update of 128 rows", |at| {
+            update(at, class_c(at, MOST_ROWS))
+        }),
         Case::full("Poll answered with 128 rows", |at| {
             poll(at, class_c(OWN, MOST_ROWS))
         }),

@@ -21,6 +21,8 @@ const MORE: u32 = 16;
 const NO_KIND: u8 = 255;
 /// The case's index that stands for the loop alone.
 const LOOP: usize = 999;
+/// The reference's place among the programs.
+const REFERENCE: usize = 1;
 
 pub fn is_possible() -> bool {
     let version = Command::new("valgrind")
@@ -83,18 +85,30 @@ fn without_call(case: &Case) -> Case {
     }
 }
 
+/// All instructions of one of the programs that makes a case's call so many times.
+fn run(
+    programs: [&str; 3],
+    place: usize,
+    index: usize,
+    case: &Case,
+    times: u32,
+) -> io::Result<u64> {
+    if place == REFERENCE {
+        // Arguments of the same length in both runs.
+        let (index, times) = (format!("{index:03}"), format!("{times:03}"));
+        collected(programs[place], &["repeat-case", &index, &times], &[])
+    } else {
+        collected(programs[place], &[], &records(case, times, index == LOOP))
+    }
+}
+
 /// Instructions a call of each program, in the order of their names, with the loop.
 fn counts(programs: [&str; 3], index: usize, case: &Case) -> io::Result<[f64; 3]> {
     let mut counts = [0.0; 3];
-    for (place, program) in counts.iter_mut().zip(programs) {
-        let run = |times: u32| match program == programs[1] {
-            true => {
-                let arguments = ["repeat-case", &format!("{index:03}"), &format!("{times:03}")];
-                collected(program, &arguments, &[])
-            }
-            false => collected(program, &[], &records(case, times, index == LOOP)),
-        };
-        *place = (run(1 + MORE)? as f64 - run(1)? as f64) / f64::from(MORE);
+    for (place, count) in counts.iter_mut().enumerate() {
+        let more = run(programs, place, index, case, 1 + MORE)?;
+        let one = run(programs, place, index, case, 1)?;
+        *count = more.saturating_sub(one) as f64 / f64::from(MORE);
     }
     Ok(counts)
 }

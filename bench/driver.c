@@ -110,8 +110,10 @@ static struct outcome read_alone(const struct head *head)
     struct meaning m;
     struct row rows[ROWS];
     struct outcome o = message_read(head->net, octets, head->octets, &m, rows);
-    if (o.answer != DONE || head->room < READING)
+    if (o.answer != DONE)
         return o;
+    if (head->room < READING)
+        return (struct outcome){NO_CALL, 0, 0};
     uint8_t *at = buffer + MEANING;
     write_meaning(buffer, &m);
     memset(at, 0, READING - MEANING);
@@ -126,39 +128,27 @@ static struct outcome read_alone(const struct head *head)
 static struct outcome write_alone(const struct head *head)
 {
     struct meaning m = read_meaning(octets);
+    if (m.kind > ERROR)
+        return (struct outcome){NO_CALL, 0, 0};
     return message_write(&m, numbers, head->numbers, buffer, head->room);
 }
 
 static struct outcome call(struct gateway *g, const struct lent *lent, const struct head *head)
 {
     switch (head->kind) {
-    case FRESH:
-        return gateway_fresh(g, head->as, head->address, head->octet, head->net);
-    case ADD:
-        return gateway_add(g, head->address, head->as);
-    case REMOVE:
-        return gateway_remove(g, head->address);
-    case START:
-        return gateway_start(g, lent, head->address);
-    case STOP:
-        return gateway_stop(g, lent, head->address);
-    case TICK:
-        return gateway_tick(g, lent, head->address);
-    case MESSAGE:
-        return gateway_message(g, lent, head->address, octets, head->octets, numbers, head->numbers);
-    case LISTING:
-        return gateway_listing(g, lent);
-    case READ:
-        return read_alone(head);
-    case WRITE:
-        return write_alone(head);
-    case HAND_STATE:
-        *g = read_block(octets);
-        return (struct outcome){DONE, 0, 0};
-    case HAND_TABLE:
-        return (struct outcome){DONE, 0, 0};
-    default:
-        return (struct outcome){NO_CALL, 0, 0};
+    case FRESH: return gateway_fresh(g, head->as, head->address, head->octet, head->net);
+    case ADD: return gateway_add(g, head->address, head->as);
+    case REMOVE: return gateway_remove(g, head->address);
+    case START: return gateway_start(g, lent, head->address);
+    case STOP: return gateway_stop(g, lent, head->address);
+    case TICK: return gateway_tick(g, lent, head->address);
+    case MESSAGE: return gateway_message(g, lent, head->address, octets, head->octets, numbers, head->numbers);
+    case LISTING: return gateway_listing(g, lent);
+    case READ: return read_alone(head);
+    case WRITE: return write_alone(head);
+    case HAND_STATE: *g = read_block(octets); return (struct outcome){DONE, 0, 0};
+    case HAND_TABLE: return (struct outcome){DONE, 0, 0};
+    default: return (struct outcome){NO_CALL, 0, 0};
     }
 }
 

@@ -1,10 +1,12 @@
 /*
- * The gateway's calls in plain C, on a struct in memory: what the proved calls are timed beside (README.md).
+ * The gateway's calls in plain C, on a struct in memory: what the proved calls are timed beside
+ * (docs/COMPARISON.md).
  * The rules, their order and the answer numbers are those of the proved calls; names are RFC 904's.
  */
 #ifndef GATEWAY_H
 #define GATEWAY_H
 
+#include <stdbool.h>
 #include <stddef.h>
 #include <stdint.h>
 
@@ -84,6 +86,9 @@ struct meaning {
     uint32_t net;
     uint8_t quote[12];
 };
+
+/* Check 1. */
+bool gateway_is_well_formed(const struct gateway *g);
 
 /* A refusal leaves state and table as they are. */
 struct outcome gateway_fresh(struct gateway *g, uint16_t as, uint32_t address, uint8_t capability, uint32_t net);

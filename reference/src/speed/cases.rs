@@ -9,6 +9,7 @@ use crate::listing::LISTING_BUFFER;
 use crate::message::{self, Body, Message, LONGEST, REPLY_BUFFER};
 use crate::neighbour::{Mode, Neighbour, NeighbourState, STATUS_UP};
 use crate::net::address;
+use crate::record;
 use crate::update::{Row, MOST_ROWS};
 
 const OWN_AS: u16 = 9;
@@ -26,7 +27,33 @@ pub struct Case {
     pub answer: u8,
 }
 
+/// A kind that no record has: a driver calls nothing and answers with it.
+const NO_KIND: u8 = 255;
+
 impl Case {
+    /// No call: what a program's loop takes around it.
+    pub fn the_loop() -> Case {
+        Case {
+            name: "(the loop alone)".to_string(),
+            call: Call::HandTable(Vec::new()),
+            answer: NO_KIND,
+            ..Case::full("", tick)
+        }
+    }
+
+    /// The record of its call, made so many times.
+    pub fn record(&self, times: u32) -> Vec<u8> {
+        let mut record = record::encode(&self.call, times);
+        if self.is_the_loop() {
+            record[0] = NO_KIND;
+        }
+        record
+    }
+
+    pub fn is_the_loop(&self) -> bool {
+        self.answer == NO_KIND
+    }
+
     /// `used` neighbours in Up with `rows` rows each; the call is about the last of them.
     fn new(name: &str, used: usize, rows: usize, call: impl Fn(u32) -> Call) -> Case {
         Case::of(name, used, rows, |_| {}, call)
@@ -276,7 +303,7 @@ const REFUSALS: [(u8, &str); 10] = [
     (15, "2,013 rows"),
 ];
 
-/// The calls of a day in Up, then the worst cases.
+/// The calls of a day in Up, then the worst cases, then the loop.
 pub fn all() -> Vec<Case> {
     let mut cases = vec![
         Case::full("tick in Up", tick),
@@ -323,6 +350,7 @@ pub fn all() -> Vec<Case> {
             received(at, refused(number), Vec::new())
         }));
     }
+    cases.push(Case::the_loop());
     cases
 }
 
@@ -355,7 +383,7 @@ mod tests {
 
     #[test]
     fn cases_are_what_they_are_called() {
-        for case in all() {
+        for case in all().iter().filter(|case| !case.is_the_loop()) {
             let wanted = REFUSALS
                 .iter()
                 .find(|(number, _)| case.name.contains(&format!("refused {number}:")))
@@ -374,7 +402,7 @@ mod tests {
 
     #[test]
     fn a_case_leaves_the_table_as_it_was() {
-        for case in all() {
+        for case in all().iter().filter(|case| !case.is_the_loop()) {
             let mut bench = case.bench.clone();
             bench.run(&case.call);
             assert_eq!(bench.table, case.bench.table, "{}", case.name);

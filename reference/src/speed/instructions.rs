@@ -17,10 +17,6 @@ use crate::record;
 
 /// How many more times the call is made in the second run.
 const MORE: u32 = 16;
-/// A kind that no record has: nothing is called.
-const NO_KIND: u8 = 255;
-/// The case's index that stands for the loop alone.
-const LOOP: usize = 999;
 /// The reference's place among the programs.
 const REFERENCE: usize = 1;
 
@@ -32,18 +28,12 @@ pub fn is_possible() -> bool {
     version.is_ok_and(|status| status.success())
 }
 
-/// The records that lead to a call and make it so many times; for the loop alone, no call.
-fn records(case: &Case, times: u32, is_loop: bool) -> Vec<u8> {
+/// The records that lead to a call and make it so many times.
+fn records(case: &Case, times: u32) -> Vec<u8> {
     let mut records = record::encode(&Call::HandTable(case.bench.table.clone()), 1);
-    records.extend(record::encode(
-        &Call::HandState(Box::new(case.bench.state)),
-        1,
-    ));
-    let mut call = record::encode(&case.call, times);
-    if is_loop {
-        call[0] = NO_KIND;
-    }
-    records.extend(call);
+    let state = Call::HandState(Box::new(case.bench.state));
+    records.extend(record::encode(&state, 1));
+    records.extend(case.record(times));
     records
 }
 
@@ -71,17 +61,8 @@ fn collected(program: &str, arguments: &[&str], input: &[u8]) -> io::Result<u64>
 
 /// The reference's own call of a case, so many times: what [`collected`] runs of this program.
 pub fn repeat(index: usize, times: u32) {
-    let cases = cases::all();
-    match cases.get(index) {
-        Some(case) => time_reference(case, times),
-        None => time_reference(&without_call(&cases[0]), times),
-    };
-}
-
-fn without_call(case: &Case) -> Case {
-    Case {
-        call: Call::HandTable(Vec::new()),
-        ..case.clone()
+    if let Some(case) = cases::all().get(index) {
+        time_reference(case, times);
     }
 }
 
@@ -98,7 +79,7 @@ fn run(
         let (index, times) = (format!("{index:03}"), format!("{times:03}"));
         collected(programs[place], &["repeat-case", &index, &times], &[])
     } else {
-        collected(programs[place], &[], &records(case, times, index == LOOP))
+        collected(programs[place], &[], &records(case, times))
     }
 }
 
@@ -113,46 +94,41 @@ fn counts(programs: [&str; 3], index: usize, case: &Case) -> io::Result<[f64; 3]
     Ok(counts)
 }
 
-/// The counts of some cases, found two at a time.
-fn all_counts(programs: [&str; 3], cases: &[(usize, Case)]) -> io::Result<Vec<[f64; 3]>> {
-    let found: Mutex<Vec<Option<io::Result<[f64; 3]>>>> =
-        Mutex::new(cases.iter().map(|_| None).collect());
+/// The counts of all cases, found two at a time.
+fn all_counts(programs: [&str; 3], cases: &[Case]) -> io::Result<Vec<[f64; 3]>> {
     let next = Mutex::new(0..cases.len());
+    let found = Mutex::new(Vec::new());
     let work = || loop {
-        let Some(place) = next.lock().ok().and_then(|mut next| next.next()) else {
+        let Some(index) = next.lock().ok().and_then(|mut next| next.next()) else {
             return;
         };
-        let (index, case) = &cases[place];
-        let count = counts(programs, *index, case);
+        let count = counts(programs, index, &cases[index]);
         if let Ok(mut found) = found.lock() {
-            found[place] = Some(count);
+            found.push((index, count));
         }
     };
     thread::scope(|scope| {
         scope.spawn(work);
         work();
     });
-    let found = found.into_inner().unwrap_or_default();
-    found
-        .into_iter()
-        .map(|count| count.unwrap_or_else(|| Err(io::Error::other("a count was not made"))))
-        .collect()
+    let mut found = found.into_inner().unwrap_or_default();
+    found.sort_by_key(|(index, _)| *index);
+    found.into_iter().map(|(_, count)| count).collect()
 }
 
 /// The table of instructions.
 pub fn report(proved: &str, c: &str) -> io::Result<String> {
     let reference = std::env::current_exe()?;
     let programs = [proved, &reference.to_string_lossy(), c];
-    let mut cases: Vec<(usize, Case)> = cases::all().into_iter().enumerate().collect();
-    cases.push((LOOP, cases[0].1.clone()));
-    let mut counts = all_counts(programs, &cases)?;
-    let empty = counts.pop().unwrap_or_default();
+    let cases = cases::all();
+    let counts = all_counts(programs, &cases)?;
+    let around = counts.last().copied().unwrap_or_default();
     let mut report = head("instructions a call, the loop not counted");
     report.push('\n');
-    for ((_, case), count) in cases.iter().zip(counts) {
-        let less = [0, 1, 2].map(|place| count[place] - empty[place]);
-        let _ = writeln!(report, "{}", line(&case.name, less));
+    for (case, count) in cases.iter().zip(counts) {
+        let without = [0, 1, 2].map(|place| count[place] - around[place]);
+        let shown = if case.is_the_loop() { around } else { without };
+        let _ = writeln!(report, "{}", line(&case.name, shown));
     }
-    let _ = writeln!(report, "{}", line("(the loop alone)", empty));
     Ok(report)
 }

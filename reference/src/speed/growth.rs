@@ -56,7 +56,11 @@ pub fn report(proved: &str, c: &str) -> io::Result<(String, String)> {
     report.push('\n');
     for curve in &all {
         for (size, times) in &curve.points {
-            let name = format!("{}, {size} {}", curve.call, curve.along);
+            let along = match size {
+                1 => curve.along.trim_end_matches('s'),
+                _ => curve.along,
+            };
+            let name = format!("{}, {size} {along}", curve.call);
             let _ = writeln!(report, "{}", line(&name, *times));
         }
     }
@@ -167,4 +171,30 @@ fn plot(curves: &[Curve]) -> String {
     }
     plot.push_str("</svg>\n");
     plot
+}
+
+#[cfg(test)]
+mod tests {
+    use super::*;
+
+    #[test]
+    fn scales_are_round_and_reach_the_most() {
+        assert_eq!(scale(0.7), (1.0, 0.2));
+        assert_eq!(scale(100.0), (100.0, 20.0));
+        assert_eq!(scale(101.0), (200.0, 50.0));
+        assert_eq!(scale(847.0), (1000.0, 200.0));
+        assert_eq!(scale(225_000.0), (400_000.0, 100_000.0));
+    }
+
+    #[test]
+    fn a_plot_has_a_line_for_each_program_and_call() {
+        let curve = |call: &str| Curve {
+            call: call.to_string(),
+            along: "rows",
+            points: vec![(1, [3.0, 2.0, 1.0]), (2, [6.0, 4.0, 2.0])],
+        };
+        let plot = plot(&[curve("Update"), curve("Poll")]);
+        assert_eq!(plot.matches("<polyline").count(), 6);
+        assert!(plot.starts_with("<svg") && plot.ends_with("</svg>\n"));
+    }
 }

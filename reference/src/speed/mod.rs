@@ -228,3 +228,14 @@ pub fn times(proved: &str, c: &str) -> io::Result<String> {
     bench.end()?;
     Ok(report)
 }
+
+#[cfg(test)]
+mod tests {
+    use super::*;
+
+    #[test]
+    fn thousands_stand_apart() {
+        let texts = [0.4, 999.0, 1000.0, 458_785.2, 3_818_163.0].map(grouped);
+        assert_eq!(texts, ["0", "999", "1,000", "458,785", "3,818,163"]);
+    }
+}

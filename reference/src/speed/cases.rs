@@ -247,8 +247,8 @@ fn longest_update() -> Vec<u8> {
 }
 
 /// An Update of 2,048 octets with as many rows as fit, 2,013 of class A nets; it is good but for
-/// their number. With `last` in place of the last net's octet.
-fn most_rows(last: u8) -> Vec<u8> {
+/// their number.
+fn most_rows() -> Vec<u8> {
     let mut blocks = vec![0, 5, 8];
     for distance in 0..8 {
         let left = LONGEST - 16 - blocks.len() - 2;
@@ -256,15 +256,12 @@ fn most_rows(last: u8) -> Vec<u8> {
         blocks.extend([distance, nets]);
         blocks.extend((0..nets).map(|net| net % 128));
     }
-    if let Some(octet) = blocks.last_mut() {
-        *octet = last;
-    }
     raw_update(1, 0, &blocks)
 }
 
 /// The Update of most rows with one octet changed, the checksum right again.
 fn changed(place: usize, octet: u8) -> Vec<u8> {
-    let mut octets = most_rows(0);
+    let mut octets = most_rows();
     octets[place] = octet;
     checksum::seal(&mut octets);
     octets
@@ -273,7 +270,7 @@ fn changed(place: usize, octet: u8) -> Vec<u8> {
 /// A message of 2,048 octets, one more for 6, that is refused with this number: each check before
 /// it passes.
 fn refused(number: u8) -> Vec<u8> {
-    let mut octets = most_rows(0);
+    let mut octets = most_rows();
     match number {
         6 => octets.push(0),
         7 => octets = changed(0, 3),
@@ -283,7 +280,8 @@ fn refused(number: u8) -> Vec<u8> {
         11 => octets = changed(3, 3),
         12 => octets = changed(1, 5),
         13 => octets = changed(9, 2),
-        14 => octets = most_rows(255),
+        // Three octets are left there, so that only the class can be wrong.
+        14 => octets = changed(LONGEST - 3, 224),
         _ => {}
     }
     octets
@@ -299,7 +297,7 @@ const REFUSALS: [(u8, &str); 10] = [
     (11, "status"),
     (12, "length"),
     (13, "sequence"),
-    (14, "last of 2,013 nets"),
+    (14, "the 2,011th net"),
     (15, "2,013 rows"),
 ];
 
@@ -395,8 +393,8 @@ mod tests {
     #[test]
     fn long_messages_are_as_long_as_they_can_be() {
         assert_eq!(longest_update().len(), LONGEST);
-        assert_eq!(most_rows(0).len(), LONGEST);
-        let rows = most_rows(0).len() - 16 - 3 - 8 * 2;
+        assert_eq!(most_rows().len(), LONGEST);
+        let rows = most_rows().len() - 16 - 3 - 8 * 2;
         assert_eq!(rows, 2013);
     }
 

@@ -267,6 +267,17 @@ fn changed(place: usize, octet: u8) -> Vec<u8> {
     octets
 }
 
+/// The Update of most rows whose last three octets would be one net if they had a class: nothing
+/// else is wrong before the number of rows.
+fn without_class() -> Vec<u8> {
+    let mut octets = most_rows();
+    // The last distance has 228 nets, behind the octet that says so.
+    octets[LONGEST - 228 - 1] -= 2;
+    octets[LONGEST - 3] = 224;
+    checksum::seal(&mut octets);
+    octets
+}
+
 /// A message of 2,048 octets, one more for 6, that is refused with this number: each check before
 /// it passes.
 fn refused(number: u8) -> Vec<u8> {
@@ -280,8 +291,7 @@ fn refused(number: u8) -> Vec<u8> {
         11 => octets = changed(3, 3),
         12 => octets = changed(1, 5),
         13 => octets = changed(9, 2),
-        // Three octets are left there, so that only the class can be wrong.
-        14 => octets = changed(LONGEST - 3, 224),
+        14 => octets = without_class(),
         _ => {}
     }
     octets
@@ -378,6 +388,7 @@ pub fn by_neighbours(used: usize) -> [Case; 3] {
 #[cfg(test)]
 mod tests {
     use super::*;
+    use crate::answer::Answer;
 
     #[test]
     fn cases_are_what_they_are_called() {
@@ -396,6 +407,11 @@ mod tests {
         assert_eq!(most_rows().len(), LONGEST);
         let rows = most_rows().len() - 16 - 3 - 8 * 2;
         assert_eq!(rows, 2013);
+        let mut with_class = without_class();
+        with_class[LONGEST - 3] = 223;
+        checksum::seal(&mut with_class);
+        let read = message::read(&with_class, NET);
+        assert_eq!(read.err(), Some(Answer::TooManyRows));
     }
 
     #[test]

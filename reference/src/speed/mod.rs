@@ -141,14 +141,26 @@ impl Bench {
         })
     }
 
+    /// How many calls make a round, for the slowest of them.
+    fn times(&mut self, case: &Case) -> io::Result<u32> {
+        let mut times = 8;
+        loop {
+            let proved = self.proved.time(case, times)?;
+            let slowest = proved
+                .max(time_reference(case, times))
+                .max(self.c.time(case, times)?);
+            if slowest >= ROUND || times >= 1 << 24 {
+                return Ok(times);
+            }
+            times *= 2;
+        }
+    }
+
     /// Nanoseconds a call of each, the best of several rounds in turn.
     pub fn measure(&mut self, case: &Case, rounds: usize) -> io::Result<[f64; 3]> {
         self.proved.prepare(case)?;
         self.c.prepare(case)?;
-        let mut times = 16;
-        while time_reference(case, times) < ROUND && times < 1 << 24 {
-            times *= 2;
-        }
+        let times = self.times(case)?;
         // A driver's call is made once more, and what the record takes with one call is taken off:
         // the best of each, since what disturbs the one does not disturb the other.
         let (mut all, mut one) = ([Duration::MAX; 3], [Duration::MAX; 3]);

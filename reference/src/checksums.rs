@@ -167,7 +167,8 @@ fn measure(program: &mut Program, length: usize) -> io::Result<[f64; 3]> {
     let octets = ROOM / length * length;
     let messages: Vec<u8> = (0..octets).map(|_| random.octet()).collect();
     let mut times = 1;
-    while timed(by_32, &messages, length, times).1 < ROUND {
+    // One try of five below is enough: the others may have been disturbed.
+    while (0..5).any(|_| timed(by_32, &messages, length, times).1 < ROUND) {
         times *= 2;
     }
     let (mut best, mut way) = ([Duration::MAX; 3], Duration::MAX);

@@ -141,19 +141,26 @@ impl Bench {
         })
     }
 
-    /// How many calls make a round, for the slowest of them.
+    /// How many calls make a round, for the slowest of them; the best of five tries, lest a
+    /// disturbed one make the rounds too short.
     fn times(&mut self, case: &Case) -> io::Result<u32> {
         let mut times = 8;
-        loop {
-            let proved = self.proved.time(case, times)?;
-            let slowest = proved
-                .max(time_reference(case, times))
-                .max(self.c.time(case, times)?);
-            if slowest >= ROUND || times >= 1 << 24 {
-                return Ok(times);
+        while times < 1 << 24 {
+            let mut best = [Duration::MAX; 3];
+            for _ in 0..5 {
+                let tried = [
+                    self.proved.time(case, times)?,
+                    time_reference(case, times),
+                    self.c.time(case, times)?,
+                ];
+                best = least(best, tried);
+            }
+            if best.iter().any(|time| *time >= ROUND) {
+                break;
             }
             times *= 2;
         }
+        Ok(times)
     }
 
     /// Nanoseconds a call of each, the best of several rounds in turn.

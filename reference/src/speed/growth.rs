@@ -4,11 +4,8 @@ use std::fmt::Write as _;
 use std::io;
 
 use super::cases::{self, Case};
-use super::{grouped, head, line, Bench, NAMES};
+use super::{grouped, head, line, Bench, NAMES, ROUNDS};
 use crate::gateway::SLOTS;
-
-/// There are many points: fewer rounds for each.
-const ROUNDS: usize = 40;
 
 /// One call over some sizes.
 struct Curve {
@@ -18,26 +15,25 @@ struct Curve {
     points: Vec<(usize, [f64; 3])>,
 }
 
+/// The curves of three calls.
 fn curves(
     bench: &mut Bench,
     along: &'static str,
     sizes: &[usize],
     cases: impl Fn(usize) -> [Case; 3],
 ) -> io::Result<Vec<Curve>> {
-    let mut curves: Vec<Curve> = cases(1)
-        .into_iter()
-        .map(|case| Curve {
-            call: case.name,
-            along,
-            points: Vec::new(),
-        })
-        .collect();
-    for &size in sizes {
-        for (curve, case) in curves.iter_mut().zip(cases(size)) {
-            curve.points.push((size, bench.measure(&case, ROUNDS)?));
-        }
-    }
-    Ok(curves)
+    let all: Vec<Case> = sizes.iter().flat_map(|size| cases(*size)).collect();
+    let times = bench.measure_all(&all)?;
+    let curve = |(index, case): (usize, Case)| Curve {
+        call: case.name,
+        along,
+        points: sizes
+            .iter()
+            .copied()
+            .zip(times.iter().skip(index).step_by(3).copied())
+            .collect(),
+    };
+    Ok(cases(1).into_iter().enumerate().map(curve).collect())
 }
 
 /// The table of times, and the plot.

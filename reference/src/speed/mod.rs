@@ -26,8 +26,10 @@ use cases::Case;
 /// The programs under time, in this order everywhere.
 pub const NAMES: [&str; 3] = ["proved", "reference", "C"];
 
-/// How many rounds are run; the best counts.
-const ROUNDS: usize = 80;
+/// How many rounds are run; the best counts. They are run in passes over all cases, so that what
+/// disturbs the machine for a second does not disturb all rounds of one.
+const ROUNDS: usize = PASSES * 20;
+const PASSES: usize = 4;
 /// How long a round should last: short, so that some are not disturbed by what else is running.
 const ROUND: Duration = Duration::from_millis(2);
 
@@ -163,8 +165,20 @@ impl Bench {
         Ok(times)
     }
 
-    /// Nanoseconds a call of each, the best of several rounds in turn.
-    pub fn measure(&mut self, case: &Case, rounds: usize) -> io::Result<[f64; 3]> {
+    /// Nanoseconds a call of each program in each case, the best of [`ROUNDS`].
+    pub fn measure_all(&mut self, cases: &[Case]) -> io::Result<Vec<[f64; 3]>> {
+        let mut best = vec![[f64::MAX; 3]; cases.len()];
+        for _ in 0..PASSES {
+            for (best, case) in best.iter_mut().zip(cases) {
+                let times = self.measure(case, ROUNDS / PASSES)?;
+                *best = [0, 1, 2].map(|place| best[place].min(times[place]));
+            }
+        }
+        Ok(best)
+    }
+
+    /// The best of several rounds in turn.
+    fn measure(&mut self, case: &Case, rounds: usize) -> io::Result<[f64; 3]> {
         self.proved.prepare(case)?;
         self.c.prepare(case)?;
         let times = self.times(case)?;
@@ -237,12 +251,9 @@ pub fn times(proved: &str, c: &str) -> io::Result<String> {
     let mut bench = Bench::start(proved, c)?;
     let mut report = head(&format!("nanoseconds a call, best of {ROUNDS}"));
     report.push('\n');
-    for case in cases::all() {
-        let _ = writeln!(
-            report,
-            "{}",
-            line(&case.name, bench.measure(&case, ROUNDS)?)
-        );
+    let cases = cases::all();
+    for (case, times) in cases.iter().zip(bench.measure_all(&cases)?) {
+        let _ = writeln!(report, "{}", line(&case.name, times));
     }
     bench.end()?;
     Ok(report)

@@ -4,7 +4,7 @@ use std::fmt::Write as _;
 use std::io;
 
 use super::cases::{self, Case};
-use super::{grouped, head, line, Bench, NAMES, ROUNDS};
+use super::{grouped, head, line, measure_all, NAMES, ROUNDS};
 use crate::gateway::SLOTS;
 
 /// One call over some sizes.
@@ -15,17 +15,10 @@ struct Curve {
     points: Vec<(usize, [f64; 3])>,
 }
 
-/// The curves of three calls.
-fn curves(
-    bench: &mut Bench,
-    along: &'static str,
-    sizes: &[usize],
-    cases: impl Fn(usize) -> [Case; 3],
-) -> io::Result<Vec<Curve>> {
-    let all: Vec<Case> = sizes.iter().flat_map(|size| cases(*size)).collect();
-    let times = bench.measure_all(&all)?;
-    let curve = |(index, case): (usize, Case)| Curve {
-        call: case.name,
+/// The curves of three calls, whose cases follow each other size by size.
+fn curves(along: &'static str, sizes: &[usize], cases: &[Case], times: &[[f64; 3]]) -> Vec<Curve> {
+    let curve = |index: usize| Curve {
+        call: cases[index].name.clone(),
         along,
         points: sizes
             .iter()
@@ -33,21 +26,26 @@ fn curves(
             .zip(times.iter().skip(index).step_by(3).copied())
             .collect(),
     };
-    Ok(cases(1).into_iter().enumerate().map(curve).collect())
+    (0..3).map(curve).collect()
 }
 
 /// The table of times, and the plot.
 pub fn report(proved: &str, c: &str) -> io::Result<(String, String)> {
-    let mut bench = Bench::start(proved, c)?;
-    let mut all = curves(&mut bench, "rows", &cases::ROW_STEPS, cases::by_rows)?;
     let used: Vec<usize> = (1..=SLOTS).collect();
+    let mut cases: Vec<Case> = cases::ROW_STEPS
+        .into_iter()
+        .flat_map(cases::by_rows)
+        .collect();
+    let first = cases.len();
+    cases.extend(used.iter().copied().flat_map(cases::by_neighbours));
+    let times = measure_all(proved, c, &cases)?;
+    let mut all = curves("rows", &cases::ROW_STEPS, &cases, &times);
     all.extend(curves(
-        &mut bench,
         "neighbours",
         &used,
-        cases::by_neighbours,
-    )?);
-    bench.end()?;
+        &cases[first..],
+        &times[first..],
+    ));
     let mut report = head(&format!("nanoseconds a call, best of {ROUNDS}"));
     report.push('\n');
     for curve in &all {

@@ -27,9 +27,10 @@ use cases::Case;
 pub const NAMES: [&str; 3] = ["proved", "reference", "C"];
 
 /// How many rounds are run; the best counts. They are run in passes over all cases, so that what
-/// disturbs the machine for a second does not disturb all rounds of one.
-const ROUNDS: usize = PASSES * 20;
-const PASSES: usize = 4;
+/// disturbs the machine for a second does not disturb all rounds of one, and the drivers are
+/// started anew for each: where memory happens to lie is worth a tenth of a short call.
+const ROUNDS: usize = PASSES * 10;
+const PASSES: usize = 8;
 /// How long a round should last: short, so that some are not disturbed by what else is running.
 const ROUND: Duration = Duration::from_millis(2);
 
@@ -129,18 +130,23 @@ impl Timed {
     }
 }
 
-/// The programs, in the order of [`NAMES`].
-pub struct Bench {
+/// The drivers of a pass.
+struct Bench {
     proved: Timed,
     c: Timed,
 }
 
 impl Bench {
-    pub fn start(proved: &str, c: &str) -> io::Result<Bench> {
+    fn start(proved: &str, c: &str) -> io::Result<Bench> {
         Ok(Bench {
             proved: Timed::start(proved)?,
             c: Timed::start(c)?,
         })
+    }
+
+    fn prepare(&mut self, case: &Case) -> io::Result<()> {
+        self.proved.prepare(case)?;
+        self.c.prepare(case)
     }
 
     /// How many calls make a round, for the slowest of them; the best of five tries, lest a
@@ -165,27 +171,12 @@ impl Bench {
         Ok(times)
     }
 
-    /// Nanoseconds a call of each program in each case, the best of [`ROUNDS`].
-    pub fn measure_all(&mut self, cases: &[Case]) -> io::Result<Vec<[f64; 3]>> {
-        let mut best = vec![[f64::MAX; 3]; cases.len()];
-        for _ in 0..PASSES {
-            for (best, case) in best.iter_mut().zip(cases) {
-                let times = self.measure(case, ROUNDS / PASSES)?;
-                *best = [0, 1, 2].map(|place| best[place].min(times[place]));
-            }
-        }
-        Ok(best)
-    }
-
-    /// The best of several rounds in turn.
-    fn measure(&mut self, case: &Case, rounds: usize) -> io::Result<[f64; 3]> {
-        self.proved.prepare(case)?;
-        self.c.prepare(case)?;
-        let times = self.times(case)?;
+    /// Nanoseconds a call of each: the best of a pass's rounds, by turns, of so many calls.
+    fn measure(&mut self, case: &Case, times: u32) -> io::Result<[f64; 3]> {
         // A driver's call is made once more, and what the record takes with one call is taken off:
         // the best of each, since what disturbs the one does not disturb the other.
         let (mut all, mut one) = ([Duration::MAX; 3], [Duration::MAX; 3]);
-        for _ in 0..rounds {
+        for _ in 0..ROUNDS / PASSES {
             let once = [
                 self.proved.time(case, 1)?,
                 Duration::ZERO,
@@ -203,10 +194,31 @@ impl Bench {
         Ok([0, 1, 2].map(|place| each(place) / f64::from(times)))
     }
 
-    pub fn end(self) -> io::Result<()> {
+    fn end(self) -> io::Result<()> {
         self.proved.end()?;
         self.c.end()
     }
+}
+
+/// Nanoseconds a call of each program in each case, in the order of [`NAMES`], the best of
+/// [`ROUNDS`].
+fn measure_all(proved: &str, c: &str, cases: &[Case]) -> io::Result<Vec<[f64; 3]>> {
+    let mut best = vec![[f64::MAX; 3]; cases.len()];
+    let mut times = vec![None; cases.len()];
+    for _ in 0..PASSES {
+        let mut bench = Bench::start(proved, c)?;
+        for ((best, times), case) in best.iter_mut().zip(&mut times).zip(cases) {
+            bench.prepare(case)?;
+            let times = match times {
+                Some(times) => *times,
+                None => *times.insert(bench.times(case)?),
+            };
+            let found = bench.measure(case, times)?;
+            *best = [0, 1, 2].map(|place| best[place].min(found[place]));
+        }
+        bench.end()?;
+    }
+    Ok(best)
 }
 
 fn least(left: [Duration; 3], right: [Duration; 3]) -> [Duration; 3] {
@@ -248,14 +260,12 @@ fn head(what: &str) -> String {
 
 /// The table of times.
 pub fn times(proved: &str, c: &str) -> io::Result<String> {
-    let mut bench = Bench::start(proved, c)?;
     let mut report = head(&format!("nanoseconds a call, best of {ROUNDS}"));
     report.push('\n');
     let cases = cases::all();
-    for (case, times) in cases.iter().zip(bench.measure_all(&cases)?) {
+    for (case, times) in cases.iter().zip(measure_all(proved, c, &cases)?) {
         let _ = writeln!(report, "{}", line(&case.name, times));
     }
-    bench.end()?;
     Ok(report)
 }
 

@@ -28,7 +28,7 @@ pub const NAMES: [&str; 3] = ["proved", "reference", "C"];
 
 /// How many rounds are run; the best counts. They are run in passes over all cases, so that what
 /// disturbs the machine for a second does not disturb all rounds of one, and the drivers are
-/// started anew for each: where memory happens to lie is worth a tenth of a short call.
+/// started anew for each, so that the figures do not hang on one start of them.
 const ROUNDS: usize = PASSES * 10;
 const PASSES: usize = 8;
 /// How long a round should last: short, so that some are not disturbed by what else is running.

@@ -7,7 +7,8 @@ use std::process::ExitCode;
 
 use reference::coverage::{Survey, PLACES_WANTED};
 use reference::generate::{day, recordings};
-use reference::{checksums, compare, compare_recordings, coverage, playback, sample, site, speed};
+use reference::speed::{self, growth, instructions};
+use reference::{checksums, compare, compare_recordings, coverage, playback, sample, site};
 
 fn main() -> ExitCode {
     let arguments: Vec<String> = std::env::args().skip(1).collect();
@@ -25,10 +26,36 @@ fn main() -> ExitCode {
         }),
         ["sample", "records"] => print_octets(&sample::records()),
         ["sample", "answers"] => print_octets(&sample::answers()),
-        ["speed", driver] => print_times(speed::report(driver)),
+        ["compare-calls", driver, count, seeds @ ..] => with_seeds(count, seeds, |count, seeds| {
+            compare_seeds(driver, count, seeds, &mut Survey::of_places())
+        }),
         ["compare-checksums", program] => compare_checksums(program),
+        _ => speed_command(&words),
+    }
+}
+
+/// The commands about times.
+fn speed_command(words: &[&str]) -> ExitCode {
+    match words {
+        ["speed", driver, c] => print_times(speed::times(driver, c)),
+        ["instructions", driver, c] if !instructions::is_possible() => {
+            println!("instructions of {driver} and {c} are not counted: valgrind is not installed");
+            ExitCode::SUCCESS
+        }
+        ["instructions", driver, c] => print_times(instructions::report(driver, c)),
+        // What is counted of this program itself.
+        ["repeat-case", index, times] => with_numbers(times, index, |times, index| {
+            instructions::repeat(index, times as u32);
+            ExitCode::SUCCESS
+        }),
+        ["growth", driver, c, file] => {
+            print_times(growth::report(driver, c).and_then(|(report, plot)| {
+                fs::write(file, plot)?;
+                Ok(report)
+            }))
+        }
         ["checksum-speed", program] => print_times(checksums::report(program)),
-        _ => recording_command(&words),
+        _ => recording_command(words),
     }
 }
 
@@ -76,15 +103,24 @@ fn with_seeds(
 /// Compares the lists of all seeds, and asks that they reach every place.
 fn compare_lists(driver: &str, count: usize, seeds: &[u64]) -> ExitCode {
     let mut survey = Survey::of_places();
+    let exit = compare_seeds(driver, count, seeds, &mut survey);
+    if exit != ExitCode::SUCCESS {
+        return exit;
+    }
+    print_places(&survey)
+}
+
+/// Compares the lists of all seeds, up to the first difference.
+fn compare_seeds(driver: &str, count: usize, seeds: &[u64], survey: &mut Survey) -> ExitCode {
     for &seed in seeds {
-        let verdict = compare::compare(driver, seed, count, &mut survey);
+        let verdict = compare::compare(driver, seed, count, survey);
         let compared = verdict.map(|()| format!("{count} calls"));
         let exit = print_comparison(seed, compared);
         if exit != ExitCode::SUCCESS {
             return exit;
         }
     }
-    print_places(&survey)
+    ExitCode::SUCCESS
 }
 
 /// Says how often each place was reached, and which were not reached often enough.
@@ -178,10 +214,14 @@ fn usage() -> ExitCode {
     eprintln!(
         "usage: reference coverage SEED COUNT
        reference compare DRIVER COUNT SEED..
+       reference compare-calls DRIVER COUNT SEED..
        reference places COUNT SEED..
        reference case SEED INDEX
        reference sample records|answers
-       reference speed DRIVER
+       reference speed DRIVER C_DRIVER
+       reference instructions DRIVER C_DRIVER
+       reference repeat-case INDEX TIMES
+       reference growth DRIVER C_DRIVER SVG
        reference compare-checksums PROGRAM
        reference checksum-speed PROGRAM
        reference play [FILE]

@@ -15,11 +15,11 @@ use reference::update::Row;
 fn the_stored_list_is_the_sample() {
     assert_eq!(
         sample::records(),
-        include_bytes!("../../crates/driver/stdin")
+        include_bytes!("../../crates/program_driver/stdin")
     );
     assert_eq!(
         sample::answers(),
-        include_bytes!("../../crates/driver/stdout")
+        include_bytes!("../../crates/program_driver/stdout")
     );
 }
 

@@ -1,5 +1,6 @@
 // The gateway's state: its settings and eight slots, check 1, and the look-up of a neighbour.
 ghost use mathlib.Core.Path.{_≡_};
+ghost use mathlib.Core.Bool.{true};
 ghost use mathlib.Core.List.{List};
 ghost use Prim.Native.Nat.{ℕ, _≤_, _<_};
 ghost use lib.ListN.{drop};
@@ -219,11 +220,47 @@ fn is_slot_formed(settings: Settings, slot: Slot) -> bool
     is_used_formed(settings, slot)
 }
 
-fn are_slots_formed(st: State) -> bool
-    ensures { λ r. ⌜ r ≡ every (slotFormed (st .settings)) (st .slots) ⌝ }
+// A short way for a slot in Up, which most are: true where it is formed. Of another slot false says nothing.
+fn is_up_slot_formed(settings: Settings, slot: Slot) -> bool
+    ensures { λ r. ⌜ (r ≡ true → slotFormed settings slot ≡ true) ⌝ }
+{
+    let n = slot.neighbour;
+    let phase = n.phase;
+    if !is_up(phase) {
+        return false;
+    }
+    if !neighbour_wellformed::is_up_formed(n) {
+        return false;
+    }
+    if !good_peer(settings, slot.address, slot.asn) {
+        return false;
+    }
+    slot.rows <= 128
+}
+
+// How many slots, from the first on, are found formed by the short way.
+fn count_up_formed(st: State) -> usize
+    ensures { λ r. ⌜ r ≤ 8 ⌝ }
+    ensures { λ r. ⌜ every (slotFormed (st .settings)) (st .slots) ≡ every (slotFormed (st .settings)) (drop r (st .slots)) ⌝ }
 {
     let settings = st.settings;
     let mut i = 0;
+    while i < SLOTS {
+        let slot = st.slots[i];
+        if !is_up_slot_formed(settings, slot) {
+            return i;
+        }
+        i += 1;
+    }
+    i
+}
+
+fn are_formed_from(st: State, from: usize) -> bool
+    requires { ⌜ from ≤ 8 ⌝ }
+    ensures { λ r. ⌜ r ≡ every (slotFormed (st .settings)) (drop from (st .slots)) ⌝ }
+{
+    let settings = st.settings;
+    let mut i = from;
     while i < SLOTS {
         let slot = st.slots[i];
         if !is_slot_formed(settings, slot) {
@@ -232,6 +269,13 @@ fn are_slots_formed(st: State) -> bool
         i += 1;
     }
     true
+}
+
+fn are_slots_formed(st: State) -> bool
+    ensures { λ r. ⌜ r ≡ every (slotFormed (st .settings)) (st .slots) ⌝ }
+{
+    let up = count_up_formed(st);
+    are_formed_from(st, up)
 }
 
 // Whether no slot from this one on has the address.

@@ -1,10 +1,10 @@
 -- Which transitions leave a record well formed. Assumes nothing.
 use Prim.Native.Nat.{ℕ, _+_, _≤_}
 use native.Mathlib.Omega.{arith}
-use mathlib.Core.Path.{_≡_, refl}
+use mathlib.Core.Path.{_≡_, refl, sym}
 use mathlib.Core.Bool.{Bool, true, false, not, _&&_, _||_}
 use lib.Dec.{ltb, leb, eqb}
-use borrow.Author.Tests.{le-leb, leb-true, eqb-true, not-true}
+use borrow.Author.Tests.{le-leb, leb-true, eqb-true, eqb-false, not-true}
 use Rattle.checks.proofs.Laws.{and-left, and-right, cond-elim}
 use Rattle.neighbour.specs.declared.Phase.{Phase}
 use Rattle.neighbour.specs.declared.Phase.the-variants.{Idle, Acquisition, Down, Up, Cease}
@@ -176,6 +176,31 @@ module _ (n : Neighbour) where
         intervals = interval-ok (rw e) f m;
         causes = rw (e, f .causeless);
       })
+
+  -- the tests of a record in Up, from its well-formedness and back
+  module _ (e : n .phase ≡ Up) where
+    up-causeless : wellFormed n ≡ true → n .cause ≡ 0
+    unfolding causeFormed under
+    up-causeless h = eqb-true (n .cause) 0 (rw e at (pieces h .causes))
+
+    up-t2 : wellFormed n ≡ true → 1 ≤ n .t2
+    unfolding t2Formed under
+    up-t2 h = leb-true 1 (n .t2) (rw e at (pieces h .t2s))
+
+    pub up-refused : (Fine n → 1 ≤ n .t2 → n .t2 ≤ 482 → isUnset (n .mode) ≡ false → ⊥) → false ≡ wellFormed n
+    up-refused against = go (wellFormed n) refl
+      where
+        go : (b : Bool) → wellFormed n ≡ b → false ≡ wellFormed n
+        go false h = sym h
+        go true h = absurd (against (fine-of (rw e) (rw e) (up-causeless h) h) (up-t2 h) (below-numbers (pieces h .below) .1) (moded (rw e) h))
+
+    pub up-last : 1 ≤ n .t1 → n .t1 ≤ 122 → 1 ≤ n .t2 → n .t2 ≤ 482 → 1 ≤ n .t3 → n .t3 ≤ 3600 → 32 ≤ n .period1 → n .period1 ≤ 122
+        → 122 ≤ n .period2 → n .period2 ≤ 482 → isUnset (n .mode) ≡ false → n .register ≤ 15 → n .heard ≤ 1 → eqb (n .cause) 0 ≡ wellFormed n
+    up-last a b c d f g i j k l m o p = go (eqb (n .cause) 0) refl
+      where
+        go : (t : Bool) → eqb (n .cause) 0 ≡ t → t ≡ wellFormed n
+        go true q = let z = eqb-true (n .cause) 0 q in sym (up-ok e (omega arith) c d m)
+        go false q = up-refused (λ fine _ _ _. eqb-false (n .cause) 0 q (fine .causeless))
 
 -- what is known of a record in a phase that is written out
 module _ (n : Neighbour) where

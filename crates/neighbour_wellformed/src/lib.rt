@@ -2,6 +2,7 @@
 ghost use mathlib.Core.Path.{_≡_};
 ghost use mathlib.Core.Bool.{_||_};
 ghost use lib.Dec.{eqb};
+ghost use Rattle.neighbour.specs.declared.Phase.the-variants.{Up};
 ghost use Rattle.neighbour_wellformed.specs.Formed.{isUnset, allZero, idleFormed, timersBelow, timersRun, t2Formed, registerFormed, agreed, intervalsFormed, causeFormed, wellFormed};
 use neighbour::Mode;
 use neighbour::Neighbour;
@@ -178,6 +179,54 @@ fn is_cause(cause: u8) -> bool
         return true;
     }
     cause == 6
+}
+
+// The tests of a record in Up, where most are.
+pub fn is_up_formed(n: Neighbour) -> bool
+    requires { ⌜ n .phase ≡ Up ⌝ }
+    ensures { λ r. ⌜ r ≡ wellFormed n ⌝ }
+{
+    if n.t1 < 1 {
+        return false;
+    }
+    if 122 < n.t1 {
+        return false;
+    }
+    if n.t2 < 1 {
+        return false;
+    }
+    if 482 < n.t2 {
+        return false;
+    }
+    if n.t3 < 1 {
+        return false;
+    }
+    if 3600 < n.t3 {
+        return false;
+    }
+    if n.period1 < 32 {
+        return false;
+    }
+    if 122 < n.period1 {
+        return false;
+    }
+    if n.period2 < 122 {
+        return false;
+    }
+    if 482 < n.period2 {
+        return false;
+    }
+    let mode = n.mode;
+    if is_unset(mode) {
+        return false;
+    }
+    if 15 < n.register {
+        return false;
+    }
+    if 1 < n.heard {
+        return false;
+    }
+    n.cause == 0
 }
 
 // 01's check 1, as far as it concerns this record.

@@ -5,6 +5,7 @@ ghost use mathlib.Core.List.{List};
 ghost use Prim.Native.Nat.{ℕ, _≤_, _<_};
 ghost use lib.ListN.{drop};
 ghost use Rattle.neighbour.specs.Record.{isUp};
+ghost use Rattle.neighbour_wellformed.specs.Formed.{wellFormed};
 ghost use Rattle.checks.specs.Lists.{every, distinct};
 ghost use Rattle.gateway_state.specs.Slots.{newcomer, freeSlot, slotAt, withSlot, addresses, apart, slotOf, lowestFree};
 ghost use Rattle.gateway_state.specs.Places as Places;
@@ -181,6 +182,7 @@ fn are_rows_formed(phase: Phase, rows: u16) -> bool
 
 // A well-formed record in Idle is all zero.
 fn is_free_formed(slot: Slot) -> bool
+    requires { ⌜ wellFormed (slot .neighbour) ≡ true ⌝ }
     ensures { λ r. ⌜ r ≡ freeFormed slot ⌝ }
 {
     if slot.asn != 0 {
@@ -191,22 +193,17 @@ fn is_free_formed(slot: Slot) -> bool
     if !neighbour::is_idle(phase) {
         return false;
     }
-    if !neighbour_wellformed::well_formed(n) {
-        return false;
-    }
     slot.rows == 0
 }
 
 fn is_used_formed(settings: Settings, slot: Slot) -> bool
+    requires { ⌜ wellFormed (slot .neighbour) ≡ true ⌝ }
     ensures { λ r. ⌜ r ≡ usedFormed settings slot ⌝ }
 {
     if !good_peer(settings, slot.address, slot.asn) {
         return false;
     }
     let n = slot.neighbour;
-    if !neighbour_wellformed::well_formed(n) {
-        return false;
-    }
     let phase = n.phase;
     are_rows_formed(phase, slot.rows)
 }
@@ -214,6 +211,10 @@ fn is_used_formed(settings: Settings, slot: Slot) -> bool
 fn is_slot_formed(settings: Settings, slot: Slot) -> bool
     ensures { λ r. ⌜ r ≡ slotFormed settings slot ⌝ }
 {
+    let n = slot.neighbour;
+    if !neighbour_wellformed::well_formed(n) {
+        return false;
+    }
     if slot.address == 0 {
         return is_free_formed(slot);
     }

@@ -1,20 +1,18 @@
 -- Laws of well-formedness. Assumes nothing.
 use Prim.Native.Nat.{ℕ}
-use mathlib.Core.Path.{_≡_, refl, sym, _∙_, ap}
+use mathlib.Core.Path.{_≡_, refl, sym, _∙_}
 use mathlib.Core.Bool.{Bool, true, false, not, _&&_, false≢true}
 use lib.Dec.{leb, eqb}
-use borrow.Author.Tests.{eqb-true, ne-eqb, not-true}
-use Rattle.checks.proofs.Laws.{and-left, and-right}
+use borrow.Author.Tests.{ne-eqb, not-true}
+use Rattle.checks.proofs.Laws.{and-left, and-right, cond-elim}
 use Rattle.neighbour.specs.declared.Phase.{Phase}
 use Rattle.neighbour.specs.declared.Phase.the-variants.{Idle, Acquisition, Down, Up, Cease}
-use Rattle.neighbour.specs.declared.Mode.{Mode}
-use Rattle.neighbour.specs.declared.Mode.the-variants.{Unset, Active, Passive}
-use Rattle.neighbour.specs.declared.Neighbour.{Neighbour}
 use Rattle.neighbour.specs.declared.Settings.{Settings}
-use Rattle.neighbour.specs.Record.{idle, isIdle, isUp, under}
-use Rattle.neighbour_wellformed.specs.Formed.{isUnset, allZero, idleFormed, timersBelow, timersRun, t2Formed, registerFormed, intervalsFormed, causeFormed, wellFormed}
+use Rattle.neighbour.specs.Record.{isIdle, isUp}
+use Rattle.neighbour_wellformed.specs.Formed.{allZero, wellFormed}
+pub use Rattle.neighbour_wellformed.proofs.ByState.{zero-idle, idle-formed, idle-zero}
 use Rattle.gateway_state.specs.declared.Slot.{Slot}
-use Rattle.gateway_state.specs.Formed.{goodPeer, rowsFormed, usedFormed, slotFormed}
+use Rattle.gateway_state.specs.Formed.{goodPeer, rowsFormed, freeFormed, usedFormed, slotFormed}
 
 -- the last test of a conjunction decides it
 pub peer-last : (g : Settings) (address asn : ℕ) → (asn ≡ 0 → ⊥) → (asn ≡ g .asn → ⊥) → (address ≡ 0 → ⊥)
@@ -42,3 +40,25 @@ module _ (g : Settings) (slot : Slot) where
       → leb (slot .rows) 128 ≡ true → slotFormed g slot ≡ true
   unfolding slotFormed usedFormed rowsFormed
   up-slot u w p r = rw (peer-used g (slot .address) (slot .asn) p, p, w, r, u)
+
+  -- no slot is formed whose record is not
+  ill-free : wellFormed (slot .neighbour) ≡ false → freeFormed slot ≡ false
+  unfolding freeFormed
+  ill-free w = go (eqb (slot .asn) 0) (isIdle (slot .neighbour .phase)) refl
+    where
+      go : (a i : Bool) → isIdle (slot .neighbour .phase) ≡ i → (a && i && allZero (slot .neighbour) && eqb (slot .rows) 0) ≡ false
+      go false i e = refl
+      go true false e = refl
+      go true true e = rw (sym (idle-zero (slot .neighbour) e) ∙ w)
+
+  ill-used : wellFormed (slot .neighbour) ≡ false → usedFormed g slot ≡ false
+  unfolding usedFormed
+  ill-used w = go (goodPeer g (slot .address) (slot .asn))
+    where
+      go : (a : Bool) → (a && wellFormed (slot .neighbour) && rowsFormed (slot .neighbour .phase) (slot .rows)) ≡ false
+      go false = refl
+      go true = rw w
+
+  pub ill-slot : wellFormed (slot .neighbour) ≡ false → slotFormed g slot ≡ false
+  unfolding slotFormed
+  ill-slot w = cond-elim (λ (b : Bool). b ≡ false) (eqb (slot .address) 0) _ _ (λ _. ill-free w) (λ _. ill-used w)

@@ -1,81 +1,64 @@
 -- Laws of well-formedness. Assumes nothing.
 use Prim.Native.Nat.{ℕ}
-use mathlib.Core.Path.{_≡_, refl, sym, _∙_, ap}
-use mathlib.Core.Bool.{Bool, true, false, not, false≢true}
-use lib.Dec.{eqb}
-use borrow.Author.Tests.{eqb-true, ne-eqb}
-use Rattle.checks.proofs.Laws.{and-left, and-right}
+use mathlib.Core.Path.{_≡_, refl, sym, _∙_}
+use mathlib.Core.Bool.{Bool, true, false, not, _&&_, false≢true}
+use lib.Dec.{leb, eqb}
+use borrow.Author.Tests.{ne-eqb, not-true}
+use Rattle.checks.proofs.Laws.{and-left, and-right, cond-elim}
 use Rattle.neighbour.specs.declared.Phase.{Phase}
 use Rattle.neighbour.specs.declared.Phase.the-variants.{Idle, Acquisition, Down, Up, Cease}
-use Rattle.neighbour.specs.declared.Mode.{Mode}
-use Rattle.neighbour.specs.declared.Mode.the-variants.{Unset, Active, Passive}
-use Rattle.neighbour.specs.declared.Neighbour.{Neighbour}
 use Rattle.neighbour.specs.declared.Settings.{Settings}
-use Rattle.neighbour.specs.Record.{idle, isIdle, under}
-use Rattle.neighbour_wellformed.specs.Formed.{isUnset, allZero, idleFormed, timersBelow, timersRun, t2Formed, registerFormed, intervalsFormed, causeFormed, wellFormed}
-use Rattle.gateway_state.specs.Formed.{goodPeer}
-
-is-idle : (phase : Phase) → isIdle phase ≡ true → phase ≡ Idle
-is-idle Idle e = refl
-is-idle Acquisition e = absurd (false≢true e)
-is-idle Down e = absurd (false≢true e)
-is-idle Up e = absurd (false≢true e)
-is-idle Cease e = absurd (false≢true e)
-
-is-unset : (mode : Mode) → isUnset mode ≡ true → mode ≡ Unset
-is-unset Unset e = refl
-is-unset Active e = absurd (false≢true e)
-is-unset Passive e = absurd (false≢true e)
-
--- there is one record in Idle that is all zero
-module _ (n : Neighbour) (i : isIdle (n .phase) ≡ true) where
-  pub zero-idle : allZero n ≡ true → n ≡ idle
-  unfolding allZero idle
-  zero-idle e =
-      let s : n .s ≡ 0 = eqb-true _ _ (search (and-left, and-right) depth 14) in
-      let r : n .r ≡ 0 = eqb-true _ _ (search (and-left, and-right) depth 14) in
-      let period1 : n .period1 ≡ 0 = eqb-true _ _ (search (and-left, and-right) depth 14) in
-      let period2 : n .period2 ≡ 0 = eqb-true _ _ (search (and-left, and-right) depth 14) in
-      let t1 : n .t1 ≡ 0 = eqb-true _ _ (search (and-left, and-right) depth 14) in
-      let t2 : n .t2 ≡ 0 = eqb-true _ _ (search (and-left, and-right) depth 14) in
-      let t3 : n .t3 ≡ 0 = eqb-true _ _ (search (and-left, and-right) depth 14) in
-      let mode : n .mode ≡ Unset = is-unset (n .mode) (search (and-left, and-right) depth 14) in
-      let register : n .register ≡ 0 = eqb-true _ _ (search (and-left, and-right) depth 14) in
-      let heard : n .heard ≡ 0 = eqb-true _ _ (search (and-left, and-right) depth 14) in
-      let cause : n .cause ≡ 0 = eqb-true _ _ (search (and-left, and-right) depth 14) in
-      λ k. record {
-        s = s k;
-        r = r k;
-        period1 = period1 k;
-        period2 = period2 k;
-        t1 = t1 k;
-        t2 = t2 k;
-        t3 = t3 k;
-        phase = is-idle (n .phase) i k;
-        mode = mode k;
-        register = register k;
-        heard = heard k;
-        cause = cause k;
-      }
-
-pub idle-formed : wellFormed idle ≡ true
-unfolding wellFormed idle idleFormed allZero timersBelow timersRun t2Formed registerFormed intervalsFormed causeFormed under
-idle-formed = refl
-
-some-formed : (n : Neighbour) → isIdle (n .phase) ≡ true → allZero n ≡ false → wellFormed n ≡ false
-unfolding wellFormed idleFormed
-some-formed n i e = rw (i, e)
-
--- in Idle, well formed and all zero are the same
-pub idle-zero : (n : Neighbour) → isIdle (n .phase) ≡ true → wellFormed n ≡ allZero n
-idle-zero n i = go (allZero n) refl
-  where
-    go : (b : Bool) → allZero n ≡ b → wellFormed n ≡ allZero n
-    go true e = ap wellFormed (zero-idle n i e) ∙ idle-formed ∙ sym e
-    go false e = some-formed n i e ∙ sym e
+use Rattle.neighbour.specs.Record.{isIdle, isUp}
+use Rattle.neighbour_wellformed.specs.Formed.{allZero, wellFormed}
+pub use Rattle.neighbour_wellformed.proofs.ByState.{zero-idle, idle-formed, idle-zero}
+use Rattle.gateway_state.specs.declared.Slot.{Slot}
+use Rattle.gateway_state.specs.Formed.{goodPeer, rowsFormed, freeFormed, usedFormed, slotFormed}
 
 -- the last test of a conjunction decides it
 pub peer-last : (g : Settings) (address asn : ℕ) → (asn ≡ 0 → ⊥) → (asn ≡ g .asn → ⊥) → (address ≡ 0 → ⊥)
     → not (eqb address (g .own)) ≡ goodPeer g address asn
 unfolding goodPeer
 peer-last g address asn a b c = rw (ne-eqb asn 0 a, ne-eqb asn (g .asn) b, ne-eqb address 0 c)
+
+pub is-up : (phase : Phase) → isUp phase ≡ true → phase ≡ Up
+is-up Idle e = absurd (false≢true e)
+is-up Acquisition e = absurd (false≢true e)
+is-up Down e = absurd (false≢true e)
+is-up Up e = refl
+is-up Cease e = absurd (false≢true e)
+
+pub peer-used : (g : Settings) (address asn : ℕ) → goodPeer g address asn ≡ true → eqb address 0 ≡ false
+unfolding goodPeer
+peer-used g address asn h =
+    let a = not (eqb asn 0) && not (eqb asn (g .asn)) in
+    let c = not (eqb address 0) in
+    not-true (eqb address 0) (and-right a c (and-left (a && c) (not (eqb address (g .own))) h))
+
+-- what is asked of a slot in Up
+module _ (g : Settings) (slot : Slot) where
+  pub up-slot : isUp (slot .neighbour .phase) ≡ true → wellFormed (slot .neighbour) ≡ true → goodPeer g (slot .address) (slot .asn) ≡ true
+      → leb (slot .rows) 128 ≡ true → slotFormed g slot ≡ true
+  unfolding slotFormed usedFormed rowsFormed
+  up-slot u w p r = rw (peer-used g (slot .address) (slot .asn) p, p, w, r, u)
+
+  -- no slot is formed whose record is not
+  ill-free : wellFormed (slot .neighbour) ≡ false → freeFormed slot ≡ false
+  unfolding freeFormed
+  ill-free w = go (eqb (slot .asn) 0) (isIdle (slot .neighbour .phase)) refl
+    where
+      go : (a i : Bool) → isIdle (slot .neighbour .phase) ≡ i → (a && i && allZero (slot .neighbour) && eqb (slot .rows) 0) ≡ false
+      go false i e = refl
+      go true false e = refl
+      go true true e = rw (sym (idle-zero (slot .neighbour) e) ∙ w)
+
+  ill-used : wellFormed (slot .neighbour) ≡ false → usedFormed g slot ≡ false
+  unfolding usedFormed
+  ill-used w = go (goodPeer g (slot .address) (slot .asn))
+    where
+      go : (a : Bool) → (a && wellFormed (slot .neighbour) && rowsFormed (slot .neighbour .phase) (slot .rows)) ≡ false
+      go false = refl
+      go true = rw w
+
+  pub ill-slot : wellFormed (slot .neighbour) ≡ false → slotFormed g slot ≡ false
+  unfolding slotFormed
+  ill-slot w = cond-elim (λ (b : Bool). b ≡ false) (eqb (slot .address) 0) _ _ (λ _. ill-free w) (λ _. ill-used w)

@@ -1,9 +1,11 @@
 // The gateway's state: its settings and eight slots, check 1, and the look-up of a neighbour.
 ghost use mathlib.Core.Path.{_≡_};
+ghost use mathlib.Core.Bool.{true};
 ghost use mathlib.Core.List.{List};
 ghost use Prim.Native.Nat.{ℕ, _≤_, _<_};
 ghost use lib.ListN.{drop};
 ghost use Rattle.neighbour.specs.Record.{isUp};
+ghost use Rattle.neighbour_wellformed.specs.Formed.{wellFormed};
 ghost use Rattle.checks.specs.Lists.{every, distinct};
 ghost use Rattle.gateway_state.specs.Slots.{newcomer, freeSlot, slotAt, withSlot, addresses, apart, slotOf, lowestFree};
 ghost use Rattle.gateway_state.specs.Places as Places;
@@ -180,6 +182,7 @@ fn are_rows_formed(phase: Phase, rows: u16) -> bool
 
 // A well-formed record in Idle is all zero.
 fn is_free_formed(slot: Slot) -> bool
+    requires { ⌜ wellFormed (slot .neighbour) ≡ true ⌝ }
     ensures { λ r. ⌜ r ≡ freeFormed slot ⌝ }
 {
     if slot.asn != 0 {
@@ -190,22 +193,17 @@ fn is_free_formed(slot: Slot) -> bool
     if !neighbour::is_idle(phase) {
         return false;
     }
-    if !neighbour_wellformed::well_formed(n) {
-        return false;
-    }
     slot.rows == 0
 }
 
 fn is_used_formed(settings: Settings, slot: Slot) -> bool
+    requires { ⌜ wellFormed (slot .neighbour) ≡ true ⌝ }
     ensures { λ r. ⌜ r ≡ usedFormed settings slot ⌝ }
 {
     if !good_peer(settings, slot.address, slot.asn) {
         return false;
     }
     let n = slot.neighbour;
-    if !neighbour_wellformed::well_formed(n) {
-        return false;
-    }
     let phase = n.phase;
     are_rows_formed(phase, slot.rows)
 }
@@ -213,17 +211,57 @@ fn is_used_formed(settings: Settings, slot: Slot) -> bool
 fn is_slot_formed(settings: Settings, slot: Slot) -> bool
     ensures { λ r. ⌜ r ≡ slotFormed settings slot ⌝ }
 {
+    let n = slot.neighbour;
+    if !neighbour_wellformed::well_formed(n) {
+        return false;
+    }
     if slot.address == 0 {
         return is_free_formed(slot);
     }
     is_used_formed(settings, slot)
 }
 
-fn are_slots_formed(st: State) -> bool
-    ensures { λ r. ⌜ r ≡ every (slotFormed (st .settings)) (st .slots) ⌝ }
+// A short way for a slot in Up, which most are: true where it is formed. Of another slot false says nothing.
+fn is_up_slot_formed(settings: Settings, slot: Slot) -> bool
+    ensures { λ r. ⌜ (r ≡ true → slotFormed settings slot ≡ true) ⌝ }
+{
+    let n = slot.neighbour;
+    let phase = n.phase;
+    if !is_up(phase) {
+        return false;
+    }
+    if !neighbour_wellformed::is_up_formed(n) {
+        return false;
+    }
+    if !good_peer(settings, slot.address, slot.asn) {
+        return false;
+    }
+    slot.rows <= 128
+}
+
+// How many slots, from the first on, are found formed by the short way.
+fn count_up_formed(st: State) -> usize
+    ensures { λ r. ⌜ r ≤ 8 ⌝ }
+    ensures { λ r. ⌜ every (slotFormed (st .settings)) (st .slots) ≡ every (slotFormed (st .settings)) (drop r (st .slots)) ⌝ }
 {
     let settings = st.settings;
     let mut i = 0;
+    while i < SLOTS {
+        let slot = st.slots[i];
+        if !is_up_slot_formed(settings, slot) {
+            return i;
+        }
+        i += 1;
+    }
+    i
+}
+
+fn are_formed_from(st: State, from: usize) -> bool
+    requires { ⌜ from ≤ 8 ⌝ }
+    ensures { λ r. ⌜ r ≡ every (slotFormed (st .settings)) (drop from (st .slots)) ⌝ }
+{
+    let settings = st.settings;
+    let mut i = from;
     while i < SLOTS {
         let slot = st.slots[i];
         if !is_slot_formed(settings, slot) {
@@ -232,6 +270,13 @@ fn are_slots_formed(st: State) -> bool
         i += 1;
     }
     true
+}
+
+fn are_slots_formed(st: State) -> bool
+    ensures { λ r. ⌜ r ≡ every (slotFormed (st .settings)) (st .slots) ⌝ }
+{
+    let up = count_up_formed(st);
+    are_formed_from(st, up)
 }
 
 // Whether no slot from this one on has the address.
@@ -253,7 +298,24 @@ fn is_apart_from(st: State, from: usize, address: u32) -> bool
     true
 }
 
-fn are_addresses_distinct(st: State) -> bool
+// A short way where each address is above the one before it: true where they are. Of others false says nothing.
+fn are_addresses_rising(st: State) -> bool
+    ensures { λ r. ⌜ (r ≡ true → distinct apart (addresses st) ≡ true) ⌝ }
+{
+    let mut last = 0;
+    let mut i = 0;
+    while i < SLOTS {
+        let slot = st.slots[i];
+        if slot.address <= last {
+            return false;
+        }
+        last = slot.address;
+        i += 1;
+    }
+    true
+}
+
+fn are_all_apart(st: State) -> bool
     ensures { λ r. ⌜ r ≡ distinct apart (addresses st) ⌝ }
 {
     let mut i = 0;
@@ -265,6 +327,15 @@ fn are_addresses_distinct(st: State) -> bool
         i += 1;
     }
     true
+}
+
+fn are_addresses_distinct(st: State) -> bool
+    ensures { λ r. ⌜ r ≡ distinct apart (addresses st) ⌝ }
+{
+    if are_addresses_rising(st) {
+        return true;
+    }
+    are_all_apart(st)
 }
 
 // 01's check 1.

@@ -43,17 +43,17 @@ pub record Fine (n : Neighbour) : Type 0 where
   pub causeless : n .cause ≡ 0
 
 -- a record's well-formedness, sentence by sentence
-record Pieces (n : Neighbour) : Type 0 where
-  idles : idleFormed n ≡ true
-  below : timersBelow n ≡ true
-  run : timersRun n ≡ true
-  t2s : t2Formed n ≡ true
-  registers : registerFormed n ≡ true
-  intervals : intervalsFormed n ≡ true
-  causes : causeFormed n ≡ true
+pub record Pieces (n : Neighbour) : Type 0 where
+  pub idles : idleFormed n ≡ true
+  pub below : timersBelow n ≡ true
+  pub run : timersRun n ≡ true
+  pub t2s : t2Formed n ≡ true
+  pub registers : registerFormed n ≡ true
+  pub intervals : intervalsFormed n ≡ true
+  pub causes : causeFormed n ≡ true
 
 module _ (n : Neighbour) where
-  pieces : wellFormed n ≡ true → Pieces n
+  pub pieces : wellFormed n ≡ true → Pieces n
   unfolding wellFormed
   pieces h =
       let a = idleFormed n in
@@ -77,12 +77,12 @@ module _ (n : Neighbour) where
         causes = and-right (a && b && c && d && e && f) (causeFormed n) h;
       }
 
-  whole : Pieces n → wellFormed n ≡ true
+  pub whole : Pieces n → wellFormed n ≡ true
   unfolding wellFormed
   whole p = rw (p .idles, p .below, p .run, p .t2s, p .registers, p .intervals, p .causes)
 
   -- "t1, t2, t3 at most 122, 482, 3,600"
-  below-numbers : timersBelow n ≡ true → (n .t1 ≤ 122) × (n .t2 ≤ 482) × (n .t3 ≤ 3600)
+  pub below-numbers : timersBelow n ≡ true → (n .t1 ≤ 122) × (n .t2 ≤ 482) × (n .t3 ≤ 3600)
   unfolding timersBelow
   below-numbers h =
       let a = leb (n .t1) 122 in
@@ -90,7 +90,7 @@ module _ (n : Neighbour) where
       let k = and-left (a && b) (leb (n .t3) 3600) h in
       (leb-true (n .t1) 122 (and-left a b k), leb-true (n .t2) 482 (and-right a b k), leb-true (n .t3) 3600 (and-right (a && b) (leb (n .t3) 3600) h))
 
-  run-numbers : isIdle (n .phase) ≡ false → timersRun n ≡ true → (1 ≤ n .t1) × (1 ≤ n .t3)
+  pub run-numbers : isIdle (n .phase) ≡ false → timersRun n ≡ true → (1 ≤ n .t1) × (1 ≤ n .t3)
   unfolding timersRun
   run-numbers e h =
       let k = rw e at h in
@@ -122,7 +122,7 @@ module _ (n : Neighbour) where
         and-right (a && b) m k,
       )
 
-  fine-of : isIdle (n .phase) ≡ false → acquired (n .phase) ≡ true → n .cause ≡ 0 → wellFormed n ≡ true → Fine n
+  pub fine-of : isIdle (n .phase) ≡ false → acquired (n .phase) ≡ true → n .cause ≡ 0 → wellFormed n ≡ true → Fine n
   fine-of i a z h =
       let p = pieces h in
       let b = below-numbers (p .below) in
@@ -135,19 +135,19 @@ module _ (n : Neighbour) where
   moded a h = not-true (isUnset (n .mode)) (interval-numbers a (pieces h .intervals) .4)
 
   -- back from numbers
-  below-ok : n .t1 ≤ 122 → n .t2 ≤ 482 → n .t3 ≤ 3600 → timersBelow n ≡ true
+  pub below-ok : n .t1 ≤ 122 → n .t2 ≤ 482 → n .t3 ≤ 3600 → timersBelow n ≡ true
   unfolding timersBelow
   below-ok a b c = rw (le-leb _ _ a, le-leb _ _ b, le-leb _ _ c)
 
-  run-ok : 1 ≤ n .t1 → 1 ≤ n .t3 → timersRun n ≡ true
+  pub run-ok : 1 ≤ n .t1 → 1 ≤ n .t3 → timersRun n ≡ true
   unfolding timersRun
   run-ok a b = rw (le-leb _ _ a, le-leb _ _ b) (or-true (isIdle (n .phase)))
 
-  register-ok : n .register ≤ 15 → n .heard ≤ 1 → acquired (n .phase) ≡ true → registerFormed n ≡ true
+  pub register-ok : n .register ≤ 15 → n .heard ≤ 1 → acquired (n .phase) ≡ true → registerFormed n ≡ true
   unfolding registerFormed
   register-ok a b e = rw (le-leb _ _ a, le-leb _ _ b, e)
 
-  interval-ok : acquired (n .phase) ≡ true → Fine n → isUnset (n .mode) ≡ false → intervalsFormed n ≡ true
+  pub interval-ok : acquired (n .phase) ≡ true → Fine n → isUnset (n .mode) ≡ false → intervalsFormed n ≡ true
   unfolding intervalsFormed agreed
   interval-ok e f m = rw (e, le-leb _ _ (f .period1-low), le-leb _ _ (f .period1-high), le-leb _ _ (f .period2-low), le-leb _ _ (f .period2-high), m)
 

@@ -1,8 +1,11 @@
-// Check 1 as far as it concerns one neighbour's record: 01's paragraph "Well formed means", a function for each sentence.
+// Check 1 as far as it concerns one neighbour's record: 01's paragraph "Well formed means", by the record's state.
+ghost use Prim.Native.Nat.{_≤_};
 ghost use mathlib.Core.Path.{_≡_};
-ghost use mathlib.Core.Bool.{_||_};
+ghost use mathlib.Core.Bool.{true, false, _&&_, _||_};
 ghost use lib.Dec.{eqb};
-ghost use Rattle.neighbour_wellformed.specs.Formed.{isUnset, allZero, idleFormed, timersBelow, timersRun, t2Formed, registerFormed, agreed, intervalsFormed, causeFormed, wellFormed};
+ghost use Rattle.neighbour.specs.declared.Phase.the-variants.{Acquisition, Down, Up, Cease};
+ghost use Rattle.neighbour.specs.Record.{isIdle, acquired};
+ghost use Rattle.neighbour_wellformed.specs.Formed.{isUnset, within, allZero, t2Formed, causeFormed, wellFormed};
 use neighbour::Mode;
 use neighbour::Neighbour;
 use neighbour::Phase;
@@ -54,76 +57,30 @@ fn is_zero(n: Neighbour) -> bool
     n.cause == 0
 }
 
-fn is_idle_formed(n: Neighbour) -> bool
-    ensures { λ r. ⌜ r ≡ idleFormed n ⌝ }
+// t1 and t3 outside Idle.
+fn are_timers_formed(t1: u16, t3: u16) -> bool
+    ensures { λ r. ⌜ r ≡ (within 1 122 t1 && within 1 3600 t3) ⌝ }
 {
-    let phase = n.phase;
-    if !neighbour::is_idle(phase) {
-        return true;
+    if t1 < 1 {
+        return false;
     }
-    is_zero(n)
+    if 122 < t1 {
+        return false;
+    }
+    if t3 < 1 {
+        return false;
+    }
+    t3 <= 3600
 }
 
-fn are_timers_below(n: Neighbour) -> bool
-    ensures { λ r. ⌜ r ≡ timersBelow n ⌝ }
+// The tests that Down and Up have in common, behind those of t2.
+fn is_reached_formed(n: Neighbour) -> bool
+    requires { ⌜ (acquired (n .phase) ≡ true) × (t2Formed n ≡ true) × (n .t2 ≤ 482) ⌝ }
+    ensures { λ r. ⌜ r ≡ wellFormed n ⌝ }
 {
-    if 122 < n.t1 {
+    if !are_timers_formed(n.t1, n.t3) {
         return false;
     }
-    if 482 < n.t2 {
-        return false;
-    }
-    n.t3 <= 3600
-}
-
-fn are_timers_running(n: Neighbour) -> bool
-    ensures { λ r. ⌜ r ≡ timersRun n ⌝ }
-{
-    let phase = n.phase;
-    if neighbour::is_idle(phase) {
-        return true;
-    }
-    if n.t1 < 1 {
-        return false;
-    }
-    1 <= n.t3
-}
-
-fn is_t2_formed(n: Neighbour) -> bool
-    ensures { λ r. ⌜ r ≡ t2Formed n ⌝ }
-{
-    let phase = n.phase;
-    match phase {
-        Phase::Idle => n.t2 == 0,
-        Phase::Acquisition => n.t2 == 0,
-        Phase::Down => n.t2 == 0,
-        Phase::Up => 1 <= n.t2,
-        Phase::Cease => n.t2 == 0,
-    }
-}
-
-fn is_register_formed(n: Neighbour) -> bool
-    ensures { λ r. ⌜ r ≡ registerFormed n ⌝ }
-{
-    if 15 < n.register {
-        return false;
-    }
-    if 1 < n.heard {
-        return false;
-    }
-    let phase = n.phase;
-    if neighbour::is_acquired(phase) {
-        return true;
-    }
-    if n.register != 0 {
-        return false;
-    }
-    n.heard == 0
-}
-
-fn is_agreed(n: Neighbour) -> bool
-    ensures { λ r. ⌜ r ≡ agreed n ⌝ }
-{
     if n.period1 < 32 {
         return false;
     }
@@ -137,15 +94,52 @@ fn is_agreed(n: Neighbour) -> bool
         return false;
     }
     let mode = n.mode;
-    !is_unset(mode)
+    if is_unset(mode) {
+        return false;
+    }
+    if 15 < n.register {
+        return false;
+    }
+    if 1 < n.heard {
+        return false;
+    }
+    n.cause == 0
 }
 
-fn are_intervals_formed(n: Neighbour) -> bool
-    ensures { λ r. ⌜ r ≡ intervalsFormed n ⌝ }
+fn is_down_formed(n: Neighbour) -> bool
+    requires { ⌜ n .phase ≡ Down ⌝ }
+    ensures { λ r. ⌜ r ≡ wellFormed n ⌝ }
 {
-    let phase = n.phase;
-    if neighbour::is_acquired(phase) {
-        return is_agreed(n);
+    if n.t2 != 0 {
+        return false;
+    }
+    is_reached_formed(n)
+}
+
+// The gateway asks this first of every slot in Up.
+pub fn is_up_formed(n: Neighbour) -> bool
+    requires { ⌜ n .phase ≡ Up ⌝ }
+    ensures { λ r. ⌜ r ≡ wellFormed n ⌝ }
+{
+    if n.t2 < 1 {
+        return false;
+    }
+    if 482 < n.t2 {
+        return false;
+    }
+    is_reached_formed(n)
+}
+
+// The tests that Acquisition and Cease have in common, behind that of the cause.
+fn is_waiting_formed(n: Neighbour) -> bool
+    requires { ⌜ (isIdle (n .phase) ≡ false) × (acquired (n .phase) ≡ false) × (causeFormed n ≡ true) ⌝ }
+    ensures { λ r. ⌜ r ≡ wellFormed n ⌝ }
+{
+    if !are_timers_formed(n.t1, n.t3) {
+        return false;
+    }
+    if n.t2 != 0 {
+        return false;
     }
     if n.period1 != 0 {
         return false;
@@ -154,20 +148,23 @@ fn are_intervals_formed(n: Neighbour) -> bool
         return false;
     }
     let mode = n.mode;
-    is_unset(mode)
+    if !is_unset(mode) {
+        return false;
+    }
+    if n.register != 0 {
+        return false;
+    }
+    n.heard == 0
 }
 
-fn is_cause_formed(n: Neighbour) -> bool
-    ensures { λ r. ⌜ r ≡ causeFormed n ⌝ }
+fn is_acquisition_formed(n: Neighbour) -> bool
+    requires { ⌜ n .phase ≡ Acquisition ⌝ }
+    ensures { λ r. ⌜ r ≡ wellFormed n ⌝ }
 {
-    let phase = n.phase;
-    match phase {
-        Phase::Idle => n.cause == 0,
-        Phase::Acquisition => n.cause == 0,
-        Phase::Down => n.cause == 0,
-        Phase::Up => n.cause == 0,
-        Phase::Cease => is_cause(n.cause),
+    if n.cause != 0 {
+        return false;
     }
+    is_waiting_formed(n)
 }
 
 // Stop or expiry is cause 5, an unacceptable Request cause 6.
@@ -180,27 +177,26 @@ fn is_cause(cause: u8) -> bool
     cause == 6
 }
 
-// 01's check 1, as far as it concerns this record.
+fn is_cease_formed(n: Neighbour) -> bool
+    requires { ⌜ n .phase ≡ Cease ⌝ }
+    ensures { λ r. ⌜ r ≡ wellFormed n ⌝ }
+{
+    if !is_cause(n.cause) {
+        return false;
+    }
+    is_waiting_formed(n)
+}
+
+// 01's check 1, as far as it concerns this record: the state first, then the tests of that state.
 pub fn well_formed(n: Neighbour) -> bool
     ensures { λ r. ⌜ r ≡ wellFormed n ⌝ }
 {
-    if !is_idle_formed(n) {
-        return false;
+    let phase = n.phase;
+    match phase {
+        Phase::Idle => is_zero(n),
+        Phase::Acquisition => is_acquisition_formed(n),
+        Phase::Down => is_down_formed(n),
+        Phase::Up => is_up_formed(n),
+        Phase::Cease => is_cease_formed(n),
     }
-    if !are_timers_below(n) {
-        return false;
-    }
-    if !are_timers_running(n) {
-        return false;
-    }
-    if !is_t2_formed(n) {
-        return false;
-    }
-    if !is_register_formed(n) {
-        return false;
-    }
-    if !are_intervals_formed(n) {
-        return false;
-    }
-    is_cause_formed(n)
 }

@@ -2,10 +2,10 @@
 ghost use mathlib.Core.Path.{_≡_};
 ghost use mathlib.Core.Bool.{true};
 ghost use mathlib.Core.List.{[], _∷_};
-ghost use Prim.Native.Nat.{_+_, _-_, _≤_};
-ghost use lib.ListN.{length};
+ghost use Prim.Native.Nat.{_+_, _*_, _-_, _≤_, _<_};
+ghost use lib.ListN.{length, drop, getD};
 ghost use lib.Seq.{sets};
-ghost use Rattle.nets.specs.Classes.{goodNet};
+ghost use Rattle.nets.specs.Classes.{netWidth, goodNet};
 ghost use Rattle.nets.specs.Rows.{flat};
 ghost use Rattle.update_walk.specs.Body.{many, leftJustified, netRow, groupRows, blockRows, walkedBlocks};
 ghost use Rattle.update_rows.specs.Storing.{zeros, padded, Storable, Room, Stored, walkedRows};
@@ -16,14 +16,57 @@ struct Put {
     left: usize,
 }
 
-// The net of this width at the front, left justified.
-fn net_value(t: &[u8], width: usize) -> u32
-    requires { ⌜ (width ≤ 4) × (width ≤ length (now t)) ⌝ }
-    ensures { λ r. ⌜ r ≡ leftJustified width (now (t .entry)) ⌝ }
+// A net: its number, left justified, and how many octets it takes.
+struct Net {
+    number: u32,
+    width: usize,
+}
+
+// The number of a class A net.
+fn class_a(a: u8) -> u32
+    ensures { λ r. ⌜ r ≡ a * 16777216 ⌝ }
 {
-    let number = update_walk::value(&t[..width]);
-    let span = nets::host_span(width);
-    (number as u64 * span) as u32
+    a as u32 * 16777216
+}
+
+// The number of a class B net.
+fn class_b(a: u8, b: u8) -> u32
+    ensures { λ r. ⌜ r ≡ (a * 256 + b) * 65536 ⌝ }
+{
+    (a as u32 * 256 + b as u32) * 65536
+}
+
+// The number of a class C net.
+fn class_c(a: u8, b: u8, c: u8) -> u32
+    ensures { λ r. ⌜ r ≡ ((a * 256 + b) * 256 + c) * 256 ⌝ }
+{
+    ((a as u32 * 256 + b as u32) * 256 + c as u32) * 256
+}
+
+// The net that starts here. A branch for each class: a width computed from the first octet would make each net's place
+// wait for the octets of the net before it.
+fn net_at(t: &[u8], i: usize) -> Net
+    requires { ⌜ (0 < netWidth (getD (now t) i 0)) × (i + netWidth (getD (now t) i 0) ≤ length (now t)) ⌝ }
+    ensures width { λ r. ⌜ r .width ≡ netWidth (getD (now (t .entry)) i 0) ⌝ }
+    ensures number { λ r. ⌜ r .number ≡ leftJustified (netWidth (getD (now (t .entry)) i 0)) (drop i (now (t .entry))) ⌝ }
+{
+    let first = t[i];
+    if first < 128 {
+        return Net {
+            number: class_a(first),
+            width: 1,
+        };
+    }
+    if first < 192 {
+        return Net {
+            number: class_b(first, t[i + 1]),
+            width: 2,
+        };
+    }
+    Net {
+        number: class_c(first, t[i + 1], t[i + 2]),
+        width: 3,
+    }
 }
 
 // One row.
@@ -42,19 +85,19 @@ fn put_nets(part: &mut [u32], at: usize, t: &[u8], count: u8, gateway: u32, thir
     ensures { λ r. ⌜ Stored (many (netRow gateway third) count (now (t .entry))) at (now (part .entry)) (now (part .exit)) r ⌝ }
 {
     let mut o = at;
-    let mut u = t;
+    let mut i: usize = 0;
     let mut k = count;
     while 0 < k {
-        let width = nets::net_width(u[0]);
-        let net = net_value(u, width);
-        put_row(part, o, net, gateway, third);
-        u = &u[width..];
+        let net = net_at(t, i);
+        let number = net.number;
+        put_row(part, o, number, gateway, third);
+        i += net.width;
         o += 3;
         k -= 1;
     }
     Put {
         at: o,
-        left: u.len(),
+        left: t.len() - i,
     }
 }
 

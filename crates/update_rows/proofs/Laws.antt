@@ -3,9 +3,9 @@ use Prim.Native.Nat.{ℕ, zero, suc, _+_, _*_, _-_, _^_, _≤_, _<_}
 use native.Mathlib.Numerals.{add-one}
 use native.Mathlib.Nat.{add-zero, sub-zero}
 use native.Mathlib.Omega.{arith}
-use borrow.Author.Tests.{ltb-false, leb-false, lt-ltb, le-ltb}
+use borrow.Author.Tests.{ltb-true, ltb-false, leb-false}
 use mathlib.Core.Path.{_≡_, refl, sym, ap, subst, _∙_}
-use mathlib.Core.Bool.{Bool, true, false, cond}
+use mathlib.Core.Bool.{Bool, true, false}
 use mathlib.Core.List.{List, [], _∷_, _++_, append-nil}
 use lib.Dec.{ltb, leb}
 use lib.ListN.{length, take, drop, getD, set, replicate, length-append, length-drop, length-replicate, drop-of-length-le}
@@ -15,7 +15,7 @@ use Rattle.nets.specs.Classes.{netWidth, hostSpan, goodNet}
 use Rattle.nets.specs.Rows.{Row, flat}
 use Rattle.update_walk.specs.Body.{Got, got, stop, andThen, after, many, extended, bigEndian, leftJustified, netRow, groupRows, hostWidth, gatewayOf, blockRows, bothSides, Walk, whole, broken, walkedBlocks, updateOf, accepted}
 use Rattle.update_walk.proofs.Flat.{group-rows, block-rows, both-sides}
-use Rattle.update_walk.proofs.Laws.{never, Front, Sounds, front-fits, front-rest, many-next, many-stop, many-none, many-sound, block-sound}
+use Rattle.update_walk.proofs.Laws.{never, Front, Sounds, front-fits, front-rest, many-next, many-stop, many-none, many-sound, block-sound, class-a, class-b, class-c, classless}
 use Rattle.update_walk.proofs.Turns.{Stepped, rowAt}
 use Rattle.update_walk.proofs.Groups.{net-good}
 use Rattle.update_walk.proofs.Accepted.{Whole, whole-is, accepted-is}
@@ -192,23 +192,13 @@ module _ (l : List ℕ) where
   pub three-octets : 3 ≤ length l → bigEndian (take 3 l) ≡ (getD l 0 0 * 256 + getD l 1 0) * 256 + getD l 2 0
   three-octets h = digits-more 0 2 l (omega arith) ∙ ap (λ (n : ℕ). n * 256 + getD l 2 0) (two-octets (omega arith))
 
-three-or-none : (b : Bool) → 0 < cond b 3 0 → _≡_ {A = ℕ} 3 (cond b 3 0)
-three-or-none true h = refl
-three-or-none false h = absurd (omega arith)
-
--- the width of a net by its class
-module _ (first : ℕ) where
-  pub class-a : first < 128 → 1 ≡ netWidth first
-  unfolding netWidth
-  class-a h = rw (lt-ltb first 128 h)
-
-  pub class-b : 128 ≤ first → first < 192 → 2 ≡ netWidth first
-  unfolding netWidth
-  class-b h k = rw (le-ltb first 128 h, lt-ltb first 192 k)
-
-  pub class-c : 192 ≤ first → 0 < netWidth first → 3 ≡ netWidth first
-  unfolding netWidth
-  class-c h = rw (le-ltb first 128 (omega arith), le-ltb first 192 h) (three-or-none (ltb first 224))
+-- a net that is read has a class: from 192 on it is C
+pub only-c : (first : ℕ) → 192 ≤ first → 0 < netWidth first → 3 ≡ netWidth first
+only-c first h p = go (ltb first 224) refl
+  where
+    go : (b : Bool) → ltb first 224 ≡ b → 3 ≡ netWidth first
+    go true e = class-c first h (ltb-true first 224 e)
+    go false e = absurd (omega (arith, classless first (ltb-false first 224 e)))
 
 -- the net at i, by its class
 module _ (t : List ℕ) (i : ℕ) (fits : i + netWidth (getD t i 0) ≤ length t) where
@@ -239,7 +229,7 @@ module _ (t : List ℕ) (i : ℕ) (fits : i + netWidth (getD t i 0) ≤ length t
   pub at-c : (number : ℕ) → number ≡ ((getD t i 0 * 256 + getD t (i + 1) 0) * 256 + getD t (i + 2) 0) * 256 → 192 ≤ getD t i 0 → 0 < netWidth (getD t i 0) → NetIs 3 number
   unfolding leftJustified hostSpan
   at-c number e h k =
-      let w = class-c (getD t i 0) h k in
+      let w = only-c (getD t i 0) h k in
       (w, rw (← w, three-octets (drop i t) (long 3 w), at-first, at-front 1, at-front 2) e)
 
 -- a turn that stores the net at i

@@ -1,5 +1,6 @@
 -- `update_rows::net_at` meets its contract: the octets that the class says. Assumes nothing.
-use Rattle.update_rows.proofs.Laws.{class-b, class-c, at-a, at-b, at-c}
+use Rattle.update_rows.proofs.Laws.{only-c, at-a, at-b, at-c}
+use Rattle.update_walk.proofs.Laws.{class-b}
 use lib.ListN.{getD}
 use native.Mathlib.Omega.{arith}
 use borrow.Author.Needs.{needs}
@@ -31,13 +32,13 @@ add-class-c : tie.Need-add-class-c
 add-class-c c = search needs
 
 shared-slice-read-class-c : tie.Need-shared-slice-read-class-c
-shared-slice-read-class-c c = omega (arith, c .before .before .before .before .before .pre .1, class-c (getD (c .before .before .before .before .before .args .t .now) (c .before .before .before .before .before .args .i) 0) (c .before .if2 .left) (c .before .before .before .before .before .pre .0))
+shared-slice-read-class-c c = omega (arith, c .before .before .before .before .before .pre .1, only-c (getD (c .before .before .before .before .before .args .t .now) (c .before .before .before .before .before .args .i) 0) (c .before .if2 .left) (c .before .before .before .before .before .pre .0))
 
 add-class-c-2 : tie.Need-add-class-c-2
 add-class-c-2 c = search needs
 
 shared-slice-read-class-c-2 : tie.Need-shared-slice-read-class-c-2
-shared-slice-read-class-c-2 c = omega (arith, c .before .before .before .before .before .before .pre .1, class-c (getD (c .before .before .before .before .before .before .args .t .now) (c .before .before .before .before .before .before .args .i) 0) (c .before .before .if2 .left) (c .before .before .before .before .before .before .pre .0))
+shared-slice-read-class-c-2 c = omega (arith, c .before .before .before .before .before .before .pre .1, only-c (getD (c .before .before .before .before .before .before .args .t .now) (c .before .before .before .before .before .before .args .i) 0) (c .before .before .if2 .left) (c .before .before .before .before .before .before .pre .0))
 
 class-c-requires : tie.Need-class-c-requires
 class-c-requires c κs = search needs

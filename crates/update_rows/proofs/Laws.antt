@@ -9,13 +9,13 @@ use mathlib.Core.Bool.{Bool, true, false}
 use mathlib.Core.List.{List, [], _∷_, _++_, append-nil}
 use lib.Dec.{ltb, leb}
 use lib.ListN.{length, take, drop, getD, set, replicate, length-append, length-drop, length-replicate, drop-of-length-le}
-use lib.Seq.{sets, length-sets, sets-eq, length-take-le, getD-drop, drop-drop}
+use lib.Seq.{sets, length-sets, sets-eq, getD-drop, drop-drop}
 use Rattle.checks.proofs.Laws.{part-from, cond-elim}
-use Rattle.nets.specs.Classes.{netWidth, hostSpan, goodNet}
+use Rattle.nets.specs.Classes.{firstOctet, widthOf, netWidth, hostSpan, goodNet}
 use Rattle.nets.specs.Rows.{Row, flat}
 use Rattle.update_walk.specs.Body.{Got, got, stop, andThen, after, many, extended, bigEndian, leftJustified, netRow, groupRows, hostWidth, gatewayOf, blockRows, bothSides, Walk, whole, broken, walkedBlocks, updateOf, accepted}
 use Rattle.update_walk.proofs.Flat.{group-rows, block-rows, both-sides}
-use Rattle.update_walk.proofs.Laws.{never, Front, Sounds, front-fits, front-rest, many-next, many-stop, many-none, many-sound, block-sound, class-a, class-b, class-c, classless}
+use Rattle.update_walk.proofs.Laws.{never, Front, Sounds, front-fits, front-rest, many-next, many-stop, many-none, many-sound, block-sound, nonzero, width-small, class-a, class-b, class-c, classless}
 use Rattle.update_walk.proofs.Turns.{Stepped, rowAt}
 use Rattle.update_walk.proofs.Groups.{net-good}
 use Rattle.update_walk.proofs.Accepted.{Whole, whole-is, accepted-is}
@@ -192,6 +192,20 @@ module _ (l : List ℕ) where
   pub three-octets : 3 ≤ length l → bigEndian (take 3 l) ≡ (getD l 0 0 * 256 + getD l 1 0) * 256 + getD l 2 0
   three-octets h = digits-more 0 2 l (omega arith) ∙ ap (λ (n : ℕ). n * 256 + getD l 2 0) (two-octets (omega arith))
 
+-- a host part by its width
+module _ (t : List ℕ) (host number : ℕ) (fits : host ≤ length t) where
+  abbrev HostIs : Type 0
+  HostIs = (number ≡ bigEndian (take host t)) × (number < 256 ^ host)
+
+  pub host-three : host ≡ 3 → number ≡ (getD t 0 0 * 256 + getD t 1 0) * 256 + getD t 2 0 → number < 16777216 → HostIs
+  host-three e n b = rw e (n ∙ sym (three-octets t (omega arith)), b)
+
+  pub host-two : host ≡ 2 → number ≡ getD t 0 0 * 256 + getD t 1 0 → number < 65536 → HostIs
+  host-two e n b = rw e (n ∙ sym (two-octets t (omega arith)), b)
+
+  pub host-one : host ≡ 1 → number ≡ getD t 0 0 → number < 256 → HostIs
+  host-one e n b = rw e (n ∙ sym (one-octet t (omega arith)), b)
+
 -- a net that is read has a class: from 192 on it is C
 pub only-c : (first : ℕ) → 192 ≤ first → 0 < netWidth first → 3 ≡ netWidth first
 only-c first h p = go (ltb first 224) refl
@@ -316,11 +330,15 @@ module _ (side net : ℕ) (t : List ℕ) where
     pub block-some : host < length t
     block-some = omega (arith, w, (block-good (r .good)) .some)
 
-    pub block-host : length (take host t) ≡ host
-    block-host = length-take-le host t (omega (arith, block-some))
+    pub block-host : goodNet net ≡ true → (0 < host) × (host < 4) × (host ≤ length t)
+    unfolding hostWidth
+    block-host g =
+        let some = nonzero (widthOf net) ((net-of net g) .classed) in
+        let small = width-small (firstOctet net) in
+        (omega (arith, w, small), omega (arith, w, some), omega (arith, block-some))
 
-    pub block-fits : (number : ℕ) → goodNet net ≡ true → number < 256 ^ length (take host t) → net < 4294967296 → net + number < 4294967296
-    block-fits number g b f = gateway-fits net (net-of net g) number (subst (λ (n : ℕ). number < 256 ^ n) (block-host ∙ w) b) f
+    pub block-fits : (number : ℕ) → goodNet net ≡ true → number < 256 ^ host → net < 4294967296 → net + number < 4294967296
+    block-fits number g b f = gateway-fits net (net-of net g) number (subst (λ (n : ℕ). number < 256 ^ n) w b) f
 
     module _ (number : ℕ) (v : number ≡ bigEndian (take host t)) where
       block-is : many (groupRows side (net + number)) (getD t host 0) (take (length t - (host + 1)) (drop (host + 1) t)) ≡ blockRows side net t

@@ -2,12 +2,12 @@
 ghost use mathlib.Core.Path.{_≡_};
 ghost use mathlib.Core.Bool.{true};
 ghost use mathlib.Core.List.{[], _∷_};
-ghost use Prim.Native.Nat.{_+_, _*_, _-_, _≤_, _<_};
-ghost use lib.ListN.{length, drop, getD};
+ghost use Prim.Native.Nat.{_+_, _*_, _-_, _^_, _≤_, _<_};
+ghost use lib.ListN.{length, take, drop, getD};
 ghost use lib.Seq.{sets};
 ghost use Rattle.nets.specs.Classes.{netWidth, goodNet};
 ghost use Rattle.nets.specs.Rows.{flat};
-ghost use Rattle.update_walk.specs.Body.{many, leftJustified, netRow, groupRows, blockRows, walkedBlocks};
+ghost use Rattle.update_walk.specs.Body.{bigEndian, many, leftJustified, netRow, groupRows, blockRows, walkedBlocks};
 ghost use Rattle.update_rows.specs.Storing.{zeros, padded, Storable, Room, Stored, walkedRows};
 
 // Where the next number goes, and how many octets are left.
@@ -22,25 +22,20 @@ struct Net {
     width: usize,
 }
 
-// The number of a class A net.
-fn class_a(a: u8) -> u32
-    ensures { λ r. ⌜ r ≡ a * 16777216 ⌝ }
+// The number that two octets make, big-endian.
+fn two(a: u8, b: u8) -> u32
+    ensures number { λ r. ⌜ r ≡ a * 256 + b ⌝ }
+    ensures bound { λ r. ⌜ r < 65536 ⌝ }
 {
-    a as u32 * 16777216
+    a as u32 * 256 + b as u32
 }
 
-// The number of a class B net.
-fn class_b(a: u8, b: u8) -> u32
-    ensures { λ r. ⌜ r ≡ (a * 256 + b) * 65536 ⌝ }
+// The number that three octets make.
+fn three(a: u8, b: u8, c: u8) -> u32
+    ensures number { λ r. ⌜ r ≡ (a * 256 + b) * 256 + c ⌝ }
+    ensures bound { λ r. ⌜ r < 16777216 ⌝ }
 {
-    (a as u32 * 256 + b as u32) * 65536
-}
-
-// The number of a class C net.
-fn class_c(a: u8, b: u8, c: u8) -> u32
-    ensures { λ r. ⌜ r ≡ ((a * 256 + b) * 256 + c) * 256 ⌝ }
-{
-    ((a as u32 * 256 + b as u32) * 256 + c as u32) * 256
+    (a as u32 * 256 + b as u32) * 256 + c as u32
 }
 
 // The net that starts here. A branch for each class: a width computed from the first octet would make each net's place
@@ -53,20 +48,35 @@ fn net_at(t: &[u8], i: usize) -> Net
     let first = t[i];
     if first < 128 {
         return Net {
-            number: class_a(first),
+            number: first as u32 * 16777216,
             width: 1,
         };
     }
     if first < 192 {
         return Net {
-            number: class_b(first, t[i + 1]),
+            number: two(first, t[i + 1]) * 65536,
             width: 2,
         };
     }
     Net {
-        number: class_c(first, t[i + 1], t[i + 2]),
+        number: three(first, t[i + 1], t[i + 2]) * 256,
         width: 3,
     }
+}
+
+// The number of the host part at the front, of this width.
+fn host_part(t: &[u8], host: usize) -> u32
+    requires { ⌜ (0 < host) × (host < 4) × (host ≤ length (now t)) ⌝ }
+    ensures number { λ r. ⌜ r ≡ bigEndian (take host (now (t .entry))) ⌝ }
+    ensures bound { λ r. ⌜ r < 256 ^ host ⌝ }
+{
+    if host == 3 {
+        return three(t[0], t[1], t[2]);
+    }
+    if host == 2 {
+        return two(t[0], t[1]);
+    }
+    t[0] as u32
 }
 
 // One row.
@@ -141,7 +151,7 @@ fn put_block(part: &mut [u32], at: usize, t: &[u8], side: u32, net: u32) -> Put
     ensures { λ r. ⌜ Stored (blockRows side net (now (t .entry))) at (now (part .entry)) (now (part .exit)) r ⌝ }
 {
     let host = update_walk::host_width(net);
-    let gateway = net + update_walk::value(&t[..host]);
+    let gateway = net + host_part(t, host);
     let from = host + 1;
     put_groups(part, at, &t[from..], t[host], side, gateway)
 }

@@ -1,25 +1,25 @@
 -- Laws of storing rows: what is left to store, and what it leaves. Assumes nothing.
-use Prim.Native.Nat.{ℕ, suc, _+_, _*_, _-_, _^_, _≤_, _<_}
+use Prim.Native.Nat.{ℕ, zero, suc, _+_, _*_, _-_, _^_, _≤_, _<_}
 use native.Mathlib.Numerals.{add-one}
 use native.Mathlib.Nat.{add-zero, sub-zero}
 use native.Mathlib.Omega.{arith}
-use borrow.Author.Tests.{ltb-false, leb-false}
+use borrow.Author.Tests.{ltb-true, ltb-false, leb-false}
 use mathlib.Core.Path.{_≡_, refl, sym, ap, subst, _∙_}
-use mathlib.Core.Bool.{true}
+use mathlib.Core.Bool.{Bool, true, false}
 use mathlib.Core.List.{List, [], _∷_, _++_, append-nil}
 use lib.Dec.{ltb, leb}
-use lib.ListN.{length, take, drop, getD, set, replicate, length-append, length-replicate, drop-of-length-le}
-use lib.Seq.{sets, length-sets, sets-eq, length-take-le}
+use lib.ListN.{length, take, drop, getD, set, replicate, length-append, length-drop, length-replicate, drop-of-length-le}
+use lib.Seq.{sets, length-sets, sets-eq, getD-drop, drop-drop}
 use Rattle.checks.proofs.Laws.{part-from, cond-elim}
-use Rattle.nets.specs.Classes.{netWidth, hostSpan, goodNet}
+use Rattle.nets.specs.Classes.{firstOctet, widthOf, netWidth, hostSpan, goodNet}
 use Rattle.nets.specs.Rows.{Row, flat}
-use Rattle.update_walk.specs.Body.{Got, got, stop, andThen, after, many, bigEndian, leftJustified, netRow, groupRows, hostWidth, gatewayOf, blockRows, bothSides, Walk, whole, broken, walkedBlocks, updateOf, accepted}
+use Rattle.update_walk.specs.Body.{Got, got, stop, andThen, after, many, extended, bigEndian, leftJustified, netRow, groupRows, hostWidth, gatewayOf, blockRows, bothSides, Walk, whole, broken, walkedBlocks, updateOf, accepted}
 use Rattle.update_walk.proofs.Flat.{group-rows, block-rows, both-sides}
-use Rattle.update_walk.proofs.Laws.{never, Front, Sounds, front-fits, front-rest, many-next, many-stop, many-none, many-sound, block-sound}
+use Rattle.update_walk.proofs.Laws.{never, Front, Sounds, front-fits, front-rest, many-next, many-stop, many-none, many-sound, block-sound, nonzero, width-small, class-a, class-b, class-c, classless}
 use Rattle.update_walk.proofs.Turns.{Stepped, rowAt}
 use Rattle.update_walk.proofs.Groups.{net-good}
 use Rattle.update_walk.proofs.Accepted.{Whole, whole-is, accepted-is}
-use Rattle.update_walk.proofs.Good.{justified-fits, net-of, gateway-fits}
+use Rattle.update_walk.proofs.Good.{net-of, gateway-fits}
 use Rattle.update_rows.specs.declared.Put.{Put}
 use Rattle.update_rows.specs.Storing.{zeros, padded, isWhole, walkedRows, Storable, isGot, gotRows, gotRest, Room, Stored}
 
@@ -174,30 +174,102 @@ unfolding final gotRows gotRest flat
 done {goal} {size} {f} {k} {u} {o} {out} inv h =
     inv .same ∙ ap (λ (g : Got (List Row)). final g o out) (many-none f k u h) ∙ ap (λ (n : ℕ). fin out n (length u)) (add-zero o)
 
--- one net's number
-pub value-fits : (v w span : ℕ) (t : List ℕ) → v < 256 ^ length (take w t) → w ≤ length t → w ≤ 4 → span ≡ hostSpan w → v * span < 4294967296
-value-fits v w span t b l f e = rw e (justified-fits v w (rw (length-take-le w t l) at b) f)
+-- the number of the first octets, by their number: one octet more at a time
+digits-more : (n w : ℕ) (l : List ℕ) → w < length l → extended n (take (suc w) l) ≡ extended n (take w l) * 256 + getD l w 0
+unfolding extended
+digits-more n w [] h = absurd (omega arith)
+digits-more n zero (a ∷ l) h = refl
+digits-more n (suc w) (a ∷ l) h = digits-more (n * 256 + a) w l (omega arith)
 
-pub value-is : (v w span : ℕ) (t : List ℕ) → v ≡ bigEndian (take w t) → span ≡ hostSpan w → v * span ≡ leftJustified w t
-unfolding leftJustified
-value-is v w span t e k = rw (e, k)
+module _ (l : List ℕ) where
+  pub one-octet : 1 ≤ length l → bigEndian (take 1 l) ≡ getD l 0 0
+  unfolding extended
+  one-octet h = digits-more 0 0 l (omega arith) ∙ omega arith
 
--- a turn that stores one net
-module _ (gateway third : ℕ) {goal : Final} {size k : ℕ} {u : List ℕ} {o : ℕ} {out : List ℕ} (inv : Doing goal size (netRow gateway third) k u o out) (some : 0 < k) where
-  pub net-step : Stepped gateway third u (netWidth (getD u 0 0))
-  net-step = net-good gateway third u _ _ ((next inv some) .is)
+  pub two-octets : 2 ≤ length l → bigEndian (take 2 l) ≡ getD l 0 0 * 256 + getD l 1 0
+  two-octets h = digits-more 0 1 l (omega arith) ∙ ap (λ (n : ℕ). n * 256 + getD l 1 0) (one-octet (omega arith))
+
+  pub three-octets : 3 ≤ length l → bigEndian (take 3 l) ≡ (getD l 0 0 * 256 + getD l 1 0) * 256 + getD l 2 0
+  three-octets h = digits-more 0 2 l (omega arith) ∙ ap (λ (n : ℕ). n * 256 + getD l 2 0) (two-octets (omega arith))
+
+-- a host part by its width
+module _ (t : List ℕ) (host number : ℕ) (fits : host ≤ length t) where
+  abbrev HostIs : Type 0
+  HostIs = (number ≡ bigEndian (take host t)) × (number < 256 ^ host)
+
+  pub host-three : host ≡ 3 → number ≡ (getD t 0 0 * 256 + getD t 1 0) * 256 + getD t 2 0 → number < 16777216 → HostIs
+  host-three e n b = rw e (n ∙ sym (three-octets t (omega arith)), b)
+
+  pub host-two : host ≡ 2 → number ≡ getD t 0 0 * 256 + getD t 1 0 → number < 65536 → HostIs
+  host-two e n b = rw e (n ∙ sym (two-octets t (omega arith)), b)
+
+  pub host-one : host ≡ 1 → number ≡ getD t 0 0 → number < 256 → HostIs
+  host-one e n b = rw e (n ∙ sym (one-octet t (omega arith)), b)
+
+-- a net that is read has a class: from 192 on it is C
+pub only-c : (first : ℕ) → 192 ≤ first → 0 < netWidth first → 3 ≡ netWidth first
+only-c first h p = go (ltb first 224) refl
+  where
+    go : (b : Bool) → ltb first 224 ≡ b → 3 ≡ netWidth first
+    go true e = class-c first h (ltb-true first 224 e)
+    go false e = absurd (omega (arith, classless first (ltb-false first 224 e)))
+
+-- the net at i, by its class
+module _ (t : List ℕ) (i : ℕ) (fits : i + netWidth (getD t i 0) ≤ length t) where
+  abbrev NetIs : ℕ → ℕ → Type 0
+  NetIs w number = (w ≡ netWidth (getD t i 0)) × (number ≡ leftJustified (netWidth (getD t i 0)) (drop i t))
+
+  long : (w : ℕ) → w ≡ netWidth (getD t i 0) → w ≤ length (drop i t)
+  long w e = omega (arith, length-drop i t)
+
+  at-front : (j : ℕ) → getD (drop i t) j 0 ≡ getD t (i + j) 0
+  at-front j = getD-drop i t j 0
+
+  at-first : getD (drop i t) 0 0 ≡ getD t i 0
+  at-first = at-front 0 ∙ ap (λ (n : ℕ). getD t n 0) (add-zero i)
+
+  pub at-a : (number : ℕ) → number ≡ getD t i 0 * 16777216 → getD t i 0 < 128 → NetIs 1 number
+  unfolding leftJustified hostSpan
+  at-a number e h =
+      let w = class-a (getD t i 0) h in
+      (w, rw (← w, one-octet (drop i t) (long 1 w), at-first) e)
+
+  pub at-b : (number : ℕ) → number ≡ (getD t i 0 * 256 + getD t (i + 1) 0) * 65536 → 128 ≤ getD t i 0 → getD t i 0 < 192 → NetIs 2 number
+  unfolding leftJustified hostSpan
+  at-b number e h k =
+      let w = class-b (getD t i 0) h k in
+      (w, rw (← w, two-octets (drop i t) (long 2 w), at-first, at-front 1) e)
+
+  pub at-c : (number : ℕ) → number ≡ ((getD t i 0 * 256 + getD t (i + 1) 0) * 256 + getD t (i + 2) 0) * 256 → 192 ≤ getD t i 0 → 0 < netWidth (getD t i 0) → NetIs 3 number
+  unfolding leftJustified hostSpan
+  at-c number e h k =
+      let w = only-c (getD t i 0) h k in
+      (w, rw (← w, three-octets (drop i t) (long 3 w), at-first, at-front 1, at-front 2) e)
+
+-- a turn that stores the net at i
+module _ (gateway third : ℕ) {goal : Final} {size k : ℕ} (t : List ℕ) (i : ℕ) {o : ℕ} {out : List ℕ} (inv : Doing goal size (netRow gateway third) k (drop i t) o out) (some : 0 < k) where
+  here : netWidth (getD (drop i t) 0 0) ≡ netWidth (getD t i 0)
+  here = ap netWidth (getD-drop i t 0 0 ∙ ap (λ (n : ℕ). getD t n 0) (add-zero i))
+
+  step : Stepped gateway third (drop i t) (netWidth (getD t i 0))
+  step = subst (λ (w : ℕ). Stepped gateway third (drop i t) w) here (net-good gateway third (drop i t) _ _ ((next inv some) .is))
+
+  pub net-some : 0 < netWidth (getD t i 0)
+  net-some = step .some
+
+  pub net-fits : i + netWidth (getD t i 0) ≤ length t
+  net-fits = omega (arith, step .some, step .fits, length-drop i t)
 
   pub net-room : o + 3 ≤ length out
-  net-room = turn-fits inv some (rowAt gateway third u (netWidth (getD u 0 0)) ∷ []) _ (net-step .is)
+  net-room = turn-fits inv some (rowAt gateway third (drop i t) (netWidth (getD t i 0)) ∷ []) _ (step .is)
 
-  pub turn-net : (w net : ℕ) (new : List ℕ) → w ≡ netWidth (getD u 0 0) → net ≡ leftJustified w u → new ≡ sets out o (net ∷ gateway ∷ third ∷ [])
-      → Doing goal size (netRow gateway third) (k - 1) (take (length u - w) (drop w u)) (o + 3) new
+  pub turn-net : (w net : ℕ) (new : List ℕ) → w ≡ netWidth (getD t i 0) → net ≡ leftJustified (netWidth (getD t i 0)) (drop i t)
+      → new ≡ sets out o (net ∷ gateway ∷ third ∷ []) → Doing goal size (netRow gateway third) (k - 1) (drop (i + w) t) (o + 3) new
   unfolding flat
   turn-net w net new e v n =
-      let x : net ≡ leftJustified (netWidth (getD u 0 0)) u = v ∙ ap (λ (i : ℕ). leftJustified i u) e in
-      rw (part-from w u, e)
-      (turn-got inv some (rowAt gateway third u (netWidth (getD u 0 0)) ∷ []) (drop (netWidth (getD u 0 0)) u) (net-step .is) new
-      (n ∙ ap (λ (i : ℕ). sets out o (i ∷ gateway ∷ third ∷ [])) x))
+      rw (e, ← drop-drop (netWidth (getD t i 0)) i t)
+      (turn-got inv some (rowAt gateway third (drop i t) (netWidth (getD t i 0)) ∷ []) (drop (netWidth (getD t i 0)) (drop i t)) (step .is) new
+      (n ∙ ap (λ (m : ℕ). sets out o (m ∷ gateway ∷ third ∷ [])) v))
 
 -- zeros to the end
 pub clear-turn : (out : List ℕ) (i n : ℕ) → i < n → sets out i (zeros (n - i)) ≡ sets (set out i 0) (i + 1) (zeros (n - (i + 1)))
@@ -258,11 +330,15 @@ module _ (side net : ℕ) (t : List ℕ) where
     pub block-some : host < length t
     block-some = omega (arith, w, (block-good (r .good)) .some)
 
-    pub block-host : length (take host t) ≡ host
-    block-host = length-take-le host t (omega (arith, block-some))
+    pub block-host : goodNet net ≡ true → (0 < host) × (host < 4) × (host ≤ length t)
+    unfolding hostWidth
+    block-host g =
+        let some = nonzero (widthOf net) ((net-of net g) .classed) in
+        let small = width-small (firstOctet net) in
+        (omega (arith, w, small), omega (arith, w, some), omega (arith, block-some))
 
-    pub block-fits : (number : ℕ) → goodNet net ≡ true → number < 256 ^ length (take host t) → net < 4294967296 → net + number < 4294967296
-    block-fits number g b f = gateway-fits net (net-of net g) number (subst (λ (n : ℕ). number < 256 ^ n) (block-host ∙ w) b) f
+    pub block-fits : (number : ℕ) → goodNet net ≡ true → number < 256 ^ host → net < 4294967296 → net + number < 4294967296
+    block-fits number g b f = gateway-fits net (net-of net g) number (subst (λ (n : ℕ). number < 256 ^ n) w b) f
 
     module _ (number : ℕ) (v : number ≡ bigEndian (take host t)) where
       block-is : many (groupRows side (net + number)) (getD t host 0) (take (length t - (host + 1)) (drop (host + 1) t)) ≡ blockRows side net t

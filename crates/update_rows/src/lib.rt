@@ -2,12 +2,12 @@
 ghost use mathlib.Core.Path.{_≡_};
 ghost use mathlib.Core.Bool.{true};
 ghost use mathlib.Core.List.{[], _∷_};
-ghost use Prim.Native.Nat.{_+_, _-_, _≤_};
-ghost use lib.ListN.{length};
+ghost use Prim.Native.Nat.{_+_, _*_, _-_, _^_, _≤_, _<_};
+ghost use lib.ListN.{length, take, drop, getD};
 ghost use lib.Seq.{sets};
-ghost use Rattle.nets.specs.Classes.{goodNet};
+ghost use Rattle.nets.specs.Classes.{netWidth, goodNet};
 ghost use Rattle.nets.specs.Rows.{flat};
-ghost use Rattle.update_walk.specs.Body.{many, leftJustified, netRow, groupRows, blockRows, walkedBlocks};
+ghost use Rattle.update_walk.specs.Body.{bigEndian, many, leftJustified, netRow, groupRows, blockRows, walkedBlocks};
 ghost use Rattle.update_rows.specs.Storing.{zeros, padded, Storable, Room, Stored, walkedRows};
 
 // Where the next number goes, and how many octets are left.
@@ -16,14 +16,67 @@ struct Put {
     left: usize,
 }
 
-// The net of this width at the front, left justified.
-fn net_value(t: &[u8], width: usize) -> u32
-    requires { ⌜ (width ≤ 4) × (width ≤ length (now t)) ⌝ }
-    ensures { λ r. ⌜ r ≡ leftJustified width (now (t .entry)) ⌝ }
+// A net: its number, left justified, and how many octets it takes.
+struct Net {
+    number: u32,
+    width: usize,
+}
+
+// The number that two octets make, big-endian.
+fn two(a: u8, b: u8) -> u32
+    ensures number { λ r. ⌜ r ≡ a * 256 + b ⌝ }
+    ensures bound { λ r. ⌜ r < 65536 ⌝ }
 {
-    let number = update_walk::value(&t[..width]);
-    let span = nets::host_span(width);
-    (number as u64 * span) as u32
+    a as u32 * 256 + b as u32
+}
+
+// The number that three octets make.
+fn three(a: u8, b: u8, c: u8) -> u32
+    ensures number { λ r. ⌜ r ≡ (a * 256 + b) * 256 + c ⌝ }
+    ensures bound { λ r. ⌜ r < 16777216 ⌝ }
+{
+    (a as u32 * 256 + b as u32) * 256 + c as u32
+}
+
+// The net that starts here. A branch for each class: a width computed from the first octet would make each net's place
+// wait for the octets of the net before it.
+fn net_at(t: &[u8], i: usize) -> Net
+    requires { ⌜ (0 < netWidth (getD (now t) i 0)) × (i + netWidth (getD (now t) i 0) ≤ length (now t)) ⌝ }
+    ensures width { λ r. ⌜ r .width ≡ netWidth (getD (now (t .entry)) i 0) ⌝ }
+    ensures number { λ r. ⌜ r .number ≡ leftJustified (netWidth (getD (now (t .entry)) i 0)) (drop i (now (t .entry))) ⌝ }
+{
+    let first = t[i];
+    if first < 128 {
+        return Net {
+            number: first as u32 * 16777216,
+            width: 1,
+        };
+    }
+    if first < 192 {
+        return Net {
+            number: two(first, t[i + 1]) * 65536,
+            width: 2,
+        };
+    }
+    Net {
+        number: three(first, t[i + 1], t[i + 2]) * 256,
+        width: 3,
+    }
+}
+
+// The number of the host part at the front, of this width.
+fn host_part(t: &[u8], host: usize) -> u32
+    requires { ⌜ (0 < host) × (host < 4) × (host ≤ length (now t)) ⌝ }
+    ensures number { λ r. ⌜ r ≡ bigEndian (take host (now (t .entry))) ⌝ }
+    ensures bound { λ r. ⌜ r < 256 ^ host ⌝ }
+{
+    if host == 3 {
+        return three(t[0], t[1], t[2]);
+    }
+    if host == 2 {
+        return two(t[0], t[1]);
+    }
+    t[0] as u32
 }
 
 // One row.
@@ -42,19 +95,19 @@ fn put_nets(part: &mut [u32], at: usize, t: &[u8], count: u8, gateway: u32, thir
     ensures { λ r. ⌜ Stored (many (netRow gateway third) count (now (t .entry))) at (now (part .entry)) (now (part .exit)) r ⌝ }
 {
     let mut o = at;
-    let mut u = t;
+    let mut i: usize = 0;
     let mut k = count;
     while 0 < k {
-        let width = nets::net_width(u[0]);
-        let net = net_value(u, width);
-        put_row(part, o, net, gateway, third);
-        u = &u[width..];
+        let net = net_at(t, i);
+        let number = net.number;
+        put_row(part, o, number, gateway, third);
+        i += net.width;
         o += 3;
         k -= 1;
     }
     Put {
         at: o,
-        left: u.len(),
+        left: t.len() - i,
     }
 }
 
@@ -98,7 +151,7 @@ fn put_block(part: &mut [u32], at: usize, t: &[u8], side: u32, net: u32) -> Put
     ensures { λ r. ⌜ Stored (blockRows side net (now (t .entry))) at (now (part .entry)) (now (part .exit)) r ⌝ }
 {
     let host = update_walk::host_width(net);
-    let gateway = net + update_walk::value(&t[..host]);
+    let gateway = net + host_part(t, host);
     let from = host + 1;
     put_groups(part, at, &t[from..], t[host], side, gateway)
 }

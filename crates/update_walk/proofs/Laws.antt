@@ -3,7 +3,7 @@ use Prim.Native.Nat.{ℕ, zero, suc, zero-le, _+_, _-_, _*_, _≤_, _<_}
 use native.Mathlib.Nat.{le-refl}
 use native.Mathlib.Numerals.{add-one}
 use native.Mathlib.Omega.{arith}
-use borrow.Author.Tests.{ltb-false, leb-false, eqb-false, le-ltb, lt-leb, ne-eqb}
+use borrow.Author.Tests.{ltb-false, leb-false, eqb-false, lt-ltb, le-ltb, lt-leb, ne-eqb}
 use mathlib.Core.Path.{_≡_, refl, sym, ap, subst, _∙_}
 use mathlib.Core.Bool.{true, false}
 use mathlib.Core.List.{List, [], _∷_, _++_, append-assoc}
@@ -125,6 +125,24 @@ width-small first =
     cond-elim (λ (w : ℕ). w ≤ 3) (ltb first 128) _ _ (λ a. omega arith)
     (λ a. cond-elim (λ (w : ℕ). w ≤ 3) (ltb first 192) _ _ (λ b. omega arith)
     (λ b. cond-elim (λ (w : ℕ). w ≤ 3) (ltb first 224) _ _ (λ d. omega arith) (λ d. omega arith)))
+
+-- the width by the class
+module _ (first : ℕ) where
+  pub class-a : first < 128 → 1 ≡ netWidth first
+  unfolding netWidth
+  class-a h = rw (lt-ltb first 128 h)
+
+  pub class-b : 128 ≤ first → first < 192 → 2 ≡ netWidth first
+  unfolding netWidth
+  class-b h k = rw (le-ltb first 128 h, lt-ltb first 192 k)
+
+  pub class-c : 192 ≤ first → first < 224 → 3 ≡ netWidth first
+  unfolding netWidth
+  class-c h k = rw (le-ltb first 128 (omega arith), le-ltb first 192 h, lt-ltb first 224 k)
+
+  pub classless : 224 ≤ first → 0 ≡ netWidth first
+  unfolding netWidth
+  classless h = rw (le-ltb first 128 (omega arith), le-ltb first 192 (omega arith), le-ltb first 224 h)
 
 pub host-small : (net : ℕ) → hostWidth net ≤ 4
 unfolding hostWidth

@@ -2,22 +2,23 @@
 use Prim.Native.Nat.{ℕ, suc, _+_, _-_, _≤_, _<_}
 use native.Mathlib.Nat.{le-refl, zero-add, add-zero}
 use native.Mathlib.Omega.{arith}
-use borrow.Author.Tests.{ltb-true, ltb-false, lt-ltb, le-ltb, le-leb, lt-leb, eq-eqb, ne-eqb}
+use borrow.Author.Tests.{ltb-false, leb-true, leb-false, lt-ltb, le-ltb, le-leb, lt-leb, eq-eqb, ne-eqb}
 use mathlib.Core.Path.{_≡_, refl, sym, ap, _∙_}
 use mathlib.Core.Bool.{Bool, true, false, cond}
 use mathlib.Core.List.{List, [], _∷_, _++_}
 use lib.Dec.{ltb, leb, eqb}
-use lib.ListN.{length, take, drop, getD, length-append, length-drop}
+use lib.ListN.{length, take, drop, getD, length-append, length-drop, drop-of-length-le}
+use lib.Seq.{getD-drop, drop-drop}
 use Rattle.checks.proofs.Laws.{part-from, cond-elim}
 use Rattle.nets.specs.Classes.{netWidth, goodNet}
 use Rattle.nets.specs.Rows.{Row}
 use Rattle.update_walk.specs.Body.{Got, got, stop, after, many, leftJustified, rowOfWidth, netRow, groupRows, hostWidth, gatewayOf, blockRows, bothSides, nothingLeft, bodyOf, further, netAt, walkedBlocks, readWithin, updateOf, bigEndian, accepted, tooMany, walkedOf}
-use Rattle.update_walk.specs.Walked.{skipOf, netTaken, walkVerdict, WithinEnd, taken, groupEnd, groupNets}
+use Rattle.update_walk.specs.Walked.{skipOf, walkVerdict, WithinEnd, taken, groupEnd, groupNets}
 use Rattle.update_walk.specs.declared.Skip.{Skip}
 use Rattle.update_walk.specs.declared.Skip.the-variants.{Past, Stop}
 use Rattle.update_walk.specs.declared.Walked.the-variants.{Rows, Broken, TooMany}
 use Rattle.update_walk.proofs.Flat.{group-rows, block-rows, both-sides}
-use Rattle.update_walk.proofs.Laws.{nonzero, width-small, Sound, Sounds, front-fits, front-rest, many-next, many-stop, many-none, many-sound, net-sound, block-sound, sides-sound}
+use Rattle.update_walk.proofs.Laws.{Sound, Sounds, front-fits, front-rest, many-next, many-stop, many-none, many-sound, net-sound, block-sound, sides-sound}
 
 -- so many rows more
 unfoldable pub plus : ℕ → Skip → Skip
@@ -98,25 +99,8 @@ module _ {goal : Skip} {size rows : ℕ} {f : List ℕ → Got (List Row)} {k : 
       let b : length (p .items) + length (drop (length u - left) u) ≤ length u = simp length-drop (omega (arith, p .count, p .fits)) in
       rw (part-from (length u - left) u, ← p .count) (turn-got (p .items) (drop (length u - left) u) h (p .is) b)
 
--- what a step over one net says of its reading
+-- what a net that was read says of the octets
 module _ (gateway third : ℕ) (t : List ℕ) where
-  pub step-none : netTaken t ≡ 0 → netRow gateway third t ≡ stop (length t)
-  unfolding netTaken netRow rowOfWidth
-  step-none e =
-      let w = netWidth (getD t 0 0) in
-      cond-elim (λ (x : ℕ). x ≡ 0 → netRow gateway third t ≡ stop (length t)) (eqb (length t) 0) 4 _ (λ a h. absurd (omega arith))
-      (λ a. cond-elim (λ (x : ℕ). x ≡ 0 → netRow gateway third t ≡ stop (length t)) (ltb (length t) w) 4 w (λ b h. absurd (omega arith)) (λ b h. rw (a, h)))
-      e
-
-  pub step-short : netTaken t ≡ 4 → netRow gateway third t ≡ stop 0
-  unfolding netTaken netRow rowOfWidth
-  step-short e =
-      let w = netWidth (getD t 0 0) in
-      cond-elim (λ (x : ℕ). x ≡ 4 → netRow gateway third t ≡ stop 0) (eqb (length t) 0) 4 _ (λ a h. rw a)
-      (λ a. cond-elim (λ (x : ℕ). x ≡ 4 → netRow gateway third t ≡ stop 0) (ltb (length t) w) 4 w
-      (λ b h. rw (a, ne-eqb w 0 (λ z. omega (arith, ltb-true (length t) w b)), b)) (λ b h. absurd (omega (arith, width-small (getD t 0 0)))))
-      e
-
   abbrev pub rowAt : ℕ → Row
   rowAt w = record { net = leftJustified w t; gateway = gateway; third = third }
 
@@ -125,24 +109,83 @@ module _ (gateway third : ℕ) (t : List ℕ) where
     pub some : 0 < w
     pub fits : w ≤ length t
 
-  pub stepped : (w : ℕ) → w ≡ netTaken t → (w ≡ 0 → ⊥) → (w ≡ 4 → ⊥) → Stepped w
-  unfolding netTaken netRow rowOfWidth
-  stepped w e n m =
-      let v = netWidth (getD t 0 0) in
-      cond-elim (λ (x : ℕ). w ≡ x → Stepped w) (eqb (length t) 0) 4 _ (λ a h. absurd (m h))
-      (λ a. cond-elim (λ (x : ℕ). w ≡ x → Stepped w) (ltb (length t) v) 4 v (λ b h. absurd (m h))
-      (λ b h. record {
-        is = rw (a, ne-eqb v 0 (λ z. n (h ∙ z)), b, h);
-        some = nonzero w n;
-        fits = omega (arith, ltb-false (length t) v b);
-      }))
-      e
+-- the net at octet i, by its width
+module _ (gateway third : ℕ) (t : List ℕ) (i : ℕ) (h : i < length t) where
+  wide : netWidth (getD (drop i t) 0 0) ≡ netWidth (getD t i 0)
+  wide = ap netWidth (getD-drop i t 0 0 ∙ ap (λ (n : ℕ). getD t n 0) (add-zero i))
 
-pub turn-net : {goal : Skip} {size rows gateway third k : ℕ} {u : List ℕ} → Skipping goal size rows (netRow gateway third) k u → (w : ℕ) → 0 < k
-    → Stepped gateway third u w → Skipping goal size (rows + 1) (netRow gateway third) (k - 1) (take (length u - w) (drop w u))
-turn-net {goal} {size} {rows} {gateway} {third} {k} {u} inv w h s =
-    let b : 1 + length (drop w u) ≤ length u = simp length-drop (omega (arith, s .some, s .fits)) in
-    rw (part-from w u) (turn-got inv (rowAt gateway third u w ∷ []) (drop w u) h (s .is) b)
+  there : eqb (length (drop i t)) 0 ≡ false
+  there = ne-eqb (length (drop i t)) 0 (λ z. omega (arith, length-drop i t))
+
+  net-none : 0 ≡ netWidth (getD t i 0) → netRow gateway third (drop i t) ≡ stop (length t - i)
+  unfolding netRow rowOfWidth
+  net-none e = rw (there, wide, ← e) (ap (λ (n : ℕ). stop n) (length-drop i t))
+
+  module _ (w : ℕ) (e : w ≡ netWidth (getD t i 0)) (p : 0 < w) where
+    net-short : length t < i + w → netRow gateway third (drop i t) ≡ stop 0
+    unfolding netRow rowOfWidth
+    net-short b = rw (there, wide, ← e, ne-eqb w 0 (λ z. omega arith), lt-ltb (length (drop i t)) w (omega (arith, length-drop i t)))
+
+    net-whole : i + w ≤ length t → netRow gateway third (drop i t) ≡ got (rowAt gateway third (drop i t) w ∷ []) (drop (i + w) t)
+    unfolding netRow rowOfWidth
+    net-whole b =
+        rw (there, wide, ← e, ne-eqb w 0 (λ z. omega arith), le-ltb (length (drop i t)) w (omega (arith, length-drop i t)))
+        (ap (got (rowAt gateway third (drop i t) w ∷ [])) (drop-drop w i t))
+
+-- the goal is what the rest, k of count nets from octet i on, comes to; octet i may lie beyond the end, and then it is settled
+pub record Passing (goal : Skip) (count : ℕ) (f : List ℕ → Got (List Row)) (k : ℕ) (t : List ℕ) (i : ℕ) : Type 0 where
+  pub few : k ≤ count
+  pub inside : i ≤ length t → goal ≡ plus (count - k) (skipOf (many f k (drop i t)))
+  pub beyond : length t < i → goal ≡ Stop 0
+
+pub passing : (f : List ℕ → Got (List Row)) (count : ℕ) (t : List ℕ) → Passing (skipOf (many f count t)) count f count t 0
+passing f count t =
+    let e : 0 ≡ count - count = omega arith in
+    record { few = le-refl count; inside = λ b. plus-zero (skipOf (many f count t)) ∙ ap (λ (n : ℕ). plus n (skipOf (many f count t))) e; beyond = λ b. absurd (omega arith) }
+
+module _ (gateway third : ℕ) {goal : Skip} {count k : ℕ} {t : List ℕ} {i : ℕ} (inv : Passing goal count (netRow gateway third) k t i) where
+  module _ (some : 0 < k) where
+    stops : (left : ℕ) → i ≤ length t → netRow gateway third (drop i t) ≡ stop left → goal ≡ Stop left
+    unfolding plus skipOf
+    stops left b e = inv .inside b ∙ ap (λ (g : Got (List Row)). plus (count - k) (skipOf g)) (many-stop (netRow gateway third) k (drop i t) left some e)
+
+    nothing : length t ≤ i → netRow gateway third (drop i t) ≡ stop 0
+    unfolding netRow
+    nothing b = rw (drop-of-length-le t b)
+
+    pub pass-end : length t ≤ i → Stop 0 ≡ goal
+    pass-end b = go (leb i (length t)) refl
+      where
+        go : (x : Bool) → leb i (length t) ≡ x → Stop 0 ≡ goal
+        go true e = sym (stops 0 (leb-true i (length t) e) (nothing b))
+        go false e = sym (inv .beyond (leb-false i (length t) e))
+
+    module _ (h : i < length t) where
+      pub pass-none : 0 ≡ netWidth (getD t i 0) → Stop (length t - i) ≡ goal
+      pass-none e = sym (stops (length t - i) (omega arith) (net-none gateway third t i h e))
+
+      pub pass-net : (w : ℕ) → w ≡ netWidth (getD t i 0) → 0 < w → Passing goal count (netRow gateway third) (k - 1) t (i + w)
+      pass-net w e p =
+          let f = netRow gateway third in
+          let row = rowAt gateway third (drop i t) w in
+          let n : count - k + 1 ≡ count - (k - 1) = omega (arith, inv .few) in
+          record {
+            few = omega (arith, inv .few);
+            inside =
+                λ b.
+                inv .inside (omega arith)
+                ∙ ap (λ (g : Got (List Row)). plus (count - k) (skipOf g)) (many-next f k (drop i t) (row ∷ []) (drop (i + w) t) some (net-whole gateway third t i h w e p b))
+                ∙ plus-after (count - k) (row ∷ []) (many f (k - 1) (drop (i + w) t))
+                ∙ ap (λ (m : ℕ). plus m (skipOf (many f (k - 1) (drop (i + w) t)))) n;
+            beyond = λ b. stops 0 (omega arith) (net-short gateway third t i h w e p b);
+          }
+
+  pub pass-done : k ≤ 0 → i ≤ length t → Past count (length t - i) ≡ goal
+  unfolding plus skipOf
+  pass-done z b =
+      let n : count - k + 0 ≡ count = omega arith in
+      sym (inv .inside b ∙ ap (λ (g : Got (List Row)). plus (count - k) (skipOf g)) (many-none (netRow gateway third) k (drop i t) z)
+      ∙ ap (λ (m : ℕ). Past m (length (drop i t))) n ∙ ap (Past count) (length-drop i t))
 
 -- what the judge of a walk learns
 module _ (end : ℕ) (s : Skip) (count left : ℕ) (e : s ≡ Past count left) where

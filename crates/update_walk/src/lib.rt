@@ -3,7 +3,7 @@ ghost use mathlib.Core.Path.{_≡_};
 ghost use Prim.Native.Nat.{ℕ, _^_, _≤_, _<_};
 ghost use lib.ListN.{length};
 ghost use Rattle.update_walk.specs.Body.{bigEndian, many, netRow, groupRows, hostWidth, blockRows, bothSides, updateOf, walkedOf, walkedNumber};
-ghost use Rattle.update_walk.specs.Walked.{skipOf, netTaken, groupNets, walkVerdict, WithinEnd};
+ghost use Rattle.update_walk.specs.Walked.{skipOf, groupNets, walkVerdict, WithinEnd};
 
 // How far a part of the walk came: past so many rows, or to a stop; and how many octets are left there.
 enum Skip {
@@ -47,42 +47,41 @@ pub fn host_width(net: u32) -> usize
     4 - width
 }
 
-// How many octets the net at the front takes: 1, 2 or 3; 0 for a first octet of no class, 4 where octets are missing.
-fn net_step(t: &[u8]) -> usize
-    ensures { λ r. ⌜ r ≡ netTaken (now (t .entry)) ⌝ }
-{
-    if t.len() == 0 {
-        return 4;
-    }
-    let width = nets::net_width(t[0]);
-    if t.len() < width {
-        return 4;
-    }
-    width
-}
-
-// Past the nets of one distance group.
+// Past the nets of one distance group. A branch for each class, since a width computed from the first octet would make each
+// net's place wait for the octets of the net before it; whether a net's octets are all there shows at the next net, or at the end.
 fn skip_nets(t: &[u8], count: u8) -> Skip
     ensures { λ r. ⌜ ((gateway third : ℕ) → r ≡ skipOf (many (netRow gateway third) count (now (t .entry)))) ⌝ }
 {
-    let mut rows: usize = 0;
-    let mut u = t;
+    let mut i: usize = 0;
     let mut k = count;
     while 0 < k {
-        let width = net_step(u);
-        if width == 0 {
-            return Skip::Stop(u.len());
-        }
-        if width == 4 {
+        if t.len() <= i {
             return Skip::Stop(0);
         }
-        u = &u[width..];
-        rows += 1;
+        let first = t[i];
         k -= 1;
+        if first < 192 {
+            if first < 128 {
+                i += 1;
+                continue;
+            }
+            if t.len() <= i + 1 {
+                return Skip::Stop(0);
+            }
+            i += 2;
+            continue;
+        }
+        if 224 <= first {
+            return Skip::Stop(t.len() - i);
+        }
+        i += 3;
+    }
+    if t.len() < i {
+        return Skip::Stop(0);
     }
     Skip::Past {
-        rows,
-        left: u.len(),
+        rows: count as usize,
+        left: t.len() - i,
     }
 }
 

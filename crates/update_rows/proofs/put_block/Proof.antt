@@ -1,7 +1,5 @@
 -- `update_rows::put_block` meets its contract: what its groups leave. Assumes nothing.
 use Rattle.update_rows.proofs.Laws.{block-host, block-fits, block-some, block-room, block-stored}
-use Rattle.update_walk.proofs.Laws.{host-small}
-use mathlib.Core.Path.{sym}
 use native.Mathlib.Omega.{arith}
 use borrow.Author.Needs.{needs}
 use Rattle.update_rows.proofs.put_block.Statement.{statement}
@@ -10,46 +8,42 @@ use Rattle.update_rows.proofs.put_block.Tie as tie
 host-width-requires : tie.Need-host-width-requires
 host-width-requires c κs = search needs
 
-slice-aggregate-value : tie.Need-slice-aggregate-value
-slice-aggregate-value c = sym (block-host (c .before .before .before .before .args .side) (c .before .before .before .before .args .net) (c .before .before .before .before .args .t .now) (c .before .before .before .before .args .at) (c .before .before .before .before .args .part .now) (c .before .before .before .before .pre .0) (c .before .host-width .result) (c .before .host-width .ensures))
-
-value-requires : tie.Need-value-requires
-value-requires c κs = rw (block-host (c .before .before .before .before .args .side) (c .before .before .before .before .args .net) (c .before .before .before .before .args .t .now) (c .before .before .before .before .args .at) (c .before .before .before .before .args .part .now) (c .before .before .before .before .pre .0) (c .before .host-width .result) (c .before .host-width .ensures)) (omega (arith, c .before .host-width .ensures, host-small (c .before .before .before .before .args .net)))
+host-part-requires : tie.Need-host-part-requires
+host-part-requires c κs = block-host (c .before .before .before .args .side) (c .before .before .before .args .net) (c .before .before .before .args .t .now) (c .before .before .before .args .at) (c .before .before .before .args .part .now) (c .before .before .before .pre .0) (c .host-width .result) (c .host-width .ensures) (c .before .before .before .pre .1 .1)
 
 add-gateway : tie.Need-add-gateway
-add-gateway c = omega (arith, block-fits (c .before .before .before .before .before .args .side) (c .before .before .before .before .before .args .net) (c .before .before .before .before .before .args .t .now) (c .before .before .before .before .before .args .at) (c .before .before .before .before .before .args .part .now) (c .before .before .before .before .before .pre .0) (c .before .before .host-width .result) (c .before .before .host-width .ensures) (c .value .result) (c .before .before .before .before .before .pre .1 .1) (c .value .ensures .1) (omega (arith, c .before .before .before .before .before .fits .net)))
+add-gateway c = omega (arith, block-fits (c .before .before .before .before .args .side) (c .before .before .before .before .args .net) (c .before .before .before .before .args .t .now) (c .before .before .before .before .args .at) (c .before .before .before .before .args .part .now) (c .before .before .before .before .pre .0) (c .before .host-width .result) (c .before .host-width .ensures) (c .host-part .result) (c .before .before .before .before .pre .1 .1) (c .host-part .ensures .1) (omega (arith, c .before .before .before .before .fits .net)))
 
 add-from : tie.Need-add-from
-add-from c = omega (arith, block-some (c .before .before .before .before .before .args .side) (c .before .before .before .before .before .args .net) (c .before .before .before .before .before .args .t .now) (c .before .before .before .before .before .args .at) (c .before .before .before .before .before .args .part .now) (c .before .before .before .before .before .pre .0) (c .before .before .host-width .result) (c .before .before .host-width .ensures))
+add-from c = omega (arith, block-some (c .before .before .before .before .args .side) (c .before .before .before .before .args .net) (c .before .before .before .before .args .t .now) (c .before .before .before .before .args .at) (c .before .before .before .before .args .part .now) (c .before .before .before .before .pre .0) (c .before .host-width .result) (c .before .host-width .ensures))
 
 sub-put-groups : tie.Need-sub-put-groups
-sub-put-groups c = omega (arith, block-some (c .before .before .before .before .before .before .args .side) (c .before .before .before .before .before .before .args .net) (c .before .before .before .before .before .before .args .t .now) (c .before .before .before .before .before .before .args .at) (c .before .before .before .before .before .before .args .part .now) (c .before .before .before .before .before .before .pre .0) (c .before .before .before .host-width .result) (c .before .before .before .host-width .ensures))
+sub-put-groups c = omega (arith, block-some (c .before .before .before .before .before .args .side) (c .before .before .before .before .before .args .net) (c .before .before .before .before .before .args .t .now) (c .before .before .before .before .before .args .at) (c .before .before .before .before .before .args .part .now) (c .before .before .before .before .before .pre .0) (c .before .before .host-width .result) (c .before .before .host-width .ensures))
 
 part-put-groups-start : tie.Need-part-put-groups-start
-part-put-groups-start c = omega (arith, block-some (c .before .before .before .before .before .before .args .side) (c .before .before .before .before .before .before .args .net) (c .before .before .before .before .before .before .args .t .now) (c .before .before .before .before .before .before .args .at) (c .before .before .before .before .before .before .args .part .now) (c .before .before .before .before .before .before .pre .0) (c .before .before .before .host-width .result) (c .before .before .before .host-width .ensures))
+part-put-groups-start c = omega (arith, block-some (c .before .before .before .before .before .args .side) (c .before .before .before .before .before .args .net) (c .before .before .before .before .before .args .t .now) (c .before .before .before .before .before .args .at) (c .before .before .before .before .before .args .part .now) (c .before .before .before .before .before .pre .0) (c .before .before .host-width .result) (c .before .before .host-width .ensures))
 
 part-put-groups-end : tie.Need-part-put-groups-end
 part-put-groups-end c = search needs
 
 shared-slice-read-put-groups : tie.Need-shared-slice-read-put-groups
-shared-slice-read-put-groups c = block-some (c .before .before .before .before .before .before .before .before .args .side) (c .before .before .before .before .before .before .before .before .args .net) (c .before .before .before .before .before .before .before .before .args .t .now) (c .before .before .before .before .before .before .before .before .args .at) (c .before .before .before .before .before .before .before .before .args .part .now) (c .before .before .before .before .before .before .before .before .pre .0) (c .before .before .before .before .before .host-width .result) (c .before .before .before .before .before .host-width .ensures)
+shared-slice-read-put-groups c = block-some (c .before .before .before .before .before .before .before .args .side) (c .before .before .before .before .before .before .before .args .net) (c .before .before .before .before .before .before .before .args .t .now) (c .before .before .before .before .before .before .before .args .at) (c .before .before .before .before .before .before .before .args .part .now) (c .before .before .before .before .before .before .before .pre .0) (c .before .before .before .before .host-width .result) (c .before .before .before .before .host-width .ensures)
 
 put-groups-requires : tie.Need-put-groups-requires
-put-groups-requires c κs = (block-room (c .before .before .before .before .before .before .before .before .args .side) (c .before .before .before .before .before .before .before .before .args .net) (c .before .before .before .before .before .before .before .before .args .t .now) (c .before .before .before .before .before .before .before .before .args .at) (c .before .before .before .before .before .before .before .before .args .part .now) (c .before .before .before .before .before .before .before .before .pre .0) (c .before .before .before .before .before .host-width .result) (c .before .before .before .before .before .host-width .ensures) (c .before .before .before .value .result) (c .before .before .before .value .ensures .0), c .before .before .before .before .before .before .before .before .pre .1 .0)
+put-groups-requires c κs = (block-room (c .before .before .before .before .before .before .before .args .side) (c .before .before .before .before .before .before .before .args .net) (c .before .before .before .before .before .before .before .args .t .now) (c .before .before .before .before .before .before .before .args .at) (c .before .before .before .before .before .before .before .args .part .now) (c .before .before .before .before .before .before .before .pre .0) (c .before .before .before .before .host-width .result) (c .before .before .before .before .host-width .ensures) (c .before .before .before .host-part .result) (c .before .before .before .host-part .ensures .0), c .before .before .before .before .before .before .before .pre .1 .0)
 
 same-length : tie.Need-same-length
 same-length c = search needs
 
 returns : tie.Need-returns
-returns c = block-stored (c .before .before .before .before .before .before .before .before .before .before .before .args .side) (c .before .before .before .before .before .before .before .before .before .before .before .args .net) (c .before .before .before .before .before .before .before .before .before .before .before .args .t .now) (c .before .before .before .before .before .before .before .before .before .before .before .args .at) (c .before .before .before .before .before .before .before .before .before .before .before .args .part .now) (c .before .before .before .before .before .before .before .before .before .before .before .pre .0) (c .before .before .before .before .before .before .before .before .host-width .result) (c .before .before .before .before .before .before .before .before .host-width .ensures) (c .before .before .before .before .before .before .value .result) (c .before .before .before .before .before .before .value .ensures .0) _ _ (c .before .before .put-groups .ensures)
+returns c = block-stored (c .before .before .before .before .before .before .before .before .before .before .args .side) (c .before .before .before .before .before .before .before .before .before .before .args .net) (c .before .before .before .before .before .before .before .before .before .before .args .t .now) (c .before .before .before .before .before .before .before .before .before .before .args .at) (c .before .before .before .before .before .before .before .before .before .before .args .part .now) (c .before .before .before .before .before .before .before .before .before .before .pre .0) (c .before .before .before .before .before .before .before .host-width .result) (c .before .before .before .before .before .before .before .host-width .ensures) (c .before .before .before .before .before .before .host-part .result) (c .before .before .before .before .before .before .host-part .ensures .0) _ _ (c .before .before .put-groups .ensures)
 
 pub put-block-spec : {M : Type 1} → statement M
 put-block-spec =
     tie.close
     (tie.spec
     host-width-requires
-    slice-aggregate-value
-    value-requires
+    host-part-requires
     add-gateway
     add-from
     sub-put-groups

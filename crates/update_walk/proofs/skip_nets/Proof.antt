@@ -1,56 +1,80 @@
 -- `update_walk::skip_nets` meets its contract: what is left to skip comes to the same as the whole. Assumes nothing.
-use Rattle.update_walk.proofs.Turns.{Skipping, start, turn-stop, turns-done, turn-net, step-none, step-short, stepped}
+use Rattle.update_walk.proofs.Laws.{class-a, class-b, class-c, classless}
+use Rattle.update_walk.proofs.Turns.{Passing, passing, pass-end, pass-none, pass-net, pass-done}
 use Rattle.update_walk.specs.Walked.{skipOf}
 use Rattle.update_walk.specs.Body.{many, netRow}
-use lib.ListN.{length}
-use mathlib.Core.Path.{sym, _∙_}
+use lib.ListN.{getD}
+use mathlib.Core.Path.{sym}
 use Prim.Native.Nat.{ℕ}
 use native.Mathlib.Omega.{arith}
-use borrow.Author.Needs.{needs}
 use Rattle.update_walk.proofs.skip_nets.Statement.{statement}
 use Rattle.update_walk.proofs.skip_nets.Tie as tie
 
 abbrev Inv-loop : tie.InvT-loop
-Inv-loop t count rows₀ u₀ k₀ rows u k = (gateway third : ℕ) → Skipping (skipOf (many (netRow gateway third) count t)) (length t) rows (netRow gateway third) k u
+Inv-loop t count i₀ k₀ i k = (gateway third : ℕ) → Passing (skipOf (many (netRow gateway third) count t)) count (netRow gateway third) k t i
 
 abbrev μ-loop : tie.MeasureT-loop
-μ-loop t count rows₀ u₀ k₀ rows u k = k
+μ-loop t count i₀ k₀ i k = k
 
 loop-holds : tie.Need-loop-holds Inv-loop μ-loop
-loop-holds c = λ gateway third. start _ _ _
-
-net-step-requires : tie.Need-net-step-requires Inv-loop μ-loop
-net-step-requires c κs = search needs
+loop-holds c = λ gateway third. passing _ _ _
 
 returns : tie.Need-returns Inv-loop μ-loop
-returns c = λ gateway third. turn-stop (c .before .before .before .loop .inv gateway third) _ (c .before .before .loop-test .taken) (step-none gateway third _ (sym (c .before .net-step .ensures) ∙ c .if1 .taken))
+returns c = λ gateway third. pass-end gateway third (c .before .before .loop .inv gateway third) (c .before .loop-test .taken) (c .if1 .taken)
 
-returns-2 : tie.Need-returns-2 Inv-loop μ-loop
-returns-2 c = λ gateway third. turn-stop (c .before .before .before .before .loop .inv gateway third) _ (c .before .before .before .loop-test .taken) (step-short gateway third _ (sym (c .before .before .net-step .ensures) ∙ c .if2 .taken))
-
-sub-u : tie.Need-sub-u Inv-loop μ-loop
-sub-u c = (stepped 0 0 _ _ (c .before .before .net-step .ensures) (c .before .if1 .left) (c .if2 .left)) .fits
-
-part-u-start : tie.Need-part-u-start Inv-loop μ-loop
-part-u-start c = omega (arith, (stepped 0 0 (c .before .before .before .before .loop .u .now) (c .before .before .net-step .result) (c .before .before .net-step .ensures) (c .before .if1 .left) (c .if2 .left)) .fits)
-
-part-u-end : tie.Need-part-u-end Inv-loop μ-loop
-part-u-end c = omega arith
-
-add-rows : tie.Need-add-rows Inv-loop μ-loop
-add-rows c = let s = stepped 0 0 (c .before .before .before .before .before .loop .u .now) (c .before .before .before .net-step .result) (c .before .before .before .net-step .ensures) (c .before .before .if1 .left) (c .before .if2 .left) in omega (arith, s .fits, s .some, (c .before .before .before .before .before .loop .inv 0 0) .fits)
+shared-slice-read-first : tie.Need-shared-slice-read-first Inv-loop μ-loop
+shared-slice-read-first c = omega arith
 
 sub-k : tie.Need-sub-k Inv-loop μ-loop
 sub-k c = omega arith
+
+add-i : tie.Need-add-i Inv-loop μ-loop
+add-i c = omega arith
 
 loop-less : tie.Need-loop-less Inv-loop μ-loop
 loop-less c = omega arith
 
 loop-again : tie.Need-loop-again Inv-loop μ-loop
-loop-again c = λ gateway third. turn-net (c .before .before .before .before .before .loop .inv gateway third) (c .before .before .before .net-step .result) (c .before .before .before .before .loop-test .taken) (stepped gateway third _ _ (c .before .before .before .net-step .ensures) (c .before .before .if1 .left) (c .before .if2 .left))
+loop-again c = λ gateway third. pass-net gateway third (c .before .before .before .before .before .loop .inv gateway third) (c .before .before .before .before .loop-test .taken) (c .before .before .before .if1 .left) 1 (class-a (getD (c .before .before .before .before .before .before .args .t .now) (c .before .before .before .before .before .loop .i) 0) (c .if3 .taken)) (omega arith)
+
+add-if4 : tie.Need-add-if4 Inv-loop μ-loop
+add-if4 c = omega arith
+
+returns-2 : tie.Need-returns-2 Inv-loop μ-loop
+returns-2 c = λ gateway third. sym ((pass-net gateway third (c .before .before .before .before .before .before .loop .inv gateway third) (c .before .before .before .before .before .loop-test .taken) (c .before .before .before .before .if1 .left) 2 (class-b (getD (c .before .before .before .before .before .before .before .args .t .now) (c .before .before .before .before .before .before .loop .i) 0) (c .before .if3 .left) (c .before .before .if2 .taken)) (omega arith)) .beyond (omega (arith, c .if4 .taken)))
+
+add-i-2 : tie.Need-add-i-2 Inv-loop μ-loop
+add-i-2 c = omega arith
+
+loop-less-2 : tie.Need-loop-less-2 Inv-loop μ-loop
+loop-less-2 c = omega arith
+
+loop-again-2 : tie.Need-loop-again-2 Inv-loop μ-loop
+loop-again-2 c = λ gateway third. pass-net gateway third (c .before .before .before .before .before .before .loop .inv gateway third) (c .before .before .before .before .before .loop-test .taken) (c .before .before .before .before .if1 .left) 2 (class-b (getD (c .before .before .before .before .before .before .before .args .t .now) (c .before .before .before .before .before .before .loop .i) 0) (c .before .if3 .left) (c .before .before .if2 .taken)) (omega arith)
+
+sub-t14 : tie.Need-sub-t14 Inv-loop μ-loop
+sub-t14 c = omega arith
 
 returns-3 : tie.Need-returns-3 Inv-loop μ-loop
-returns-3 c = λ gateway third. turns-done (c .before .loop .inv gateway third) (c .loop-test .left)
+returns-3 c = λ gateway third. pass-none gateway third (c .before .before .before .before .before .loop .inv gateway third) (c .before .before .before .before .loop-test .taken) (c .before .before .before .if1 .left) (classless (getD (c .before .before .before .before .before .before .args .t .now) (c .before .before .before .before .before .loop .i) 0) (c .if5 .taken))
+
+add-i-3 : tie.Need-add-i-3 Inv-loop μ-loop
+add-i-3 c = omega (arith, c .before .before .before .before .before .before .good .0)
+
+loop-less-3 : tie.Need-loop-less-3 Inv-loop μ-loop
+loop-less-3 c = omega arith
+
+loop-again-3 : tie.Need-loop-again-3 Inv-loop μ-loop
+loop-again-3 c = λ gateway third. pass-net gateway third (c .before .before .before .before .before .loop .inv gateway third) (c .before .before .before .before .loop-test .taken) (c .before .before .before .if1 .left) 3 (class-c (getD (c .before .before .before .before .before .before .args .t .now) (c .before .before .before .before .before .loop .i) 0) (c .before .if2 .left) (c .if5 .left)) (omega arith)
+
+returns-4 : tie.Need-returns-4 Inv-loop μ-loop
+returns-4 c = λ gateway third. sym ((c .before .before .loop .inv gateway third) .beyond (c .if6 .taken))
+
+sub-t18 : tie.Need-sub-t18 Inv-loop μ-loop
+sub-t18 c = omega arith
+
+returns-5 : tie.Need-returns-5 Inv-loop μ-loop
+returns-5 c = λ gateway third. pass-done gateway third (c .before .before .loop .inv gateway third) (c .before .loop-test .left) (c .if6 .left)
 
 pub skip-nets-spec : {M : Type 1} → statement M
 skip-nets-spec =
@@ -59,14 +83,22 @@ skip-nets-spec =
     Inv-loop
     μ-loop
     loop-holds
-    net-step-requires
     returns
-    returns-2
-    sub-u
-    part-u-start
-    part-u-end
-    add-rows
+    shared-slice-read-first
     sub-k
+    add-i
     loop-less
     loop-again
-    returns-3)
+    add-if4
+    returns-2
+    add-i-2
+    loop-less-2
+    loop-again-2
+    sub-t14
+    returns-3
+    add-i-3
+    loop-less-3
+    loop-again-3
+    returns-4
+    sub-t18
+    returns-5)

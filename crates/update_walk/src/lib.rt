@@ -47,8 +47,9 @@ pub fn host_width(net: u32) -> usize
     4 - width
 }
 
-// Past the nets of one distance group. A branch for each class, since a width computed from the first octet would make each
-// net's place wait for the octets of the net before it; whether a net's octets are all there shows at the next net, or at the end.
+// Past the nets of one distance group. A branch for each class: a width computed from the first octet would make each
+// net's place wait for the octets of the net before it. Whether a net's octets are all there shows at the next net or
+// at the end.
 fn skip_nets(t: &[u8], count: u8) -> Skip
     ensures { λ r. ⌜ ((gateway third : ℕ) → r ≡ skipOf (many (netRow gateway third) count (now (t .entry)))) ⌝ }
 {

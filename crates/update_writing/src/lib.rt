@@ -69,26 +69,28 @@ pub fn writable(net: u32, rows: &[u32]) -> bool
     true
 }
 
-// The four octets of an address.
-fn address_octets(address: u32) -> [u8; 4]
-    ensures { λ r. ⌜ r ≡ addressOctets address ⌝ }
-{
-    [
-        (address / 16777216 % 256) as u8,
-        (address / 65536 % 256) as u8,
-        (address / 256 % 256) as u8,
-        (address % 256) as u8,
-    ]
-}
-
-// Writes the net part of a net.
+// Writes the net part of a net: an octet a store, since a copy of so few octets is a call.
 fn write_net(out: &mut [u8], at: usize, net: u32) -> usize
     requires { ⌜ at + length (netOctets net) ≤ length (now out) ⌝ }
     ensures { λ r. ⌜ Written (netOctets net) at (now (out .entry)) (now (out .exit)) r ⌝ }
 {
-    let octets = address_octets(net);
     let width = nets::width_of(net);
-    octets::put(out, at, &octets[..width])
+    if width == 3 {
+        out[at] = octets::first_of(net);
+        out[at + 1] = octets::second_of(net);
+        out[at + 2] = octets::third_of(net);
+        return at + 3;
+    }
+    if width == 2 {
+        out[at] = octets::first_of(net);
+        out[at + 1] = octets::second_of(net);
+        return at + 2;
+    }
+    if width == 1 {
+        out[at] = octets::first_of(net);
+        return at + 1;
+    }
+    at
 }
 
 // Writes the host part of a gateway.
@@ -96,9 +98,24 @@ fn write_host(out: &mut [u8], at: usize, net: u32, gateway: u32) -> usize
     requires { ⌜ at + length (hostOctets net gateway) ≤ length (now out) ⌝ }
     ensures { λ r. ⌜ Written (hostOctets net gateway) at (now (out .entry)) (now (out .exit)) r ⌝ }
 {
-    let octets = address_octets(gateway);
-    let start = nets::width_of(net);
-    octets::put(out, at, &octets[start..])
+    let width = nets::width_of(net);
+    if width == 3 {
+        out[at] = octets::fourth_of(gateway);
+        return at + 1;
+    }
+    if width == 2 {
+        out[at] = octets::third_of(gateway);
+        out[at + 1] = octets::fourth_of(gateway);
+        return at + 2;
+    }
+    if width == 1 {
+        out[at] = octets::second_of(gateway);
+        out[at + 1] = octets::third_of(gateway);
+        out[at + 2] = octets::fourth_of(gateway);
+        return at + 3;
+    }
+    octets::put32(out, at, gateway);
+    at + 4
 }
 
 // How many numbers the first run of rows takes, of equal numbers in a column.

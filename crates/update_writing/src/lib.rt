@@ -8,7 +8,7 @@ ghost use Rattle.octets.specs.Written.{Written};
 ghost use Rattle.nets.specs.Classes.{goodNet};
 ghost use Rattle.nets.specs.Rows.{rowsOf};
 ghost use Rattle.update_writing.specs.Blocks.{addressOctets, netOctets, hostOctets, netsOctets, groupOctets, groupsOctets, blockOctets, sideOctets, sideRows, distanceRuns, gatewayRuns, blocksWritten, internalBlocks, externalBlocks};
-ghost use Rattle.update_writing.specs.Writable.{mostWrittenNumbers, writableNumbers, writableRow};
+ghost use Rattle.update_writing.specs.Writable.{mostWrittenNumbers, ordered, writableNumbers, writableRow};
 ghost use Rattle.update_writing.specs.Steps.{column, runLength};
 
 // How many numbers the writer takes, three a row: 128 rows.
@@ -228,6 +228,21 @@ fn internal_numbers(rows: &[u32]) -> usize
     numbers
 }
 
+// The same of rows in order: all, where the last one is internal.
+fn split_of(rows: &[u32]) -> usize
+    requires { ⌜ (length (now rows) % 3 ≡ 0) × (ordered 0 (rowsOf (now rows)) ≡ true) ⌝ }
+    ensures { λ r. ⌜ r ≡ 3 * length (sideRows 0 (rowsOf (now (rows .entry)))) ⌝ }
+{
+    let numbers = rows.len();
+    if numbers < 3 {
+        return 0;
+    }
+    if rows[numbers - 1] < 256 {
+        return numbers;
+    }
+    internal_numbers(rows)
+}
+
 // Writes the gateway blocks of writable rows from index `at` on, internal blocks first.
 pub fn write_blocks(out: &mut [u8], at: usize, net: u32, rows: &[u32]) -> Blocks
     requires { ⌜ (goodNet net ≡ true) × (writableNumbers net (now rows) ≡ true) ⌝ }
@@ -237,7 +252,7 @@ pub fn write_blocks(out: &mut [u8], at: usize, net: u32, rows: &[u32]) -> Blocks
     ensures { λ r. ⌜ r .internal ≡ internalBlocks (rowsOf (now (rows .entry))) ⌝ }
     ensures { λ r. ⌜ r .external ≡ externalBlocks (rowsOf (now (rows .entry))) ⌝ }
 {
-    let split = internal_numbers(rows);
+    let split = split_of(rows);
     let internal = write_side(out, at, net, &rows[..split]);
     let middle = internal.end;
     let external = write_side(out, middle, net, &rows[split..]);

@@ -2,14 +2,14 @@
 ghost use mathlib.Core.Path.{_≡_};
 ghost use mathlib.Core.Bool.{true};
 ghost use Prim.Native.Nat.{_+_, _*_, _≤_, _<_, _%_};
-ghost use lib.ListN.{length};
+ghost use lib.ListN.{length, take};
 ghost use lib.Seq.{sets};
 ghost use Rattle.octets.specs.Written.{Written};
 ghost use Rattle.nets.specs.Classes.{goodNet};
 ghost use Rattle.nets.specs.Rows.{rowsOf};
 ghost use Rattle.update_writing.specs.Blocks.{addressOctets, netOctets, hostOctets, netsOctets, groupOctets, groupsOctets, blockOctets, sideOctets, sideRows, distanceRuns, gatewayRuns, blocksWritten, internalBlocks, externalBlocks};
 ghost use Rattle.update_writing.specs.Writable.{mostWrittenNumbers, ordered, writableNumbers, writableRow};
-ghost use Rattle.update_writing.specs.Steps.{column, runLength};
+ghost use Rattle.update_writing.specs.Steps.{column, agreeing, runLength};
 
 // How many numbers the writer takes, three a row: 128 rows.
 const MOST_NUMBERS: usize = 384;
@@ -19,6 +19,12 @@ pub struct Blocks {
     pub end: usize,
     pub internal: u8,
     pub external: u8,
+}
+
+// Where a run ends in the buffer, and how many numbers it takes.
+struct Group {
+    end: usize,
+    numbers: usize,
 }
 
 // Where a sequence of runs ends in the buffer, and how many runs it has.
@@ -136,29 +142,40 @@ fn run(rows: &[u32], by: usize) -> usize
     numbers
 }
 
-// Writes the nets of rows.
-fn write_nets(out: &mut [u8], at: usize, rows: &[u32]) -> usize
-    requires { ⌜ at + length (netsOctets (rowsOf (now rows))) ≤ length (now out) ⌝ }
-    ensures { λ r. ⌜ Written (netsOctets (rowsOf (now (rows .entry)))) at (now (out .entry)) (now (out .exit)) r ⌝ }
+// Writes the nets of the rows at the front whose third number is this one, and counts their numbers on the way.
+fn write_nets(out: &mut [u8], at: usize, third: u32, rows: &[u32]) -> Group
+    requires { ⌜ at + length (netsOctets (take (agreeing (column 2) third (rowsOf (now rows))) (rowsOf (now rows)))) ≤ length (now out) ⌝ }
+    ensures { λ r. ⌜ Written (netsOctets (take (agreeing (column 2) third (rowsOf (now (rows .entry)))) (rowsOf (now (rows .entry))))) at (now (out .entry)) (now (out .exit)) (r .end) ⌝ }
+    ensures { λ r. ⌜ r .numbers ≡ 3 * agreeing (column 2) third (rowsOf (now (rows .entry))) ⌝ }
 {
     let mut end = at;
+    let mut numbers = 0;
     let mut rest = rows;
     while 2 < rest.len() {
+        if rest[2] != third {
+            return Group { end, numbers };
+        }
         end = write_net(out, end, rest[0]);
+        numbers += 3;
         rest = &rest[3..];
     }
-    end
+    Group { end, numbers }
 }
 
-// Writes a run of one distance: distance, number of nets, nets.
-fn write_group(out: &mut [u8], at: usize, rows: &[u32]) -> usize
+// Writes the first run of one distance: distance, number of nets, nets.
+fn write_group(out: &mut [u8], at: usize, rows: &[u32]) -> Group
     requires { ⌜ (2 < length (now rows)) × (length (now rows) ≤ mostWrittenNumbers) ⌝ }
-    requires { ⌜ at + length (groupOctets (rowsOf (now rows))) ≤ length (now out) ⌝ }
-    ensures { λ r. ⌜ Written (groupOctets (rowsOf (now (rows .entry)))) at (now (out .entry)) (now (out .exit)) r ⌝ }
+    requires { ⌜ at + length (groupOctets (rowsOf (take (3 * runLength (column 2) (rowsOf (now rows))) (now rows)))) ≤ length (now out) ⌝ }
+    ensures { λ r. ⌜ Written (groupOctets (rowsOf (take (r .numbers) (now (rows .entry))))) at (now (out .entry)) (now (out .exit)) (r .end) ⌝ }
+    ensures { λ r. ⌜ r .numbers ≡ 3 * runLength (column 2) (rowsOf (now (rows .entry))) ⌝ }
 {
-    out[at] = (rows[2] % 256) as u8;
-    out[at + 1] = (rows.len() / 3) as u8;
-    write_nets(out, at + 2, rows)
+    let third = rows[2];
+    out[at] = (third % 256) as u8;
+    let nets = write_nets(out, at + 2, third, rows);
+    let end = nets.end;
+    let numbers = nets.numbers;
+    out[at + 1] = (numbers / 3) as u8;
+    Group { end, numbers }
 }
 
 // Writes the groups of a run of one gateway.
@@ -172,8 +189,9 @@ fn write_groups(out: &mut [u8], at: usize, rows: &[u32]) -> Sequence
     let mut found: usize = 0;
     let mut rest = rows;
     while 2 < rest.len() {
-        let numbers = run(rest, 2);
-        end = write_group(out, end, &rest[..numbers]);
+        let group = write_group(out, end, rest);
+        let numbers = group.numbers;
+        end = group.end;
         found += 1;
         rest = &rest[numbers..];
     }

@@ -3,3 +3,4 @@ pub mod Runs
 pub mod Claims
 pub mod Loops
 pub mod Stores
+pub mod Order

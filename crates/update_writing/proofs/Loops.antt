@@ -5,8 +5,8 @@ use native.Mathlib.Omega.{arith}
 use mathlib.Core.Bool.{Bool, true, false, _&&_}
 use mathlib.Core.Path.{_≡_, refl, sym, ap, _∙_}
 use mathlib.Core.List.{List, [], _∷_, _++_}
-use borrow.Author.Tests.{eqb-true, eq-eqb, ne-eqb, leb-true, le-leb, lt-leb}
-use lib.Dec.{leb, eqb}
+use borrow.Author.Tests.{eqb-true, eq-eqb, ne-eqb, le-leb, lt-leb}
+use lib.Dec.{eqb}
 use lib.ListN.{length, take, drop, getD, set, length-drop, length-append}
 use lib.Seq.{sets, length-sets, length-take-le}
 use Rattle.checks.proofs.Laws.{and-left, and-right, part-from}
@@ -63,39 +63,6 @@ module _ (u : List ℕ) (h : 2 < length u) where
 pub internal-end : (u : List ℕ) → length u ≤ 2 → length (sideRows 0 (rowsOf u)) ≡ 0
 unfolding sideRows
 internal-end u h = rw (rows-short u h)
-
--- the last number, a row further
-last-next : (a b c : ℕ) (v : List ℕ) → 0 < length v → getD (a ∷ b ∷ c ∷ v) (length (a ∷ b ∷ c ∷ v) - 1) 0 ≡ getD v (length v - 1) 0
-last-next a b c [] h = absurd (omega arith)
-last-next a b c (d ∷ v) h =
-    let e : suc (suc (suc (suc (length v)))) - 1 ≡ suc (suc (suc (length v))) = omega arith in
-    let f : suc (length v) - 1 ≡ length v = omega arith in
-    rw (e, f)
-
--- split_of: where the last row is internal, rows in order are all internal, and none of the other side comes before them
-in-order : (side : ℕ) (u : List ℕ) → 2 < length u → length u % 3 ≡ 0 → ordered side (rowsOf u) ≡ true → getD u (length u - 1) 0 < 256
-    → (side ≡ 0) × (length u ≡ 3 * length (sideRows 0 (rowsOf u)))
-unfolding rowsOf ordered sideRows
-in-order side [] h m o l = absurd (omega arith)
-in-order side (a ∷ []) h m o l = absurd (omega arith)
-in-order side (a ∷ b ∷ []) h m o l = absurd (omega arith)
-in-order side (a ∷ b ∷ c ∷ []) h m o l =
-    let e : c / 256 ≡ 0 = omega arith in
-    (omega (arith, leb-true side (c / 256) (and-left (leb side (c / 256)) true o)), rw e)
-in-order side (a ∷ b ∷ c ∷ d ∷ []) h m o l = absurd (omega arith)
-in-order side (a ∷ b ∷ c ∷ d ∷ f ∷ []) h m o l = absurd (omega arith)
-in-order side (a ∷ b ∷ c ∷ d ∷ f ∷ g ∷ u) h m o l =
-    let r = in-order (c / 256) (d ∷ f ∷ g ∷ u) (omega arith) (omega arith) (and-right (leb side (c / 256)) (ordered (c / 256) (rowsOf (d ∷ f ∷ g ∷ u))) o) (rw (last-next a b c (d ∷ f ∷ g ∷ u) (omega arith)) at l) in
-    (omega (arith, r .0, leb-true side (c / 256) (and-left (leb side (c / 256)) (ordered (c / 256) (rowsOf (d ∷ f ∷ g ∷ u))) o)), rw (r .0) (omega (arith, r .1)))
-
-pub all-internal : (u : List ℕ) → 2 < length u → length u % 3 ≡ 0 → ordered 0 (rowsOf u) ≡ true → getD u (length u - 1) 0 < 256
-    → length u ≡ 3 * length (sideRows 0 (rowsOf u))
-all-internal u h m o l = in-order 0 u h m o l .1
-
--- what split_of asks
-pub split-asked : (net : ℕ) (u : List ℕ) → writableNumbers net u ≡ true → (length u % 3 ≡ 0) × (ordered 0 (rowsOf u) ≡ true)
-unfolding writableNumbers writableRows
-split-asked net u e = (eqb-true (length u % 3) 0 (search and-left), search (and-left, and-right))
 
 -- writable: what is left to test after a row of this side
 unfoldable pub allowed : ℕ → ℕ → List Row → Bool

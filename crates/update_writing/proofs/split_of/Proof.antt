@@ -1,6 +1,7 @@
 -- `update_writing::split_of` meets its contract: no row, all rows, or the internal ones counted. Assumes nothing.
 use native.Mathlib.Omega.{arith}
-use Rattle.update_writing.proofs.Loops.{internal-end, all-internal}
+use Rattle.update_writing.proofs.Loops.{internal-end}
+use Rattle.update_writing.proofs.Order.{all-internal}
 use borrow.Author.Needs.{needs}
 use Rattle.update_writing.proofs.split_of.Statement.{statement}
 use Rattle.update_writing.proofs.split_of.Tie as tie

@@ -2,7 +2,8 @@
 use native.Mathlib.Omega.{arith}
 use borrow.Author.Needs.{needs}
 use mathlib.Core.Path.{sym, _∙_}
-use Rattle.update_writing.proofs.Loops.{split-asked, Split, split-in, split-most, internal-length, internal-asked, external-asked, blocks-written, internal-count, external-count}
+use Rattle.update_writing.proofs.Loops.{Split, split-in, split-most, internal-length, internal-asked, external-asked, blocks-written, internal-count, external-count}
+use Rattle.update_writing.proofs.Order.{split-asked}
 use Rattle.update_writing.proofs.write_blocks.Statement.{statement}
 use Rattle.update_writing.proofs.write_blocks.Tie as tie
 

@@ -1,26 +1,56 @@
 -- Laws of a message that is stored header first, then its fields, then its checksum. Assumes nothing.
-use Prim.Native.Nat.{ℕ, _≤_}
+use Prim.Native.Nat.{ℕ, zero, suc, _+_, _-_, _*_, _/_, _%_, _≤_, _<_}
 use native.Mathlib.Omega.{arith}
-use mathlib.Core.Path.{_≡_, refl, ap, _∙_}
+use mathlib.Core.Path.{_≡_, refl, sym, ap, _∙_}
 use mathlib.Core.List.{List, [], _∷_, _++_}
 use lib.ListN.{length, take, drop}
 use lib.Seq.{sets}
-use Rattle.octets.specs.Numbers.{octets16, octets32}
+use Rattle.octets.specs.Numbers.{Octets, octets16, octets32}
 use Rattle.octets.specs.Buffer.{over}
-use Rattle.octets_checksum.specs.Checksum.{sealed}
+use Rattle.octets_checksum.specs.Checksum.{sealed, checksumOf, wordTotal, folded}
 use Rattle.octets.proofs.Buffer.{over-length}
 use Rattle.octets.proofs.Numbers.{over-more}
-use Rattle.octets_checksum.proofs.Laws.{over-sealed}
+use Rattle.octets_checksum.proofs.Laws.{over-sealed, fold-sum, folds}
+use Rattle.octets_checksum.proofs.Wide.{fold-halves}
 use Rattle.message.specs.declared.Kind.{Kind}
 use Rattle.message.specs.declared.Kind.the-variants.{Poll, Update, Error}
 use Rattle.message_writing.specs.Writing.{headed, headOf}
 
+-- a sum of four words at most: the carries brought round twice
+round-fits : (n : ℕ) → n < 65539 → n / 65536 + n % 65536 < 65536
+round-fits n h = omega arith
+
+pub fold-few : (sum : ℕ) → sum < 262144 → (sum / 65536 + sum % 65536) / 65536 + (sum / 65536 + sum % 65536) % 65536 ≡ folded sum
+fold-few sum h =
+    fold-sum ((sum / 65536 + sum % 65536) / 65536 + (sum / 65536 + sum % 65536) % 65536) (round-fits (sum / 65536 + sum % 65536) (omega arith))
+    ∙ fold-halves (sum / 65536 + sum % 65536) ∙ fold-halves sum
+
+octets-cons : (a : ℕ) (l : List ℕ) → a < 256 → Octets l → Octets (a ∷ l)
+octets-cons a l h o zero = h
+octets-cons a l h o (suc i) = o i
+
+octets-two : (n : ℕ) (l : List ℕ) → Octets l → Octets (octets16 n l)
+octets-two n l o = octets-cons (n / 256 % 256) (n % 256 ∷ l) (omega arith) (octets-cons (n % 256) l (omega arith) o)
+
+-- the checksum of ten octets from the words that they are made of
+pub short-sum : (number code status asn sequence : ℕ) → number < 256 → code < 256 → status < 256 → asn < 65536 → sequence < 65536
+    → 65535 - folded (512 + number + code * 256 + status + asn + sequence) ≡ checksumOf (2 ∷ number ∷ code ∷ status ∷ 0 ∷ 0 ∷ octets16 asn (octets16 sequence []))
+unfolding checksumOf wordTotal
+short-sum number code status asn sequence n k s a q =
+    let l : List ℕ = 2 ∷ number ∷ code ∷ status ∷ 0 ∷ 0 ∷ octets16 asn (octets16 sequence []) in
+    let tail : List ℕ = octets16 asn (octets16 sequence []) in
+    let o : Octets tail = octets-two asn (octets16 sequence []) (octets-two sequence [] (λ i. omega arith)) in
+    let e : 512 + number + code * 256 + status + asn + sequence ≡ wordTotal l = omega arith in
+    ap (λ (x : ℕ). 65535 - x)
+    (ap folded e
+    ∙ sym (folds .once l
+    (octets-cons 2 (number ∷ code ∷ status ∷ 0 ∷ 0 ∷ tail) (omega arith)
+    (octets-cons number (code ∷ status ∷ 0 ∷ 0 ∷ tail) n
+    (octets-cons code (status ∷ 0 ∷ 0 ∷ tail) k (octets-cons status (0 ∷ 0 ∷ tail) s (octets-cons 0 (0 ∷ tail) (omega arith) (octets-cons 0 tail (omega arith) o))))))))
+
 module _ (b h x : List ℕ) (k : Kind) (a q s : ℕ) (is : h ≡ headed k a q s []) (e : x ≡ over h b) where
   stored : x ≡ over (headed k a q s []) b
   stored = e ∙ ap (λ (l : List ℕ). over l b) is
-
-  pub short-written : (y : List ℕ) → y ≡ sealed (take 10 x) ++ drop 10 x → y ≡ over (sealed (headed k a q s [])) b
-  short-written y f = f ∙ over-sealed (headed k a q s []) b x 10 stored refl
 
   pub intervals-written : 14 ≤ length b → (hello poll : ℕ) (x1 x2 y : List ℕ) → x1 ≡ sets x 10 (octets16 hello []) → x2 ≡ sets x1 12 (octets16 poll [])
       → y ≡ sealed (take 14 x2) ++ drop 14 x2 → y ≡ over (sealed (headed k a q s (octets16 hello (octets16 poll [])))) b

@@ -2,10 +2,10 @@
 use message::Kind;
 ghost use mathlib.Core.Path.{_≡_};
 ghost use mathlib.Core.List.{[], _∷_, _++_};
-ghost use Prim.Native.Nat.{_≤_};
+ghost use Prim.Native.Nat.{_≤_, _<_};
 ghost use lib.ListN.{length, take, drop};
 ghost use Rattle.octets.specs.Buffer.{over};
-ghost use Rattle.octets_checksum.specs.Checksum.{sealed};
+ghost use Rattle.octets_checksum.specs.Checksum.{sealed, checksumOf, folded};
 ghost use Rattle.octets.specs.Numbers.{octets16, octets32};
 ghost use Rattle.message_writing.specs.Writing.{headed, headOf};
 ghost use Rattle.message.specs.declared.Kind.the-variants.{Poll, Error};
@@ -28,6 +28,44 @@ fn header(kind: Kind, asn: u16, sequence: u16, status: u8) -> [u8; 10]
     ]
 }
 
+// A sum of a few words, folded to 16 bits.
+fn fold(sum: u32) -> u16
+    requires { ⌜ sum < 262144 ⌝ }
+    ensures { λ r. ⌜ r ≡ folded sum ⌝ }
+{
+    let once = sum / 65536 + sum % 65536;
+    (once / 65536 + once % 65536) as u16
+}
+
+// The checksum of a message of this type and code that has ten octets.
+fn short_checksum(number: u8, code: u8, asn: u16, sequence: u16, status: u8) -> u16
+    ensures { λ r. ⌜ r ≡ checksumOf (2 ∷ number ∷ code ∷ status ∷ 0 ∷ 0 ∷ octets16 asn (octets16 sequence [])) ⌝ }
+{
+    let front = 512 + number as u32 + code as u32 * 256 + status as u32;
+    65535 - fold(front + asn as u32 + sequence as u32)
+}
+
+// A message of ten octets: nothing but the header, its checksum taken from the words themselves.
+fn short(kind: Kind, asn: u16, sequence: u16, status: u8) -> [u8; 10]
+    ensures { λ r. ⌜ r ≡ sealed (headed kind asn sequence status []) ⌝ }
+{
+    let number = message::type_of(kind);
+    let code = message::code_of(kind);
+    let sum = short_checksum(number, code, asn, sequence, status);
+    [
+        2,
+        number,
+        code,
+        status,
+        octets::high(sum),
+        octets::low(sum),
+        octets::high(asn),
+        octets::low(asn),
+        octets::high(sequence),
+        octets::low(sequence),
+    ]
+}
+
 // Fills in the checksum of the message in the first octets of the buffer, and says how many they are.
 pub fn seal_front(buffer: &mut [u8], end: usize) -> usize
     requires { ⌜ end ≤ length (now buffer) ⌝ }
@@ -38,14 +76,13 @@ pub fn seal_front(buffer: &mut [u8], end: usize) -> usize
     end
 }
 
-// A message of ten octets: nothing but the header.
+// Such a message written.
 pub fn write_short(buffer: &mut [u8], kind: Kind, asn: u16, sequence: u16, status: u8) -> usize
     requires { ⌜ 10 ≤ length (now buffer) ⌝ }
     ensures { λ r. ⌜ r ≡ 10 ⌝ }
     ensures { λ _. ⌜ now (buffer .exit) ≡ over (sealed (headed kind asn sequence status [])) (now (buffer .entry)) ⌝ }
 {
-    octets::store(buffer, &header(kind, asn, sequence, status));
-    seal_front(buffer, 10)
+    octets::store(buffer, &short(kind, asn, sequence, status))
 }
 
 // A message of fourteen octets: the header and the two intervals.

@@ -1,6 +1,7 @@
 -- Laws of numbers written as text. Assumes nothing.
 use Prim.Native.Nat.{ℕ, zero, suc, _+_, _-_, _*_, _/_, _%_, _^_, _≤_, _<_}
 use native.Mathlib.Nat.{one-le-pow}
+use native.Mathlib.Numerals.{add-one}
 use native.Mathlib.Omega.{arith}
 use mathlib.Core.Bool.{Bool, true, false, cond}
 use mathlib.Core.Path.{_≡_, refl, ap, _∙_}
@@ -131,6 +132,30 @@ module _ (n at : ℕ) (old : List ℕ) where
 
   pub more-long : 10 ≤ n → length (decimal n) ≡ length (decimal (n / 10)) + 1
   more-long h = ap length (decimal-more n h) ∙ length-append (decimal (n / 10)) (digit (n % 10) ∷ [])
+
+-- ---- what put_digits asks
+
+decimal-two : (n : ℕ) → 10 ≤ n → n < 100 → decimal n ≡ (48 + n / 10) ∷ (48 + n % 10) ∷ []
+unfolding digit
+decimal-two n h k = decimal-more n h ∙ rw (decimal-one (n / 10) (omega arith))
+
+decimal-three : (n : ℕ) → 100 ≤ n → n < 1000 → decimal n ≡ (48 + n / 10 / 10) ∷ (48 + n / 10 % 10) ∷ (48 + n % 10) ∷ []
+unfolding digit
+decimal-three n h k = decimal-more n (omega arith) ∙ rw (decimal-two (n / 10) (omega arith) (omega arith))
+
+module _ (n at : ℕ) (old : List ℕ) where
+  pub two-digits : 10 ≤ n → n < 100 → Written (decimal n) at old (set (set old at (48 + n / 10)) (at + 1) (48 + n % 10)) (at + 2)
+  two-digits h k = rw (decimal-two n h k) (record { list = rw (add-one at); after = refl })
+
+  pub three-digits : 100 ≤ n → n < 1000
+      → Written (decimal n) at old (set (set (set old at (48 + n / 10 / 10)) (at + 1) (48 + n / 10 % 10)) (at + 2) (48 + n % 10)) (at + 3)
+  three-digits h k = let e : at + 2 ≡ suc (suc at) = omega arith in rw (decimal-three n h k) (record { list = rw (add-one at, e); after = refl })
+
+pub two-long : (n : ℕ) → 10 ≤ n → n < 100 → length (decimal n) ≡ 2
+two-long n h k = ap length (decimal-two n h k)
+
+pub three-long : (n : ℕ) → 100 ≤ n → n < 1000 → length (decimal n) ≡ 3
+three-long n h k = ap length (decimal-three n h k)
 
 -- ---- what put_dotted asks, number by number
 

@@ -7,8 +7,8 @@ ghost use Rattle.octets.specs.Written.{Written};
 ghost use Rattle.text.specs.Text.{decimal, dotted, line};
 ghost use Rattle.text.specs.Steps.{beforeDot};
 
-// Writes a number, the highest digit first.
-pub fn put_decimal(out: &mut [u8], at: usize, n: u32) -> usize
+// Writes a number of any length, the highest digit first.
+fn put_long(out: &mut [u8], at: usize, n: u32) -> usize
     requires { ⌜ at + length (decimal n) ≤ length (now out) ⌝ }
     ensures { λ r. ⌜ Written (decimal n) at (now (out .entry)) (now (out .exit)) r ⌝ }
 {
@@ -16,9 +16,40 @@ pub fn put_decimal(out: &mut [u8], at: usize, n: u32) -> usize
         out[at] = (48 + n) as u8;
         return at + 1;
     }
-    let end = put_decimal(out, at, n / 10);
+    let end = put_long(out, at, n / 10);
     out[end] = (48 + n % 10) as u8;
     end + 1
+}
+
+// Writes a number of at most three digits, as nearly all are: a digit a store, and no call.
+fn put_digits(out: &mut [u8], at: usize, n: u32) -> usize
+    requires { ⌜ (n < 1000) × (at + length (decimal n) ≤ length (now out)) ⌝ }
+    ensures { λ r. ⌜ Written (decimal n) at (now (out .entry)) (now (out .exit)) r ⌝ }
+{
+    if n < 10 {
+        out[at] = (48 + n) as u8;
+        return at + 1;
+    }
+    if n < 100 {
+        out[at] = (48 + n / 10) as u8;
+        out[at + 1] = (48 + n % 10) as u8;
+        return at + 2;
+    }
+    out[at] = (48 + n / 10 / 10) as u8;
+    out[at + 1] = (48 + n / 10 % 10) as u8;
+    out[at + 2] = (48 + n % 10) as u8;
+    at + 3
+}
+
+// Writes a number, the highest digit first.
+pub fn put_decimal(out: &mut [u8], at: usize, n: u32) -> usize
+    requires { ⌜ at + length (decimal n) ≤ length (now out) ⌝ }
+    ensures { λ r. ⌜ Written (decimal n) at (now (out .entry)) (now (out .exit)) r ⌝ }
+{
+    if n < 1000 {
+        return put_digits(out, at, n);
+    }
+    put_long(out, at, n)
 }
 
 // Writes one of the first three numbers of a dotted quad, and the dot behind it.

@@ -18,7 +18,7 @@ use Rattle.nets.specs.Rows.{Row, rowsOf}
 use Rattle.update_writing.specs.Blocks.{sideRows, runs, distanceRuns, each, netOctets, hostOctets, netsOctets, groupOctets, groupsOctets, blockOctets, gatewayRuns, sideOctets, blocksWritten, internalBlocks, externalBlocks}
 use Rattle.update_writing.specs.Writable.{ordered, writableRow, writableRows, writableNumbers}
 use Rattle.update_writing.specs.Steps.{column, agreeing, runLength}
-use Rattle.update_writing.proofs.Lists.{and-false, set-before, rows-turn, rows-short, rows-length}
+use Rattle.update_writing.proofs.Lists.{and-false, set-before, rows-turn, rows-short, rows-take, rows-length}
 use Rattle.update_writing.proofs.Runs.{runs-turn, runs-number, numbers-within, numbers-some, split-within, internal-part, external-part}
 use Rattle.update_writing.proofs.Claims.{rows-most, writable-sides, short}
 
@@ -99,18 +99,26 @@ module _ (net : ℕ) (u : List ℕ) where
   unfolding allowed every ordered
   no-row side h = rw (rows-short u h)
 
--- write_nets
-pub nets-turn : (u : List ℕ) → 2 < length u → netsOctets (rowsOf u) ≡ netOctets (getD u 0 0) ++ netsOctets (rowsOf (drop 3 u))
-unfolding netsOctets each
-nets-turn u h = rw (rows-turn u h)
+-- write_nets: the rows at the front with this third number
+abbrev pub front : ℕ → List ℕ → List Row
+front third u = take (agreeing (column 2) third (rowsOf u)) (rowsOf u)
 
-pub nets-room : {total : List ℕ} {at : ℕ} {old : List ℕ} {o : ℕ} {out : List ℕ} (u : List ℕ) → Writing total at old (netsOctets (rowsOf u)) o out → 2 < length u
-    → o + length (netOctets (getD u 0 0)) ≤ length out
-nets-room u w h = room w (netOctets (getD u 0 0)) (netsOctets (rowsOf (drop 3 u))) (nets-turn u h)
+module _ (third : ℕ) (u : List ℕ) (h : 2 < length u) where
+  pub nets-turn : getD u 2 0 ≡ third → netsOctets (front third u) ≡ netOctets (getD u 0 0) ++ netsOctets (front third (drop 3 u))
+  unfolding netsOctets each
+  nets-turn e = rw (run-same 2 (omega arith) u h third e, rows-turn u h)
 
-pub nets-end : (u : List ℕ) → length u ≤ 2 → netsOctets (rowsOf u) ≡ []
+  pub nets-room : {total : List ℕ} {at : ℕ} {old : List ℕ} {o : ℕ} {out : List ℕ} → Writing total at old (netsOctets (front third u)) o out → getD u 2 0 ≡ third
+      → o + length (netOctets (getD u 0 0)) ≤ length out
+  nets-room w e = room w (netOctets (getD u 0 0)) (netsOctets (front third (drop 3 u))) (nets-turn e)
+
+  pub nets-other : (getD u 2 0 ≡ third → ⊥) → netsOctets (front third u) ≡ []
+  unfolding netsOctets each
+  nets-other e = rw (run-other 2 (omega arith) u h third e)
+
+pub nets-end : (third : ℕ) (u : List ℕ) → length u ≤ 2 → netsOctets (front third u) ≡ []
 unfolding netsOctets each
-nets-end u h = rw (rows-short u h)
+nets-end third u h = rw (run-end 2 third u h)
 
 -- write_groups and write_side: what is left to write and to count, when the numbers u are left of rows
 pub record Grouping (key : Row → ℕ) (give : List Row → List ℕ) (rows : List ℕ) (at : ℕ) (old u : List ℕ) (o count : ℕ) (out : List ℕ) : Type 0 where
@@ -147,6 +155,10 @@ pub record Turn (key : Row → ℕ) (give : List Row → List ℕ) (rows : List 
   pub most : length rows ≤ 384
   pub some : 2 < length u
   pub is : numbers ≡ 3 * runLength key (rowsOf u)
+
+pub found : {key : Row → ℕ} {give : List Row → List ℕ} {rows : List ℕ} {at : ℕ} {old u : List ℕ} {o count : ℕ} {out : List ℕ} {numbers : ℕ}
+    → Grouping key give rows at old u o count out → length rows ≤ 384 → 2 < length u → numbers ≡ 3 * runLength key (rowsOf u) → Turn key give rows at old u o count out numbers
+found g m h e = record { left = g; most = m; some = h; is = e }
 
 module _ {key : Row → ℕ} {give : List Row → List ℕ} {rows : List ℕ} {at : ℕ} {old u : List ℕ} {o count : ℕ} {out : List ℕ} {numbers : ℕ} (t : Turn key give rows at old u o count out numbers) where
   pub count-more : count < 129
@@ -201,6 +213,48 @@ module _ (u : List ℕ) (h : 2 < length u) where
   group-written at old new end w =
       let e : at + 2 ≡ suc (suc at) = omega arith in
       rw group-front (record { list = w .list ∙ rw (add-one at, e); after = omega (arith, w .after) })
+
+-- the same of the first run of rows, its count stored after its nets
+third-kept : (n : ℕ) (u : List ℕ) → 2 < n → getD (take n u) 2 0 ≡ getD u 2 0
+third-kept zero u h = absurd (omega arith)
+third-kept (suc zero) u h = absurd (omega arith)
+third-kept (suc (suc zero)) u h = absurd (omega arith)
+third-kept (suc (suc (suc n))) [] h = refl
+third-kept (suc (suc (suc n))) (a ∷ []) h = refl
+third-kept (suc (suc (suc n))) (a ∷ b ∷ []) h = refl
+third-kept (suc (suc (suc n))) (a ∷ b ∷ c ∷ u) h = refl
+
+module _ (u : List ℕ) (h : 2 < length u) where
+  pub run-agree : runLength (column 2) (rowsOf u) ≡ agreeing (column 2) (getD u 2 0) (rowsOf u)
+  run-agree = run-start 2 (omega arith) u h ∙ sym (run-same 2 (omega arith) u h (getD u 2 0) refl)
+
+  module _ (numbers : ℕ) (is : numbers ≡ 3 * runLength (column 2) (rowsOf u)) where
+    run-front : rowsOf (take numbers u) ≡ front (getD u 2 0) u
+    run-front = rw (is, rows-take, run-agree)
+
+    run-some : 2 < numbers
+    run-some = numbers-some (column 2) u numbers h is
+
+    run-long : length (take numbers u) ≡ numbers
+    run-long = length-take-le numbers u (numbers-within (column 2) u numbers h is)
+
+    pub run-most : numbers ≤ length u
+    run-most = numbers-within (column 2) u numbers h is
+
+    pub run-size : length (groupOctets (rowsOf (take numbers u))) ≡ 2 + length (netsOctets (front (getD u 2 0) u))
+    run-size = group-size (take numbers u) (rw run-long run-some) ∙ ap (λ (l : List Row). 2 + length (netsOctets l)) run-front
+
+    pub run-written : (at : ℕ) (old mid : List ℕ) (end : ℕ) → Written (netsOctets (front (getD u 2 0) u)) (at + 2) (set old at (getD u 2 0 % 256)) mid end
+        → Written (groupOctets (rowsOf (take numbers u))) at old (set mid (at + 1) (numbers / 3)) end
+    run-written at old mid end w =
+        group-written (take numbers u) (rw run-long run-some) at old (set mid (at + 1) (numbers / 3)) end
+        (rw (third-kept numbers u run-some, run-long, run-front)
+        (record {
+          list =
+              ap (λ (l : List ℕ). set l (at + 1) (numbers / 3)) (w .list)
+              ∙ set-before (netsOctets (front (getD u 2 0) u)) (set old at (getD u 2 0 % 256)) (at + 1) (at + 2) (numbers / 3) (omega arith);
+          after = w .after;
+        }))
 
 -- write_block: host, number of distances, the groups
 module _ (net : ℕ) (u : List ℕ) (h : 2 < length u) where

@@ -1,26 +1,19 @@
-use Rattle.nets.proofs.Laws.{span-positive, good-classless, good-yes, good-no}
-use borrow.Author.Needs.{needs}
+-- `nets::good_net` meets its contract, class by class. Assumes nothing.
+use Rattle.nets.proofs.Laws.{good-a, good-b, good-c, good-classless}
 use Rattle.nets.proofs.good_net.Statement.{statement}
 use Rattle.nets.proofs.good_net.Tie as tie
 
-width-of-requires : tie.Need-width-of-requires
-width-of-requires c κs = search needs
-
 returns : tie.Need-returns
-returns c = good-classless _ _ 0 (c .before .width-of .ensures) (c .if1 .taken)
-
-host-span-requires : tie.Need-host-span-requires
-host-span-requires c κs = search needs
-
-rem-if2 : tie.Need-rem-if2
-rem-if2 c = rw (c .host-span .ensures) (span-positive _)
+returns c = good-a _ (c .if1 .taken)
 
 returns-2 : tie.Need-returns-2
-returns-2 c = good-yes _ _ _ (c .before .before .before .width-of .ensures) (c .before .host-span .ensures) (c .before .before .if1 .left) (c .if2 .taken)
+returns-2 c = good-b _ (c .before .if1 .left) (c .if2 .taken)
 
 returns-3 : tie.Need-returns-3
-returns-3 c = good-no _ _ _ (c .before .before .before .width-of .ensures) (c .before .host-span .ensures) (c .before .before .if1 .left) (c .if2 .left)
+returns-3 c = good-c _ (c .before .if2 .left) (c .if3 .taken)
+
+returns-4 : tie.Need-returns-4
+returns-4 c = good-classless _ (c .if3 .left)
 
 pub good-net-spec : {M : Type 1} → statement M
-good-net-spec =
-    tie.close (tie.spec width-of-requires returns host-span-requires rem-if2 returns-2 returns-3)
+good-net-spec = tie.close (tie.spec returns returns-2 returns-3 returns-4)

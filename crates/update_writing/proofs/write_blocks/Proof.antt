@@ -3,23 +3,24 @@ use native.Mathlib.Omega.{arith}
 use borrow.Author.Needs.{needs}
 use mathlib.Core.Path.{sym, _∙_}
 use Rattle.update_writing.proofs.Loops.{Split, split-in, split-most, internal-length, internal-asked, external-asked, blocks-written, internal-count, external-count}
+use Rattle.update_writing.proofs.Order.{split-asked}
 use Rattle.update_writing.proofs.write_blocks.Statement.{statement}
 use Rattle.update_writing.proofs.write_blocks.Tie as tie
 
 -- what is known once it is found where the external rows begin
-sides : (c : tie.After-internal-numbers)
+sides : (c : tie.After-split-of)
     → Split (c .before .before .before .args .net) (c .before .before .before .args .rows .now) (c .before .before .before .args .at) (c .before .before .before .args .out .now)
-    (c .internal-numbers .result)
+    (c .split-of .result)
 sides c =
     record {
       good = c .before .before .before .pre .0 .0;
       writable = c .before .before .before .pre .0 .1;
       room = c .before .before .before .pre .1;
-      is = c .internal-numbers .ensures;
+      is = c .split-of .ensures;
     }
 
-internal-numbers-requires : tie.Need-internal-numbers-requires
-internal-numbers-requires c κs = search needs
+split-of-requires : tie.Need-split-of-requires
+split-of-requires c κs = split-asked _ _ (c .before .before .pre .0 .1)
 
 slice-aggregate-write-side : tie.Need-slice-aggregate-write-side
 slice-aggregate-write-side c = sym (internal-length (sides (c .before .before)))
@@ -55,7 +56,7 @@ pub write-blocks-spec : {M : Type 1} → statement M
 write-blocks-spec =
     tie.close
     (tie.spec
-    internal-numbers-requires
+    split-of-requires
     slice-aggregate-write-side
     write-side-requires
     mul-write-side

@@ -7,16 +7,23 @@ use lib.ListN.{length}
 use types.Run.{OneOf}
 use denote.Enum.Declared.{tagOf}
 use Rattle.checks.proofs.Laws.{ifOk-new, ifOk-old}
+use Rattle.octets.specs.Buffer.{over}
 use Rattle.nets.specs.Rows.{Row, rowsOf}
 use Rattle.message_reading.specs.Reading.{decodeOf}
 use Rattle.message_reading.specs.Reading as Wire
 use Rattle.message_reading.proofs.Decoded as DecodedType
 use Rattle.update_walk.specs.Body.{walkedBlocks}
 use Rattle.update_rows.specs.Storing.{walkedRows}
+use Rattle.neighbour.specs.declared.Phase.the-variants.{Up}
+use Rattle.neighbour.specs.declared.Settings.{Settings}
+use Rattle.neighbour.specs.declared.Neighbour.{Neighbour}
 use Rattle.neighbour_machine.specs.declared.Event.{Event}
+use Rattle.neighbour_machine.specs.declared.Event.the-variants.{Tick}
 use Rattle.neighbour_machine.specs.declared.After.{After}
 use Rattle.neighbour_machine.specs.declared.Reply.{Reply}
 use Rattle.neighbour_machine.specs.Intrinsics.{Intrinsic, Start, asEvent}
+use Rattle.neighbour_machine.specs.Table.{quiet}
+use Rattle.neighbour_machine.specs.Tick.{onTick}
 use Rattle.neighbour_machine.specs.Step.{stepOf}
 use Rattle.neighbour_machine.specs.Laws.{maySend}
 use Rattle.gateway_state.specs.declared.Slot.{Slot}
@@ -29,16 +36,19 @@ use Rattle.gateway_state.proofs.SlotLaws.{same-slot}
 use Rattle.gateway_state.proofs.Theorems.{formed-settings}
 use Rattle.gateway_rules.specs.declared.Verdict.{Verdict}
 use Rattle.gateway_rules.specs.Number.{messageNumber, namedReply}
-use Rattle.gateway_rules.specs.Ruling.{Ruling, stepped, refuses, receiveRuling, verdictOf}
-use Rattle.gateway_rules.specs.Carried.{firstOctets, secondOctets, outcomeAfter, slotAfter, countAfter, tableAfter, refusedWith, bufferAfter}
+use Rattle.gateway_rules.specs.Ruling.{keep, Ruling, stepped, refuses, receiveRuling, verdictOf}
+use Rattle.gateway_rules.specs.Carried.{firstOctets, secondOctets, replyOctets, outcomeAfter, slotAfter, countAfter, tableAfter, refusedWith, bufferAfter}
 use Rattle.gateway_rules.specs.Calls.{eventChecks, messageChecks, noHead, updateRoom, eventRuling, messageRuling, eventOutcome, eventTable, eventBuffer, messageOutcome, messageTable, messageBuffer}
 use Rattle.gateway_rules.proofs.Checks.{Passed, event-passed, message-passed}
 use Rattle.gateway_rules.proofs.Rulings.{stepped-backed, receive-backed}
 use Rattle.gateway_rules.proofs.Sends.{named-sends, stepped-sends, receive-sends}
 use Rattle.gateway_home.proofs.Laws.{home-writable, none-writable}
-use Rattle.gateway_stages.specs.Stages.{headNumber}
+use Rattle.gateway_stages.specs.Stages.{headNumber, keeping}
+use Rattle.gateway_stages.proofs.Reaching.{keeps}
 use Rattle.gateway_stages.proofs.Laws.{head-number, kind-number}
-use Rattle.gateway_carry.specs.Asked.{sendable, takes, changeOf, rulingOf}
+use Rattle.gateway_carry.specs.declared.Lengths.{Lengths}
+use Rattle.gateway_carry.specs.Asked.{sendable, lengthsOf, takes, changeOf, rulingOf}
+use Rattle.gateway_carry.proofs.Carrying.{carried}
 use Rattle.gateway_calls.proofs.Replies.{ready, backed-takes, ruling-back}
 
 -- ---- Start, Stop and tick
@@ -101,6 +111,32 @@ module _ (event : Event) (st : State) (table buffer : List ℕ) (a k : ℕ) (c :
               octets = λ e q. h ∙ ap (λ (x : Ruling). bufferAfter buffer (x .reply) []) (rule e q) ∙ sym (ifOk-new _ _ _ (sym (c e) ∙ z));
             }
 
+    -- a tick that only counts
+    module _ (i : ℕ) (slot : Slot) (n : Neighbour) (next : Slot) (p : i ≡ slotOf st a) (s : slot ≡ slotAt st i) (tick : event ≡ Tick) (up : slot .neighbour .phase ≡ Up)
+        (left : (g : Settings) → quiet n ≡ onTick g (slot .neighbour)) (still : n .phase ≡ Up) (w : (x : Ruling) → x .neighbour ≡ n → x .change ≡ keep → next ≡ slotAfter slot x) where
+      counted-step : quiet n ≡ stepOf (st .settings) (slot .asn) (slot .neighbour) event (record { first = 0; second = 0; third = 0 })
+      unfolding stepOf
+      counted-step = rw tick (left (st .settings))
+
+      counted-rule : (e : Intrinsic) → event ≡ asEvent e → keeping (quiet n) ≡ eventRuling e st a
+      unfolding quiet
+      counted-rule e q =
+          keeps (slot .neighbour) (quiet n) up still
+          ∙ ruled i slot (quiet n) (verdictOf (stepped (slot .neighbour) (quiet n))) p s counted-step refl e q
+
+      pub event-counted : (state : State) → state ≡ withSlot st i next
+          → Happened st table buffer a event (record { answer = 0; first = 0; second = 0; state = state }) table buffer
+      unfolding eventOutcome eventTable eventBuffer keeping quiet tableAfter bufferAfter replyOctets firstOctets secondOctets over lengthsOf
+      event-counted state f =
+          record {
+            outcome = λ e q.
+                carried st i (keeping (quiet n)) [] (record { first = 0; second = 0 }) slot next state refl s (w (keeping (quiet n)) refl refl) f
+                ∙ rw p (ap (λ (x : Ruling). outcomeAfter st (slotOf st a) x []) (counted-rule e q)) ∙ sym (ifOk-new _ _ _ (sym (c e) ∙ z));
+            rows = λ e q.
+                ap (λ (x : Ruling). tableAfter table (rowCounts st) (slotOf st a) (x .change)) (counted-rule e q) ∙ sym (ifOk-new _ _ _ (sym (c e) ∙ z));
+            octets = λ e q. ap (λ (x : Ruling). bufferAfter buffer (x .reply) []) (counted-rule e q) ∙ sym (ifOk-new _ _ _ (sym (c e) ∙ z));
+          }
+
 -- ---- a message
 
 -- what the promise of the message call says
@@ -161,6 +197,35 @@ module _ (st : State) (table buffer home : List ℕ) (a : ℕ) (o : List ℕ) (k
           → (number ≡ 0 → ⊥) × (messageNumber 128 (st .settings) (slot .asn) (slot .neighbour) o ≡ number)
       kind-is h number f t =
           let q = kind-number 128 (st .settings) (slot .asn) (slot .neighbour) o h t in (λ y. q .1 (sym f ∙ y), q .0 ∙ sym f)
+
+      -- a Hello or an I-H-U in Up
+      module _ (after : After) (is : keeping after ≡ receiveRuling 128 (st .settings) (slot .asn) (slot .neighbour) o) where
+        pub reach-asked : (sendable (after .reply) home ≡ true) × (2048 ≤ length buffer)
+        unfolding keeping
+        reach-asked = (
+          sent (after .reply)
+              (ap (λ (x : Ruling). maySend (st .settings) (x .reply)) is ∙ receive-sends (st .settings) 128 (slot .asn) (slot .neighbour) o),
+          met .room,
+        )
+
+        reach-rule : keeping after ≡ messageRuling st a o
+        unfolding messageRuling updateRoom
+        reach-rule = is ∙ rw (s, p)
+
+        pub reach-done : (lengths : Lengths) (next : Slot) (state : State) (b : List ℕ) → lengths ≡ lengthsOf (after .reply) (rowsOf home)
+            → ((x : Ruling) → x .neighbour ≡ after .neighbour → x .change ≡ keep → next ≡ slotAfter slot x) → state ≡ withSlot st i next
+            → b ≡ bufferAfter buffer (after .reply) (rowsOf home)
+            → Received st table buffer home a o (record { answer = 0; first = lengths .first; second = lengths .second; state = state }) table b
+        unfolding messageOutcome messageTable messageBuffer keeping tableAfter
+        reach-done lengths next state b l w f h =
+            let done : messageChecks st table buffer home a ≡ 0 = sym e ∙ z in (
+              carried st i (keeping after) (rowsOf home) lengths slot next state l s (w (keeping after) refl refl) f
+                  ∙ rw p (ap (λ (x : Ruling). outcomeAfter st (slotOf st a) x (rowsOf home)) reach-rule) ∙ sym (ifOk-new _ _ _ done),
+              (
+                ap (λ (x : Ruling). tableAfter table (rowCounts st) (slotOf st a) (x .change)) reach-rule ∙ sym (ifOk-new _ _ _ done),
+                h ∙ ap (λ (x : Ruling). bufferAfter buffer (x .reply) (rowsOf home)) reach-rule ∙ sym (ifOk-new _ _ _ done),
+              ),
+            )
 
       module _ (v : Verdict) (w : v ≡ verdictOf (receiveRuling 128 (st .settings) (slot .asn) (slot .neighbour) o)) where
         pub message-asked : ((i < 8) × (length table ≡ 3072) × (2048 ≤ length buffer))

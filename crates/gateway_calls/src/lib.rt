@@ -2,14 +2,17 @@
 use gateway_state::Outcome;
 use gateway_state::State;
 use message_reading::Decoded;
+use neighbour::Neighbour;
+use neighbour::Phase;
 use neighbour_machine::Event;
 use neighbour_messages::Head;
 ghost use mathlib.Core.Path.{_≡_};
+ghost use mathlib.Core.Bool.{true};
 ghost use mathlib.Core.List.{List};
-ghost use Prim.Native.Nat.{ℕ};
+ghost use Prim.Native.Nat.{ℕ, _<_};
 ghost use lib.ListN.{length};
 ghost use Rattle.neighbour_machine.specs.Intrinsics.{Intrinsic, Start, Stop, Tick, asEvent};
-ghost use Rattle.gateway_rules.specs.Calls.{tableFits, bufferFits, lentChecks, eventChecks, messageChecks, eventOutcome, eventTable, eventBuffer, messageOutcome, messageTable, messageBuffer};
+ghost use Rattle.gateway_rules.specs.Calls.{tableFits, bufferFits, lentChecks, eventOutcome, eventTable, eventBuffer, messageOutcome, messageTable, messageBuffer};
 
 // How many rows an Update may bring.
 const UPDATE_ROOM: u16 = 128;
@@ -30,51 +33,43 @@ fn lent_answer(st: State, numbers: usize, octets: usize) -> u8
     0
 }
 
-// Start, Stop and tick make 5 as well.
-fn event_answer(st: State, numbers: usize, octets: usize, address: u32) -> u8
-    ensures { λ r. ⌜ ((event : Intrinsic) (table buffer : List ℕ) → length table ≡ numbers → length buffer ≡ octets → r ≡ eventChecks event st table buffer address) ⌝ }
+// Whether nothing but the timers changes.
+fn only_counts(event: Event, n: Neighbour) -> bool
+    ensures { λ r. ⌜ (r ≡ true → (event ≡ Event.Tick) × (n .phase ≡ Phase.Up) × (1 < n .t1) × (1 < n .t2) × (1 < n .t3)) ⌝ }
 {
-    let lent = lent_answer(st, numbers, octets);
-    if lent != 0 {
-        return lent;
+    match event {
+        Event::Received(_) => false,
+        Event::Start => false,
+        Event::Stop => false,
+        Event::Tick => neighbour_tick::only_counts(n),
     }
-    if gateway_state::SLOTS <= gateway_state::slot_of(st, address) {
-        return 5;
-    }
-    0
-}
-
-// A message makes 4, of the home list, and 5.
-fn message_answer(st: State, numbers: usize, octets: usize, home: &[u32], address: u32) -> u8
-    ensures { λ r. ⌜ ((table buffer : List ℕ) → length table ≡ numbers → length buffer ≡ octets → r ≡ messageChecks st table buffer (now (home .entry)) address) ⌝ }
-{
-    let lent = lent_answer(st, numbers, octets);
-    if lent != 0 {
-        return lent;
-    }
-    let settings = st.settings;
-    if !gateway_home::good_home(settings, home) {
-        return 4;
-    }
-    if gateway_state::SLOTS <= gateway_state::slot_of(st, address) {
-        return 5;
-    }
-    0
 }
 
 // What the operator or the clock asks of the neighbour with this address.
-fn happen(st: State, table: &mut [u32], reply: &mut [u8], address: u32, event: Event) -> Outcome
+fn happen(mut st: State, table: &mut [u32], reply: &mut [u8], address: u32, event: Event) -> Outcome
     ensures { λ r. ⌜ ((e : Intrinsic) → event ≡ asEvent e → r ≡ eventOutcome e st (now (table .entry)) (now (reply .entry)) address) ⌝ }
     ensures { λ _. ⌜ ((e : Intrinsic) → event ≡ asEvent e → now (table .exit) ≡ eventTable e st (now (table .entry)) (now (reply .entry)) address) ⌝ }
     ensures { λ _. ⌜ ((e : Intrinsic) → event ≡ asEvent e → now (reply .exit) ≡ eventBuffer e st (now (table .entry)) (now (reply .entry)) address) ⌝ }
 {
-    let answer = event_answer(st, table.len(), reply.len(), address);
-    if answer != 0 {
-        return gateway_state::refused(st, answer);
+    let lent = lent_answer(st, table.len(), reply.len());
+    if lent != 0 {
+        return gateway_state::refused(st, lent);
     }
     let i = gateway_state::slot_of(st, address);
-    let slot = gateway_state::slot_at(st, i);
+    if gateway_state::SLOTS <= i {
+        return gateway_state::refused(st, 5);
+    }
+    let slot = st.slots[i];
     let n = slot.neighbour;
+    if only_counts(event, n) {
+        st.slots[i] = gateway_carry::with_neighbour(slot, neighbour_tick::count_down(n));
+        return Outcome {
+            answer: 0,
+            first: 0,
+            second: 0,
+            state: st,
+        };
+    }
     let settings = st.settings;
     let head = Head {
         first: 0,
@@ -117,7 +112,7 @@ pub fn tick(st: State, table: &mut [u32], reply: &mut [u8], address: u32) -> Out
 
 // A message came from this address, an IP payload; the home list answers a Poll.
 pub fn receive(
-    st: State,
+    mut st: State,
     table: &mut [u32],
     reply: &mut [u8],
     home: &[u32],
@@ -128,14 +123,20 @@ pub fn receive(
     ensures { λ _. ⌜ now (table .exit) ≡ messageTable st (now (table .entry)) (now (reply .entry)) (now (home .entry)) address (now (message .entry)) ⌝ }
     ensures { λ _. ⌜ now (reply .exit) ≡ messageBuffer st (now (table .entry)) (now (reply .entry)) (now (home .entry)) address (now (message .entry)) ⌝ }
 {
-    let answer = message_answer(st, table.len(), reply.len(), home, address);
-    if answer != 0 {
-        return gateway_state::refused(st, answer);
+    let lent = lent_answer(st, table.len(), reply.len());
+    if lent != 0 {
+        return gateway_state::refused(st, lent);
+    }
+    let settings = st.settings;
+    if !gateway_home::good_home(settings, home) {
+        return gateway_state::refused(st, 4);
     }
     let i = gateway_state::slot_of(st, address);
-    let slot = gateway_state::slot_at(st, i);
+    if gateway_state::SLOTS <= i {
+        return gateway_state::refused(st, 5);
+    }
+    let slot = st.slots[i];
     let n = slot.neighbour;
-    let settings = st.settings;
     let head = gateway_stages::head_number(slot.asn, message);
     if head != 0 {
         let named = gateway_stages::reply_to(settings, n, message, head);
@@ -147,6 +148,19 @@ pub fn receive(
         let named = gateway_stages::reply_to(settings, n, message, number);
         return gateway_carry::refuse(st, number, reply, named, home);
     };
+    if gateway_stages::tells_reach(n, m) {
+        let after = gateway_stages::note_reach(settings, n, m);
+        let said = after.reply;
+        let next = after.neighbour;
+        let lengths = gateway_carry::send(reply, said, home);
+        st.slots[i] = gateway_carry::with_neighbour(slot, next);
+        return Outcome {
+            answer: 0,
+            first: lengths.first,
+            second: lengths.second,
+            state: st,
+        };
+    }
     let v = gateway_stages::take(settings, slot.asn, n, message, m, UPDATE_ROOM);
     gateway_carry::apply(st, i, v, table, reply, home, message)
 }

@@ -4,6 +4,7 @@ use gateway_rules::Verdict;
 use gateway_state::Outcome;
 use gateway_state::Slot;
 use gateway_state::State;
+use neighbour::Neighbour;
 use neighbour_machine::Reply;
 ghost use mathlib.Core.Path.{_≡_};
 ghost use mathlib.Core.Bool.{true};
@@ -14,17 +15,18 @@ ghost use Rattle.nets.specs.Rows.{rowsOf};
 ghost use Rattle.update_walk.specs.Body.{Walk, walkedBlocks};
 ghost use Rattle.update_rows.specs.Storing.{walkedRows};
 ghost use Rattle.gateway_state.specs.Places.{rowCounts};
+ghost use Rattle.gateway_rules.specs.Ruling.{Ruling, keep};
 ghost use Rattle.gateway_rules.specs.Carried.{tableAfter, countAfter, slotAfter, outcomeAfter, refusedWith, bufferAfter};
 ghost use Rattle.gateway_carry.specs.Asked.{sendable, lengthsOf, takes, changeOf, rulingOf};
 
 // The lengths of the reply's two messages.
-struct Lengths {
-    first: u16,
-    second: u16,
+pub struct Lengths {
+    pub first: u16,
+    pub second: u16,
 }
 
 // Writes a reply at the front of the buffer, its second message straight after the first.
-fn send(buffer: &mut [u8], reply: Reply, home: &[u32]) -> Lengths
+pub fn send(buffer: &mut [u8], reply: Reply, home: &[u32]) -> Lengths
     requires { ⌜ (sendable reply (now home) ≡ true) × (2048 ≤ length (now buffer)) ⌝ }
     ensures { λ r. ⌜ r ≡ lengthsOf reply (rowsOf (now (home .entry))) ⌝ }
     ensures { λ _. ⌜ now (buffer .exit) ≡ bufferAfter (now (buffer .entry)) reply (rowsOf (now (home .entry))) ⌝ }
@@ -91,9 +93,21 @@ fn slot_after(slot: Slot, v: Verdict) -> Slot
     }
 }
 
+// The slot with another record, its rows kept.
+pub fn with_neighbour(slot: Slot, n: Neighbour) -> Slot
+    ensures { λ r. ⌜ ((x : Ruling) → x .neighbour ≡ n → x .change ≡ keep → r ≡ slotAfter slot x) ⌝ }
+{
+    Slot {
+        address: slot.address,
+        asn: slot.asn,
+        neighbour: n,
+        rows: slot.rows,
+    }
+}
+
 // Carries a verdict on the neighbour in slot i out: the reply, the rows, the slot.
 pub fn apply(
-    st: State,
+    mut st: State,
     i: usize,
     v: Verdict,
     table: &mut [u32],
@@ -112,12 +126,13 @@ pub fn apply(
     let effect = v.effect;
     let settings = st.settings;
     change_rows(table, i, effect, settings.net, message);
-    let slot = gateway_state::slot_at(st, i);
+    let slot = st.slots[i];
+    st.slots[i] = slot_after(slot, v);
     Outcome {
         answer: v.answer,
         first: lengths.first,
         second: lengths.second,
-        state: gateway_state::with_slot(st, i, slot_after(slot, v)),
+        state: st,
     }
 }
 

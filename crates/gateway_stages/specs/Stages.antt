@@ -5,15 +5,17 @@ use mathlib.Core.Path.{_≡_}
 use lib.Dec.{eqb}
 use Rattle.checks.specs.Checks.{check, ifOk}
 use Rattle.message.specs.declared.Message.{Message}
+use Rattle.message.specs.declared.Message.the-variants as M
 use Rattle.message_reading.specs.Reading.{headerAnswer, asnAt, decodeOf}
 use Rattle.message_reading.specs.declared.Decoded.the-variants.{Good}
 use Rattle.update_walk.specs.Body.{UpdateRead, accepted, brokenAt, tooMany}
 use Rattle.update_walk.specs.Body as Body
 use Rattle.neighbour.specs.declared.Settings.{Settings}
+use Rattle.neighbour.specs.declared.Phase.the-variants.{Up}
 use Rattle.neighbour.specs.declared.Neighbour.{Neighbour}
 use Rattle.neighbour_machine.specs.declared.After.{After}
 use Rattle.gateway_rules.specs.Number.{namedReply}
-use Rattle.gateway_rules.specs.Ruling.{replace, Ruling, refuses}
+use Rattle.gateway_rules.specs.Ruling.{keep, replace, Ruling, refuses}
 
 -- before the kind: the header's number, then 9
 unfoldable pub headNumber : ℕ → List ℕ → ℕ
@@ -30,3 +32,20 @@ takenUpdate g n o after (accepted rows) =
     record { answer = 0; reply = after .reply; neighbour = after .neighbour; change = replace rows }
 takenUpdate g n o after (brokenAt offset) = refuses n (Body.updateNumber (brokenAt offset)) (namedReply g n o (Body.updateNumber (brokenAt offset)))
 takenUpdate g n o after tooMany = refuses n (Body.updateNumber tooMany) (namedReply g n o (Body.updateNumber tooMany))
+
+-- a Hello in Up, or an I-H-U there that carries S
+unfoldable pub Reach : Neighbour → Message → Type 0
+Reach n (M.Request a q s hello poll) = ⊥
+Reach n (M.Confirm a q s hello poll) = ⊥
+Reach n (M.Refuse a q s) = ⊥
+Reach n (M.Cease a q s) = ⊥
+Reach n (M.CeaseAck a q s) = ⊥
+Reach n (M.Hello a q s) = n .phase ≡ Up
+Reach n (M.IHeardYou a q s) = (n .phase ≡ Up) × (q ≡ n .s)
+Reach n (M.Poll a q s net) = ⊥
+Reach n (M.Update a q s net) = ⊥
+Reach n (M.Error a q s reason first second third) = ⊥
+
+-- what a step leaves where the rows stay
+unfoldable pub keeping : After → Ruling
+keeping after = record { answer = 0; reply = after .reply; neighbour = after .neighbour; change = keep }

@@ -12,7 +12,9 @@ use neighbour_machine::Reply;
 use neighbour_messages::Head;
 use update_walk::Walked;
 ghost use mathlib.Core.Path.{_≡_};
-ghost use mathlib.Core.Bool.{_&&_};
+ghost use mathlib.Core.Bool.{true, _&&_};
+ghost use mathlib.Core.List.{List};
+ghost use Prim.Native.Nat.{ℕ};
 ghost use Rattle.message.specs.Kinds.{kindOf};
 ghost use Rattle.message.specs.declared.Kind.the-variants.{Update};
 ghost use Rattle.neighbour.specs.Record.{isUp};
@@ -22,7 +24,7 @@ ghost use Rattle.neighbour_machine.specs.Step.{stepOf};
 ghost use Rattle.update_walk.specs.Body.{updateOf};
 ghost use Rattle.gateway_rules.specs.Number.{errorHead, errorTo, refuseTo, namedReply};
 ghost use Rattle.gateway_rules.specs.Ruling.{leaving, effectOf, stepped, refuses, receiveRuling, verdictOf};
-ghost use Rattle.gateway_stages.specs.Stages.{headNumber, ReadAs, takenUpdate};
+ghost use Rattle.gateway_stages.specs.Stages.{headNumber, ReadAs, takenUpdate, Reach, keeping};
 
 // Leaving Up clears the rows.
 fn effect_of(before: Phase, now: Phase) -> Effect
@@ -217,4 +219,51 @@ pub fn take(
         return take_update(settings, asn, n, message, m, room);
     }
     step_verdict(n, step_for(settings, asn, n, message, m))
+}
+
+// Whether a message is a Hello in Up, or an I-H-U there that carries S.
+pub fn tells_reach(n: Neighbour, m: Message) -> bool
+    ensures { λ r. ⌜ (r ≡ true → Reach n m) ⌝ }
+{
+    let phase = n.phase;
+    if !gateway_state::is_up(phase) {
+        return false;
+    }
+    if let Message::Hello {
+        asn: _,
+        sequence: _,
+        status: _,
+    } = m {
+        return true;
+    }
+    if let Message::IHeardYou {
+        asn: _,
+        sequence,
+        status: _,
+    } = m {
+        return sequence == n.s;
+    }
+    false
+}
+
+// What such a message leaves, without the machine: the rows stay.
+pub fn note_reach(settings: Settings, n: Neighbour, m: Message) -> After
+    requires { ⌜ Reach n m ⌝ }
+    ensures { λ r. ⌜ ((room asn : ℕ) (o : List ℕ) → ReadAs asn o m → keeping r ≡ receiveRuling room settings asn n o) ⌝ }
+{
+    let next = neighbour::note(neighbour::set_r(n, m), m);
+    if let Message::Hello {
+        asn: _,
+        sequence: _,
+        status: _,
+    } = m {
+        return After {
+            neighbour: next,
+            reply: Reply::One(neighbour_messages::i_heard_you_message(settings, next)),
+        };
+    }
+    After {
+        neighbour: next,
+        reply: Reply::Nothing,
+    }
 }

@@ -1,18 +1,20 @@
 -- What the functions' answers come to, over plain records. Assumes nothing.
 use Prim.Native.Nat.{ℕ, _-_, _≤_, _<_}
 use native.Mathlib.Omega.{arith}
-use mathlib.Core.Path.{_≡_}
+use mathlib.Core.Path.{_≡_, _∙_, ap}
 use mathlib.Core.Bool.{true, false}
 use lib.Dec.{eqb}
 use borrow.Author.Tests.{eq-eqb, ne-eqb}
 use Rattle.message.specs.declared.Message.{Message}
 use Rattle.neighbour.specs.declared.Settings.{Settings}
 use Rattle.neighbour.specs.declared.Neighbour.{Neighbour}
-use Rattle.neighbour.specs.Record.{isIdle, withTimers, shifted}
+use Rattle.neighbour.specs.declared.Phase.{Phase}
+use Rattle.neighbour.specs.declared.Phase.the-variants.{Up}
+use Rattle.neighbour.specs.Record.{under, isIdle, withTimers, shifted}
 use Rattle.neighbour.specs.Rules.{judged}
 use Rattle.neighbour_machine.specs.declared.After.{After}
 use Rattle.neighbour_machine.specs.Table.{quiet, answers, helloIf}
-use Rattle.neighbour_machine.specs.Tick.{expired, repeats, listens, polls, takesT2, tickOn, onTick}
+use Rattle.neighbour_machine.specs.Tick.{expired, repeats, listens, polls, takesT2, pollsInUp, tickOn, onTick}
 
 -- a timer at 1 or less reaches 0
 pub reaches : (t : ℕ) → t ≤ 1 → eqb (t - 1) 0 ≡ true
@@ -62,3 +64,24 @@ module _ (g : Settings) (x : After) where
       → _≡_ {A = After} (record { neighbour = withTimers (x .neighbour) (x .neighbour .t1) (x .neighbour .t2 - 1) (x .neighbour .t3); reply = x .reply }) (takesT2 g x)
   unfolding takesT2
   takes-one h = rw (goes-on (x .neighbour .t2) h)
+
+-- ---- a tick in Up on which no timer ends
+
+not-idle : (p : Phase) → p ≡ Up → isIdle p ≡ false
+not-idle p e = rw e
+
+in-up : (p : Phase) → p ≡ Up → (a b c d e : After) → d ≡ under p a b c d e
+unfolding under
+in-up p e a b c d f = rw e
+
+pub only-counts : (n : Neighbour) (g : Settings) → n .phase ≡ Up → 1 < n .t1 → 1 < n .t2 → 1 < n .t3
+    → quiet (withTimers n (n .t1 - 1) (n .t2 - 1) (n .t3 - 1)) ≡ onTick g n
+unfolding tickOn pollsInUp quiet withTimers
+only-counts n g up one two three =
+    let m = withTimers n (n .t1) (n .t2) (n .t3 - 1) in
+    let x = quiet (withTimers n (n .t1 - 1) (n .t2) (n .t3 - 1)) in
+    takes-one g x two
+    ∙ in-up (n .phase) up _ _ _ _ _
+    ∙ ap (pollsInUp g) (listens-later m g one)
+    ∙ in-up (n .phase) up _ _ _ _ _
+    ∙ ticks-on n g (not-idle (n .phase) up) three

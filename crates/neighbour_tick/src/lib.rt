@@ -1,5 +1,8 @@
 // The tick of one neighbour: 01's paragraph, a function for each part of it.
 ghost use mathlib.Core.Path.{_≡_};
+ghost use mathlib.Core.Bool.{true};
+ghost use Prim.Native.Nat.{_<_};
+ghost use Rattle.neighbour_machine.specs.Table.{quiet};
 ghost use Rattle.neighbour_machine.specs.Tick.{expired, repeats, listens, polls, pollsOnEntry, takesT2, pollsInUp, tickOn, onTick};
 use message::Message;
 use neighbour::Neighbour;
@@ -131,4 +134,44 @@ pub fn on_tick(settings: Settings, n: Neighbour) -> After
     let mut next = n;
     next.t3 = n.t3 - 1;
     run(settings, next)
+}
+
+// Whether all three timers run on after the next tick.
+fn run_on(n: Neighbour) -> bool
+    ensures { λ r. ⌜ (r ≡ true → (1 < n .t1) × (1 < n .t2) × (1 < n .t3)) ⌝ }
+{
+    if n.t1 <= 1 {
+        return false;
+    }
+    if n.t2 <= 1 {
+        return false;
+    }
+    1 < n.t3
+}
+
+// Whether a tick does nothing but count: the neighbour is Up, and no timer ends.
+pub fn only_counts(n: Neighbour) -> bool
+    ensures { λ r. ⌜ (r ≡ true → (n .phase ≡ Phase.Up) × (1 < n .t1) × (1 < n .t2) × (1 < n .t3)) ⌝ }
+{
+    let phase = n.phase;
+    match phase {
+        Phase::Idle => false,
+        Phase::Acquisition => false,
+        Phase::Down => false,
+        Phase::Up => run_on(n),
+        Phase::Cease => false,
+    }
+}
+
+// Such a tick, without the machine.
+pub fn count_down(n: Neighbour) -> Neighbour
+    requires { ⌜ (n .phase ≡ Phase.Up) × (1 < n .t1) × (1 < n .t2) × (1 < n .t3) ⌝ }
+    ensures { λ r. ⌜ ((settings : Settings) → quiet r ≡ onTick settings n) ⌝ }
+    ensures { λ r. ⌜ r .phase ≡ Phase.Up ⌝ }
+{
+    let mut next = n;
+    next.t1 = n.t1 - 1;
+    next.t2 = n.t2 - 1;
+    next.t3 = n.t3 - 1;
+    next
 }

@@ -1,4 +1,7 @@
 -- `gateway_carry::apply` meets its contract. Assumes nothing.
+use mathlib.Core.Path.{refl}
+use Rattle.neighbour.specs.Record.{idle}
+use Rattle.gateway_state.specs.Slots.{freeSlot, slotAt, withSlot}
 use Rattle.gateway_carry.specs.Asked.{rulingOf}
 use Rattle.gateway_carry.proofs.Carrying.{carried}
 use borrow.Author.Needs.{needs}
@@ -11,14 +14,20 @@ send-requires c κs = search needs
 change-rows-requires : tie.Need-change-rows-requires
 change-rows-requires c κs = search needs
 
-slot-at-requires : tie.Need-slot-at-requires
-slot-at-requires c κs = search needs
+mul-slot : tie.Need-mul-slot
+mul-slot c = search needs
+
+element-copy-out-slot : tie.Need-element-copy-out-slot
+element-copy-out-slot c = search needs
 
 slot-after-requires : tie.Need-slot-after-requires
 slot-after-requires c κs = search needs
 
-with-slot-requires : tie.Need-with-slot-requires
-with-slot-requires c κs = search needs
+mul-t19 : tie.Need-mul-t19
+mul-t19 c = search needs
+
+element-set-from-st : tie.Need-element-set-from-st
+element-set-from-st c = search needs
 
 same-length : tie.Need-same-length
 same-length c = search needs
@@ -27,8 +36,8 @@ same-length-2 : tie.Need-same-length-2
 same-length-2 c = search needs
 
 returns : tie.Need-returns
-unfolding rulingOf
-returns c = (carried _ _ (rulingOf (c .before .before .before .before .before .before .before .before .before .before .before .before .before .before .before .before .args .v) _) _ _ _ _ _ (c .before .before .before .before .before .before .before .before .before .before .send .ensures .0) (c .before .before .slot-at .ensures) (c .before .slot-after .ensures _ (c .before .before .before .before .before .before .before .before .before .before .before .before .before .before .before .before .pre .1 .1)) (c .with-slot .ensures), (c .before .before .before .before .before .change-rows .ensures _, c .before .before .before .before .before .before .before .before .before .before .send .ensures .1))
+unfolding rulingOf slotAt freeSlot idle withSlot
+returns c = (carried (c .before .before .before .before .before .before .before .before .before .before .before .before .before .before .before .args .t1) (c .before .before .before .before .before .before .before .before .before .before .before .before .before .before .before .args .i) (rulingOf (c .before .before .before .before .before .before .before .before .before .before .before .before .before .before .before .args .v) _) _ _ _ _ _ (c .before .before .before .before .before .before .before .before .before .send .ensures .0) refl (c .slot-after .ensures _ (c .before .before .before .before .before .before .before .before .before .before .before .before .before .before .before .pre .1 .1)) refl, (c .before .before .before .before .change-rows .ensures _, c .before .before .before .before .before .before .before .before .before .send .ensures .1))
 
 pub apply-spec : {M : Type 1} → statement M
 apply-spec =
@@ -36,9 +45,11 @@ apply-spec =
     (tie.spec
     send-requires
     change-rows-requires
-    slot-at-requires
+    mul-slot
+    element-copy-out-slot
     slot-after-requires
-    with-slot-requires
+    mul-t19
+    element-set-from-st
     same-length
     same-length-2
     returns)

@@ -1,15 +1,13 @@
 -- Laws of the slots and of the loops over them. Assumes nothing.
 use Prim.Native.Nat.{ℕ, _+_, _≤_, _<_}
-use native.Mathlib.Numerals.{add-one}
 use native.Mathlib.Omega.{arith}
 use mathlib.Core.Path.{_≡_, refl, sym, _∙_}
 use mathlib.Core.Bool.{Bool, true, false, not, _&&_, false≢true}
-use mathlib.Core.List.{List, [], _∷_}
-use lib.ListN.{length, drop, getD, length-map, length-set, drop-of-length-le, List·getD-map, List·getD-eq-default}
-use lib.Dec.{ltb, eqb}
-use lib.Seq.{drop-cons, set-out, set-getD, getD-set-same, getD-set-other}
-use borrow.Author.Tests.{eq-eqb, ne-eqb, eqb-true, eqb-false, lt-ltb, ltb-true, not-true}
-use Rattle.checks.proofs.Laws.{and-left, and-right, and-both}
+use lib.ListN.{length, drop, getD, length-map, length-set, List·getD-map, List·getD-eq-default}
+use lib.Dec.{eqb}
+use lib.Seq.{set-out, set-getD, getD-set-same, getD-set-other}
+use borrow.Author.Tests.{eq-eqb, ne-eqb, eqb-true, eqb-false, not-true}
+use Rattle.checks.proofs.Laws.{and-left, and-right}
 use Rattle.checks.specs.Lists.{first, every, distinct}
 use Rattle.gateway_state.specs.declared.Slot.{Slot}
 use Rattle.gateway_state.specs.declared.State.{State}
@@ -136,38 +134,3 @@ module _ (st : State) (eight : length (st .slots) ≡ 8) where
 
     pub distinct-slot-end : 8 ≤ i → distinct apart (drop i (addresses st)) ≡ true
     distinct-slot-end h = distinct-end apart (addresses st) i (short i h)
-
--- numbers that rise from one above the last are distinct
-pub rising : ℕ → List ℕ → Bool
-rising last [] = true
-rising last (x ∷ xs) = ltb last x && rising x xs
-
-rising-apart : (a last : ℕ) (l : List ℕ) → a ≤ last → rising last l ≡ true → every (apart a) l ≡ true
-unfolding every rising
-rising-apart a last [] h e = refl
-rising-apart a last (x ∷ xs) h e =
-    let k : last < x = ltb-true last x (and-left (ltb last x) (rising x xs) e) in
-    rw (clash-not a x (λ z. omega arith)) (rising-apart a x xs (omega arith) (and-right (ltb last x) (rising x xs) e))
-
-pub rising-distinct : (last : ℕ) (l : List ℕ) → rising last l ≡ true → distinct apart l ≡ true
-unfolding distinct rising
-rising-distinct last [] e = refl
-rising-distinct last (x ∷ xs) e =
-    let k = and-right (ltb last x) (rising x xs) e in
-    and-both (every (apart x) xs) (distinct apart xs) (rising-apart x x xs (omega arith) k) (rising-distinct x xs k)
-
-rising-here : (last : ℕ) (l : List ℕ) (i : ℕ) → i < length l → last < getD l i 0 → rising (getD l i 0) (drop (i + 1) l) ≡ true → rising last (drop i l) ≡ true
-unfolding rising
-rising-here last l i h k e = rw (drop-cons l i 0 h, lt-ltb last (getD l i 0) k, rw add-one at e)
-
-rising-end : (last : ℕ) (l : List ℕ) (i : ℕ) → length l ≤ i → rising last (drop i l) ≡ true
-unfolding rising
-rising-end last l i h = rw (drop-of-length-le l h)
-
-module _ (st : State) (eight : length (st .slots) ≡ 8) (last i : ℕ) where
-  pub rising-slot : i < 8 → last < (slotAt st i) .address → rising ((slotAt st i) .address) (drop (i + 1) (addresses st)) ≡ true
-      → rising last (drop i (addresses st)) ≡ true
-  rising-slot h k e = rising-here last (addresses st) i (long st eight i h) (rw (address-at st i) k) (rw (address-at st i) e)
-
-  pub rising-slots-end : 8 ≤ i → rising last (drop i (addresses st)) ≡ true
-  rising-slots-end h = rising-end last (addresses st) i (short st eight i h)

@@ -298,24 +298,7 @@ fn is_apart_from(st: State, from: usize, address: u32) -> bool
     true
 }
 
-// A short way where each address is above the one before it: true where they are. Of others false says nothing.
-fn are_addresses_rising(st: State) -> bool
-    ensures { λ r. ⌜ (r ≡ true → distinct apart (addresses st) ≡ true) ⌝ }
-{
-    let mut last = 0;
-    let mut i = 0;
-    while i < SLOTS {
-        let slot = st.slots[i];
-        if slot.address <= last {
-            return false;
-        }
-        last = slot.address;
-        i += 1;
-    }
-    true
-}
-
-fn are_all_apart(st: State) -> bool
+fn are_addresses_distinct(st: State) -> bool
     ensures { λ r. ⌜ r ≡ distinct apart (addresses st) ⌝ }
 {
     let mut i = 0;
@@ -327,15 +310,6 @@ fn are_all_apart(st: State) -> bool
         i += 1;
     }
     true
-}
-
-fn are_addresses_distinct(st: State) -> bool
-    ensures { λ r. ⌜ r ≡ distinct apart (addresses st) ⌝ }
-{
-    if are_addresses_rising(st) {
-        return true;
-    }
-    are_all_apart(st)
 }
 
 // 01's check 1.

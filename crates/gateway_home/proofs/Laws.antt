@@ -15,10 +15,8 @@ use Rattle.neighbour.specs.declared.Settings.{Settings}
 use Rattle.update_writing.specs.Blocks.{sideOf}
 use Rattle.update_writing.specs.Writable.{ordered, writableRow, writableRows, writableNumbers}
 use Rattle.update_writing.proofs.Lists.{rows-turn, rows-short, rows-length}
+use Rattle.update_writing.proofs.Loops.{rowAt}
 use Rattle.gateway_rules.specs.Home.{homeRow, ownFirst, goodHome}
-
-abbrev pub rowAt : List ℕ → Row
-rowAt u = record { net = getD u 0 0; gateway = getD u 1 0; third = getD u 2 0 }
 
 -- ---- the first gateway
 

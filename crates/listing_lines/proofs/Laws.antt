@@ -8,6 +8,7 @@ use Rattle.octets.specs.Written.{Written}
 use Rattle.octets.proofs.Storing.{Writing, start, room, turn, done}
 use Rattle.nets.specs.Rows.{Row, rowsOf}
 use Rattle.update_writing.proofs.Lists.{rows-turn, rows-short}
+use Rattle.update_writing.proofs.Loops.{rowAt}
 use Rattle.gateway_state.specs.declared.State.{State}
 use Rattle.gateway_state.specs.Slots.{freeSlot, slotAt}
 use Rattle.gateway_state.specs.Places.{rowCount, rowCounts}
@@ -37,9 +38,6 @@ module _ {total : List ℕ} {at : ℕ} {old : List ℕ} where
   last-line w d = done ((line-turn w d) .writing) refl
 
 -- ---- row by row
-
-abbrev pub rowAt : List ℕ → Row
-rowAt u = record { net = getD u 0 0; gateway = getD u 1 0; third = getD u 2 0 }
 
 rows-text-turn : (u : List ℕ) → 2 < length u → rowsText (rowsOf u) ≡ rowText (rowAt u) ++ rowsText (rowsOf (drop 3 u))
 unfolding rowsText join

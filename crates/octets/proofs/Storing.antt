@@ -1,6 +1,5 @@
 -- Laws of octets stored one part after the other. Assumes nothing.
 use Prim.Native.Nat.{ℕ, suc, _+_, _≤_, _<_}
-use native.Mathlib.Nat.{add-zero}
 use native.Mathlib.Numerals.{add-one}
 use native.Mathlib.Omega.{arith}
 use mathlib.Core.Path.{_≡_, refl, sym, ap, _∙_}
@@ -8,12 +7,7 @@ use mathlib.Core.List.{List, [], _∷_, _++_}
 use lib.ListN.{length, drop, getD, set, length-append}
 use lib.Seq.{drop-cons, sets, length-sets}
 use Rattle.octets.specs.Written.{Written}
-
-sets-append : (vs ws l : List ℕ) (i : ℕ) → sets l i (vs ++ ws) ≡ sets (sets l i vs) (i + length vs) ws
-sets-append [] ws l i = rw add-zero
-sets-append (v ∷ vs) ws l i =
-    let e : suc i + length vs ≡ i + suc (length vs) = omega arith in
-    sets-append vs ws (set l i v) (suc i) ∙ ap (λ (k : ℕ). sets (sets (set l i v) (suc i) vs) k ws) e
+use Rattle.octets.proofs.Numbers.{sets-append}
 
 -- one more octet copied
 pub copy-turn : (out src : List ℕ) (at i : ℕ) → i < length src
@@ -31,7 +25,7 @@ pub written-append : (xs ys : List ℕ) {at : ℕ} {old mid new : List ℕ} {mid
 written-append xs ys {at} {old} {middle = middle} p q =
     let l = length-append xs ys in
     record {
-      list = q .list ∙ ap (λ (m : List ℕ). sets m middle ys) (p .list) ∙ ap (λ (i : ℕ). sets (sets old at xs) i ys) (p .after) ∙ sym (sets-append xs ys old at);
+      list = q .list ∙ ap (λ (m : List ℕ). sets m middle ys) (p .list) ∙ ap (λ (i : ℕ). sets (sets old at xs) i ys) (p .after) ∙ sym (sets-append old at xs ys);
       after = omega (arith, p .after, q .after);
     }
 
@@ -56,7 +50,7 @@ module _ {total : List ℕ} {at : ℕ} {old rest : List ℕ} {o : ℕ} {out : Li
       record {
         fits = omega (arith, w .fits, d .after);
         long = k ∙ w .long;
-        same = w .same ∙ ap (sets out o) e ∙ sets-append xs ys out o ∙ rw (d .list, d .after);
+        same = w .same ∙ ap (sets out o) e ∙ sets-append out o xs ys ∙ rw (d .list, d .after);
         after = omega (arith, w .after, d .after);
       }
 

@@ -87,8 +87,44 @@ fn call(
     }
 }
 
-// The call made as often as the record says, each time from the same state: one time is the rule, more are for timing.
-fn repeat(
+// A tick made so many times, each from the same state: one time is the rule, more are for timing.
+fn repeat_tick(
+    st: State,
+    table: &mut [u32],
+    buffer: &mut [u8],
+    address: u32,
+    times: u32,
+) -> Outcome {
+    let mut outcome = gateway_state::refused(st, 255);
+    let mut left = times;
+    while 0 < left {
+        outcome = gateway_calls::tick(st, table, buffer, address);
+        left -= 1;
+    }
+    outcome
+}
+
+// A message received so many times, each from the same state.
+fn repeat_receive(
+    st: State,
+    table: &mut [u32],
+    buffer: &mut [u8],
+    home: &[u32],
+    address: u32,
+    octets: &[u8],
+    times: u32,
+) -> Outcome {
+    let mut outcome = gateway_state::refused(st, 255);
+    let mut left = times;
+    while 0 < left {
+        outcome = gateway_calls::receive(st, table, buffer, home, address, octets);
+        left -= 1;
+    }
+    outcome
+}
+
+// Any call made so many times, each from the same state.
+fn repeat_call(
     st: State,
     table: &mut [u32],
     buffer: &mut [u8],
@@ -97,12 +133,29 @@ fn repeat(
     numbers: &[u32],
 ) -> Outcome {
     let mut outcome = gateway_state::refused(st, 255);
-    let mut times = head.times;
-    while 0 < times {
+    let mut left = head.times;
+    while 0 < left {
         outcome = call(st, table, buffer, head, octets, numbers);
-        times -= 1;
+        left -= 1;
     }
     outcome
+}
+
+// The call made as often as the record says. A tick and a message have loops of their own, so that little but the call is timed.
+fn repeat(
+    st: State,
+    table: &mut [u32],
+    buffer: &mut [u8],
+    head: RecordHead,
+    octets: &[u8],
+    numbers: &[u32],
+) -> Outcome {
+    let kind = head.kind;
+    match kind {
+        5 => repeat_tick(st, table, buffer, head.address, head.times),
+        6 => repeat_receive(st, table, buffer, numbers, head.address, octets, head.times),
+        _ => repeat_call(st, table, buffer, head, octets, numbers),
+    }
 }
 
 // Writes the octets at the front.

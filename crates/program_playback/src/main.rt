@@ -4,8 +4,12 @@ use libc::STDERR_FILENO;
 use libc::STDIN_FILENO;
 use libc::STDOUT_FILENO;
 use recording_course::Course;
-ghost use Prim.Native.Nat.{_≤_};
-ghost use lib.ListN.{length};
+use recording_course::Went;
+ghost use Prim.Native.Nat.{_+_, _≤_};
+ghost use mathlib.Core.Path.{_≡_};
+ghost use mathlib.Core.List.{_++_};
+ghost use lib.ListN.{length, take, drop};
+ghost use Rattle.recording_course.specs.Course.{courseStep};
 ghost use Rattle.program_playback.specs.Rooms.{Rooms};
 
 // Writes the octets at the front.
@@ -32,13 +36,38 @@ fn read_on(c: Course, fd: i32, name: &[u8], piece: &mut [u8]) -> Course {
     recording_course::given(c, true, io::count(got, piece))
 }
 
-// One step, and what it wrote is written.
-fn go_on(c: Course, line: &mut [u8], table: &mut [u32], piece: &[u8], out: &mut [u8]) -> Course
-    requires { ⌜ Rooms (now line) (now table) (now out) ⌝ }
+// One step. What it wrote is gathered: it lies behind what is held already.
+fn go_on(
+    c: Course,
+    held: usize,
+    line: &mut [u8],
+    table: &mut [u32],
+    piece: &[u8],
+    out: &mut [u8],
+) -> Went
+    requires { ⌜ held ≤ length (now out) ⌝ }
+    ensures { λ r. ⌜ take (held + r .written) (now (out .exit)) ≡ take held (now (out .entry)) ++ (courseStep (drop held (now (out .entry))) c (now (line .entry)) (now (table .entry)) (now (piece .entry))) .text ⌝ }
+    ensures { λ r. ⌜ held + r .written ≤ length (now (out .exit)) ⌝ }
 {
-    let w = recording_course::advance(c, line, table, piece, out);
-    let next = w.course;
-    recording_course::wrote(next, show(out, w.written))
+    recording_course::advance(c, line, table, piece, &mut out[held..])
+}
+
+// Writes what is held, where that is due.
+fn show_held(c: Course, held: usize, out: &[u8]) -> Went
+    requires { ⌜ held ≤ length (now out) ⌝ }
+    requires { ⌜ 65536 ≤ length (now out) ⌝ }
+    ensures { λ r. ⌜ r .written + 65536 ≤ length (now (out .entry)) ⌝ }
+{
+    if !recording_course::is_due(c, out.len() - held) {
+        return Went {
+            course: c,
+            written: held,
+        };
+    }
+    Went {
+        course: recording_course::wrote(c, show(out, held)),
+        written: 0,
+    }
 }
 
 // Step after step. Nothing says that an input ends, so they are counted down, from a number that no recording reaches.
@@ -53,13 +82,18 @@ fn play_all(
     requires { ⌜ Rooms (now line) (now table) (now out) ⌝ }
 {
     let mut c = recording_course::set_out();
+    let mut held = 0;
     let mut steps = u64::MAX;
     while steps > 0 {
         if recording_course::is_over(c) {
             return;
         }
         c = read_on(c, fd, name, piece);
-        c = go_on(c, line, table, piece, out);
+        let w = go_on(c, held, line, table, piece, out);
+        c = w.course;
+        let left = show_held(c, held + w.written, out);
+        c = left.course;
+        held = left.written;
         steps -= 1;
     }
 }
@@ -69,7 +103,7 @@ fn play(fd: i32, name: &[u8]) {
     let mut line = [0u8; 4118];
     let mut table = [0u32; 3072];
     let mut piece = io::large_buffer();
-    let mut out = io::large_buffer();
+    let mut out = [0u8; 131072];
     play_all(fd, name, &mut line, &mut table, &mut piece, &mut out);
 }
 

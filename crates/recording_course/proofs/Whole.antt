@@ -23,9 +23,9 @@ use Rattle.recording_theorem.proofs.Playing.{recordings}
 use Rattle.recording_course.specs.declared.Stage.{Stage}
 use Rattle.recording_course.specs.declared.Stage.the-variants.{Read, Play, Close, List as Listing, Over}
 use Rattle.recording_course.specs.declared.Course.{Course}
-use Rattle.recording_course.specs.Course.{isRead, isOver, staged, setOut, givenOf, wroteOf, Stepped, restOf, usedUp, nextStage, turnedTo, playOn, playStep, endedBy, closeOn, listOn, stillOn, courseAt, courseStep}
+use Rattle.recording_course.specs.Course.{isRead, isOver, staged, setOut, givenOf, isDue, wroteOf, Stepped, restOf, usedUp, nextStage, turnedTo, playOn, playStep, endedBy, closeOn, listOn, stillOn, courseAt, courseStep}
 use Rattle.recording_course.proofs.Laws.{given-some}
-use Rattle.recording_course.specs.Theorem.{Host, readNext, readOn, showing, goOn, playAll, hostOf, isSome, Unlisted, Courses}
+use Rattle.recording_course.specs.Theorem.{Host, readNext, readOn, gathered, shown, showing, goOn, playAll, hostOf, isSome, Unlisted, Courses}
 
 -- ---- one turn more
 
@@ -127,24 +127,31 @@ module _ (ends : Bool) (recording : List ℕ) where
   At Listing p from to line table piece coming text = (Closed p table text) × (ends ≡ true)
   At Over p from to line table piece coming text = Said text
 
+  -- what was written and what is held are one text
   abbrev Stands : Host → Type 0
-  Stands h = At (h .course .stage) (h .course .player) (h .course .from) (h .course .to) (h .line) (h .table) (h .piece) (h .coming) (h .text)
+  Stands h = At (h .course .stage) (h .course .player) (h .course .from) (h .course .to) (h .line) (h .table) (h .piece) (h .coming) (h .text ++ h .held)
 
-  abbrev host : Stage → Player → ℕ → ℕ → List ℕ → List ℕ → List ℕ → List (List ℕ) → List ℕ → Host
-  host stage p from to line table piece coming text =
+  -- after a step behind that text
+  abbrev Steps : List ℕ → List (List ℕ) → List ℕ → Stepped → Type 0
+  Steps piece coming text s =
+      At (s .course .stage) (s .course .player) (s .course .from) (s .course .to) (s .line) (s .table) piece coming (text ++ s .text)
+
+  abbrev host : Stage → Player → ℕ → ℕ → List ℕ → List ℕ → List ℕ → List (List ℕ) → List ℕ → List ℕ → Host
+  host stage p from to line table piece coming held text =
       record {
         course = record { player = p; stage = stage; from = from; to = to };
         line = line;
         table = table;
         piece = piece;
         coming = coming;
+        held = held;
         text = text;
       }
 
   -- ---- a read
 
-  module _ (p : Player) (from to : ℕ) (line table piece text : List ℕ) where
-    no-more-given : (b : Bool) → ends ≡ b → At Read p from to line table piece [] text → Stands (readNext b [] (host Read p from to line table piece [] text))
+  module _ (p : Player) (from to : ℕ) (line table piece held text : List ℕ) where
+    no-more-given : (b : Bool) → ends ≡ b → At Read p from to line table piece [] (text ++ held) → Stands (readNext b [] (host Read p from to line table piece [] held text))
     unfolding readNext givenOf staged join isDone
     no-more-given true e s = (s .0, (s .1 .0, e))
     no-more-given false e s =
@@ -157,13 +164,13 @@ module _ (ends : Bool) (recording : List ℕ) where
           };
         }
 
-    piece-given : (octets : List ℕ) (coming : List (List ℕ)) → At Read p from to line table piece (octets ∷ coming) text
-        → Stands (readNext ends (octets ∷ coming) (host Read p from to line table piece (octets ∷ coming) text))
+    piece-given : (octets : List ℕ) (coming : List (List ℕ)) → At Read p from to line table piece (octets ∷ coming) (text ++ held)
+        → Stands (readNext ends (octets ∷ coming) (host Read p from to line table piece (octets ∷ coming) held text))
     unfolding readNext every isSome join
     piece-given octets coming s = go (eqb (length octets) 0) refl (and-left (not (eqb (length octets) 0)) (every isSome coming) (s .1 .1))
       where
         given : Course → Host
-        given c = record { course = c; line = line; table = table; piece = over octets piece; coming = coming; text = text }
+        given c = record { course = c; line = line; table = table; piece = over octets piece; coming = coming; held = held; text = text }
 
         c : Course
         c = record { player = p; stage = Read; from = from; to = to }
@@ -175,20 +182,21 @@ module _ (ends : Bool) (recording : List ℕ) where
               record {
                 lents = s .0 .lents;
                 same = s .0 .same
-                    ∙ (λ i. record { deck = deckOf p line table; rest = (sym (rest-read octets piece) i) ++ join coming; text = text });
+                    ∙ (λ i. record { deck = deckOf p line table; rest = (sym (rest-read octets piece) i) ++ join coming; text = text ++ held });
               },
               and-right (not (eqb (length octets) 0)) (every isSome coming) (s .1 .1),
             )
 
-  read-kept : (stage : Stage) (p : Player) (from to : ℕ) (line table piece : List ℕ) (coming : List (List ℕ)) (text : List ℕ)
-      → At stage p from to line table piece coming text → Stands (readOn ends (host stage p from to line table piece coming text))
+  read-kept : (stage : Stage) (p : Player) (from to : ℕ) (line table piece : List ℕ) (coming : List (List ℕ)) (held text : List ℕ)
+      → At stage p from to line table piece coming (text ++ held)
+      → Stands (readOn ends (host stage p from to line table piece coming held text))
   unfolding readOn isRead
-  read-kept Read p from to line table piece [] text s = no-more-given p from to line table piece text ends refl s
-  read-kept Read p from to line table piece (octets ∷ coming) text s = piece-given p from to line table piece text octets coming s
-  read-kept Play p from to line table piece coming text s = s
-  read-kept Close p from to line table piece coming text s = s
-  read-kept Listing p from to line table piece coming text s = s
-  read-kept Over p from to line table piece coming text s = s
+  read-kept Read p from to line table piece [] held text s = no-more-given p from to line table piece held text ends refl s
+  read-kept Read p from to line table piece (octets ∷ coming) held text s = piece-given p from to line table piece held text octets coming s
+  read-kept Play p from to line table piece coming held text s = s
+  read-kept Close p from to line table piece coming held text s = s
+  read-kept Listing p from to line table piece coming held text s = s
+  read-kept Over p from to line table piece coming held text s = s
 
   -- ---- a step
 
@@ -250,8 +258,8 @@ module _ (ends : Bool) (recording : List ℕ) where
           }
 
       play-step : At Play p from to line table piece coming text
-          → Stands (showing (host Play p from to line table piece coming text) (playOn (roomy out) (course Play) line table rest))
-      unfolding showing wroteOf playOn turnedTo nextStage usedUp
+          → Steps piece coming text (playOn (roomy out) (course Play) line table rest)
+      unfolding playOn turnedTo nextStage usedUp
       play-step t = go (eqb (length rest - s .used) 0 && ready (s .player)) refl
         where
           go : (b : Bool) → (eqb (length rest - s .used) 0 && ready (s .player)) ≡ b
@@ -263,14 +271,14 @@ module _ (ends : Bool) (recording : List ℕ) where
           go false e = (some-left (one-more (t .0)), t .1)
 
     close-step : At Close p from to line table piece coming text
-        → Stands (showing (host Close p from to line table piece coming text) (endedBy (course Close) (closeStep true p table) Listing line table))
-    unfolding showing wroteOf endedBy closed
+        → Steps piece coming text (endedBy (course Close) (closeStep true p table) Listing line table)
+    unfolding endedBy closed
     close-step s =
         (record { deck = d; before = text; sofar = s .0; none = s .1 .0; player = refl; table-as = refl; text-as = refl }, s .1 .1)
 
     list-step : (out : List ℕ) → roomy out ≡ true → At Listing p from to line table piece coming text
-        → Stands (showing (host Listing p from to line table piece coming text) (endedBy (course Listing) (finishStep out p table) Over line table))
-    unfolding showing wroteOf endedBy finished allText isDone
+        → Steps piece coming text (endedBy (course Listing) (finishStep out p table) Over line table)
+    unfolding endedBy finished allText isDone
     list-step out room s =
         let k = s .0 in
         let r = k .sofar in
@@ -286,29 +294,54 @@ module _ (ends : Bool) (recording : List ℕ) where
 
   still : (stage : Stage) (p : Player) (from to : ℕ) (line table piece : List ℕ) (coming : List (List ℕ)) (text : List ℕ)
       → At stage p from to line table piece coming text
-      → Stands (showing (host stage p from to line table piece coming text) (stillOn (record { player = p; stage = stage; from = from; to = to }) line table))
-  unfolding showing wroteOf stillOn
+      → Steps piece coming text (stillOn (record { player = p; stage = stage; from = from; to = to }) line table)
+  unfolding stillOn
   still stage p from to line table piece coming text s =
       subst (λ (t : List ℕ). At stage p from to line table piece coming t) (sym (append-nil text)) s
 
+  -- what a step wrote is gathered, and written where that is due
+  module _ (h : Host) (s : Stepped) where
+    gathered-kept : Steps (h .piece) (h .coming) (h .text ++ h .held) s → Stands (gathered h s)
+    unfolding gathered
+    gathered-kept k =
+        subst
+        (λ (t : List ℕ). At (s .course .stage) (s .course .player) (s .course .from) (s .course .to) (s .line) (s .table) (h .piece) (h .coming) t)
+        (append-assoc (h .text) (h .held) (s .text)) k
+
+    shown-kept : Stands (gathered h s) → Stands (shown (gathered h s))
+    unfolding gathered shown wroteOf
+    shown-kept k =
+        subst
+        (λ (t : List ℕ). At (s .course .stage) (s .course .player) (s .course .from) (s .course .to) (s .line) (s .table) (h .piece) (h .coming) t)
+        (sym (append-nil (h .text ++ (h .held ++ s .text)))) k
+
+    showing-kept : (room : ℕ) → Steps (h .piece) (h .coming) (h .text ++ h .held) s → Stands (showing room h s)
+    unfolding showing
+    showing-kept room k =
+        cond-elim (λ (x : Host). Stands x) (isDue (s .course .stage) (room - length (s .text))) (shown (gathered h s)) (gathered h s)
+        (λ _. shown-kept (gathered-kept k)) (λ _. gathered-kept k)
+
   module _ (out : List ℕ) (room : roomy out ≡ true) where
     step-kept : (stage : Stage) (p : Player) (from to : ℕ) (line table piece : List ℕ) (coming : List (List ℕ)) (text : List ℕ)
-        → At stage p from to line table piece coming text → Stands (goOn out (host stage p from to line table piece coming text))
-    unfolding goOn courseStep courseAt playStep closeOn listOn
+        → At stage p from to line table piece coming text
+        → Steps piece coming text (courseStep out (record { player = p; stage = stage; from = from; to = to }) line table piece)
+    unfolding courseStep courseAt playStep closeOn listOn
     step-kept Read p from to line table piece coming text s = still Read p from to line table piece coming text s
     step-kept Play p from to line table piece coming text s = play-step p from to line table piece coming text out s
     step-kept Close p from to line table piece coming text s =
         subst
-        (λ (b : Bool). Stands (showing (host Close p from to line table piece coming text) (endedBy (record { player = p; stage = Close; from = from; to = to }) (closeStep b p table) Listing line table)))
+        (λ (b : Bool). Steps piece coming text (endedBy (record { player = p; stage = Close; from = from; to = to }) (closeStep b p table) Listing line table))
         (sym room) (close-step p from to line table piece coming text s)
     step-kept Listing p from to line table piece coming text s = list-step p from to line table piece coming text out room s
     step-kept Over p from to line table piece coming text s = still Over p from to line table piece coming text s
 
     turn-kept : (h : Host) → Stands h → Stands (goOn out (readOn ends h))
+    unfolding goOn
     turn-kept h s =
         let r = readOn ends h in
-        let k = read-kept (h .course .stage) (h .course .player) (h .course .from) (h .course .to) (h .line) (h .table) (h .piece) (h .coming) (h .text) s in
-        step-kept (r .course .stage) (r .course .player) (r .course .from) (r .course .to) (r .line) (r .table) (r .piece) (r .coming) (r .text) k
+        let k = read-kept (h .course .stage) (h .course .player) (h .course .from) (h .course .to) (h .line) (h .table) (h .piece) (h .coming) (h .held) (h .text) s in
+        showing-kept r (courseStep out (r .course) (r .line) (r .table) (r .piece)) (length out)
+        (step-kept (r .course .stage) (r .course .player) (r .course .from) (r .course .to) (r .line) (r .table) (r .piece) (r .coming) (r .text ++ r .held) k)
 
   all-kept : (outs : List (List ℕ)) → every roomy outs ≡ true → (h : Host) → Stands h → Stands (playAll ends outs h)
   unfolding playAll every
@@ -326,6 +359,55 @@ module _ (ends : Bool) (recording : List ℕ) where
   over-said Listing p from to line table piece coming text e s = absurd (false≢true e)
   over-said Over p from to line table piece coming text e s = s
 
+-- ---- what is held
+
+-- nothing, where a read comes next or nothing more
+record Bare (h : Host) : Type 0 where
+  at-read : isRead (h .course .stage) ≡ true → h .held ≡ []
+  at-end : isOver (h .course .stage) ≡ true → h .held ≡ []
+
+-- it is due there
+due-read : (stage : Stage) (room : ℕ) → isDue stage room ≡ false → isRead stage ≡ false
+unfolding isDue isRead
+due-read Read room e = absurd (true≢false e)
+due-read Play room e = refl
+due-read Close room e = refl
+due-read Listing room e = refl
+due-read Over room e = refl
+
+due-end : (stage : Stage) (room : ℕ) → isDue stage room ≡ false → isOver stage ≡ false
+unfolding isDue isRead isOver
+due-end Read room e = refl
+due-end Play room e = refl
+due-end Close room e = refl
+due-end Listing room e = refl
+due-end Over room e = absurd (true≢false e)
+
+bare-step : (room : ℕ) (h : Host) (s : Stepped) → Bare (showing room h s)
+unfolding showing shown gathered
+bare-step room h s =
+    cond-elim Bare (isDue (s .course .stage) (room - length (s .text))) (shown (gathered h s)) (gathered h s)
+    (λ _. record { at-read = λ _. refl; at-end = λ _. refl })
+    (λ e. record {
+      at-read = λ k. absurd (true≢false (sym k ∙ due-read (s .course .stage) (room - length (s .text)) e));
+      at-end = λ k. absurd (true≢false (sym k ∙ due-end (s .course .stage) (room - length (s .text)) e));
+    })
+
+bare-turn : (out : List ℕ) (h : Host) → Bare (goOn out h)
+unfolding goOn
+bare-turn out h = bare-step (length out) h (courseStep out (h .course) (h .line) (h .table) (h .piece))
+
+all-bare : (ends : Bool) (outs : List (List ℕ)) (h : Host) → Bare h → Bare (playAll ends outs h)
+unfolding playAll
+all-bare ends [] h k = k
+all-bare ends (out ∷ outs) h k =
+    cond-elim Bare (isOver (h .course .stage)) h (playAll ends outs (goOn out (readOn ends h))) (λ _. k)
+    (λ _. all-bare ends outs (goOn out (readOn ends h)) (bare-turn out (readOn ends h)))
+
+bare : (ends : Bool) (outs pieces : List (List ℕ)) (buffer : List ℕ) → Bare (playAll ends outs (hostOf buffer pieces))
+unfolding hostOf
+bare ends outs pieces buffer = all-bare ends outs (hostOf buffer pieces) (record { at-read = λ _. refl; at-end = λ _. refl })
+
 -- before the first read
 set-out : (ends : Bool) (buffer : List ℕ) (pieces : List (List ℕ)) → every isSome pieces ≡ true → Stands ends (join pieces) (hostOf buffer pieces)
 unfolding hostOf setOut freshDeck drive beginning
@@ -337,12 +419,15 @@ module _ (ends : Bool) (pieces outs : List (List ℕ)) (buffer : List ℕ) (some
 
   said : isOver (h .course .stage) ≡ true → Said ends (join pieces) (h .text)
   said e =
-      over-said ends (join pieces) (h .course .stage) (h .course .player) (h .course .from) (h .course .to) (h .line) (h .table) (h .piece) (h .coming) (h .text) e
-      (all-kept ends (join pieces) outs room (hostOf buffer pieces) (set-out ends buffer pieces some))
+      subst (Said ends (join pieces)) (ap (λ (l : List ℕ). h .text ++ l) (bare ends outs pieces buffer .at-end e) ∙ append-nil (h .text))
+      (over-said ends (join pieces) (h .course .stage) (h .course .player) (h .course .from) (h .course .to) (h .line) (h .table) (h .piece) (h .coming)
+      (h .text ++ h .held) e
+      (all-kept ends (join pieces) outs room (hostOf buffer pieces) (set-out ends buffer pieces some)))
 
 pub courses : Courses
 courses =
     record {
       ended = λ pieces outs buffer few some room e. said true pieces outs buffer some room e .whole few refl;
       failed = λ pieces outs buffer some room e. said false pieces outs buffer some room e .unlisted refl;
+      shown-at-reads = λ ends pieces outs buffer e. bare ends outs pieces buffer .at-read e;
     }

@@ -4,7 +4,7 @@
 use Prim.Native.Nat.{ℕ, _+_, _-_, min}
 use mathlib.Core.Bool.{Bool, true, false, cond, _&&_, _||_}
 use mathlib.Core.List.{List, []}
-use lib.Dec.{eqb}
+use lib.Dec.{eqb, ltb}
 use lib.ListN.{length, take, drop}
 use Rattle.recording_player.specs.declared.Player.{Player}
 use Rattle.recording_player.specs.Player.{beginning, Step, roomy, turnStep, heldOf, closeStep, finishStep}
@@ -43,7 +43,11 @@ unfoldable pub givenOf : Course → Bool → ℕ → Course
 givenOf c isGood size =
     cond isGood (cond (eqb size 0) (staged c Close) (record { player = c .player; stage = Play; from = 0; to = size })) (staged c Over)
 
--- what a step wrote could not be written: nothing more
+-- what was gathered is written before a read, at the end, and where the next step would not find room
+unfoldable pub isDue : Stage → ℕ → Bool
+isDue stage room = isRead stage || (isOver stage || ltb room 65536)
+
+-- what was gathered could not be written: nothing more
 unfoldable pub wroteOf : Course → Bool → Course
 wroteOf c isGood = cond isGood c (staged c Over)
 

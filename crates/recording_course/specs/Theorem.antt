@@ -1,11 +1,11 @@
 -- The theorem about a recording's course: the loop of the program, whatever pieces its reads give, writes what the
 -- recording says; and nothing of the end where a read fails.
-use Prim.Native.Nat.{ℕ, _<_}
+use Prim.Native.Nat.{ℕ, _-_, _≤_, _<_}
 use mathlib.Core.Path.{_≡_}
 use mathlib.Core.Bool.{Bool, true, false, cond, not}
 use mathlib.Core.List.{List, [], _∷_, _++_}
 use lib.Dec.{eqb}
-use lib.ListN.{length, replicate}
+use lib.ListN.{length}
 use Rattle.checks.specs.Lists.{every, join}
 use Rattle.octets.specs.Buffer.{over}
 use Rattle.update_rows.specs.Storing.{zeros}
@@ -14,23 +14,25 @@ use Rattle.recording_player.specs.Player.{roomy}
 use Rattle.recording_theorem.specs.Output.{outputOf}
 use Rattle.recording_theorem.specs.Theorem.{Lent, freshDeck, drive, isDone}
 use Rattle.recording_course.specs.declared.Course.{Course}
-use Rattle.recording_course.specs.Course.{isRead, isOver, setOut, givenOf, wroteOf, Stepped, courseStep}
+use Rattle.recording_course.specs.Course.{isRead, isOver, setOut, givenOf, isDue, wroteOf, Stepped, courseStep}
 
 -- ---- the host's loop
 
--- the course, what the host lends from step to step, the pieces that the reads to come give, and all that was written
+-- the course, what the host lends from step to step, the pieces that the reads to come give, what was gathered and is
+-- not yet written, and all that was written
 pub record Host : Type 0 where
   pub course : Course
   pub line : List ℕ
   pub table : List ℕ
   pub piece : List ℕ
   pub coming : List (List ℕ)
+  pub held : List ℕ
   pub text : List ℕ
 
 -- a read leaves a piece at the front of the lent buffer; behind the last piece the input ends, or a read fails
 unfoldable pub readNext : Bool → List (List ℕ) → Host → Host
 readNext ends [] h =
-    record { course = givenOf (h .course) ends 0; line = h .line; table = h .table; piece = h .piece; coming = []; text = h .text }
+    record { course = givenOf (h .course) ends 0; line = h .line; table = h .table; piece = h .piece; coming = []; held = h .held; text = h .text }
 readNext ends (octets ∷ rest) h =
     record {
       course = givenOf (h .course) true (length octets);
@@ -38,21 +40,47 @@ readNext ends (octets ∷ rest) h =
       table = h .table;
       piece = over octets (h .piece);
       coming = rest;
+      held = h .held;
       text = h .text;
     }
 
 unfoldable pub readOn : Bool → Host → Host
 readOn ends h = cond (isRead (h .course .stage)) (readNext ends (h .coming) h) h
 
--- what a step wrote is written
-unfoldable pub showing : Host → Stepped → Host
-showing h s =
-    record { course = wroteOf (s .course) true; line = s .line; table = s .table; piece = h .piece; coming = h .coming; text = h .text ++ s .text }
+-- what a step wrote is gathered
+unfoldable pub gathered : Host → Stepped → Host
+gathered h s =
+    record {
+      course = s .course;
+      line = s .line;
+      table = s .table;
+      piece = h .piece;
+      coming = h .coming;
+      held = h .held ++ s .text;
+      text = h .text;
+    }
+
+-- all that was gathered is written
+unfoldable pub shown : Host → Host
+shown h =
+    record {
+      course = wroteOf (h .course) true;
+      line = h .line;
+      table = h .table;
+      piece = h .piece;
+      coming = h .coming;
+      held = [];
+      text = h .text ++ h .held;
+    }
+
+-- where it is due; the step had a buffer with so much room
+unfoldable pub showing : ℕ → Host → Stepped → Host
+showing room h s = cond (isDue (s .course .stage) (room - length (s .text))) (shown (gathered h s)) (gathered h s)
 
 unfoldable pub goOn : List ℕ → Host → Host
-goOn out h = showing h (courseStep out (h .course) (h .line) (h .table) (h .piece))
+goOn out h = showing (length out) h (courseStep out (h .course) (h .line) (h .table) (h .piece))
 
--- step after step, each with an output buffer, until nothing more comes
+-- step after step, each with what is left of the output buffer, until nothing more comes
 unfoldable pub playAll : Bool → List (List ℕ) → Host → Host
 playAll ends [] h = h
 playAll ends (out ∷ outs) h = cond (isOver (h .course .stage)) h (playAll ends outs (goOn out (readOn ends h)))
@@ -60,7 +88,7 @@ playAll ends (out ∷ outs) h = cond (isOver (h .course .stage)) h (playAll ends
 -- before the first read, whatever the buffer for pieces holds
 unfoldable pub hostOf : List ℕ → List (List ℕ) → Host
 hostOf buffer pieces =
-    record { course = setOut; line = zeros 4118; table = emptyTable; piece = buffer; coming = pieces; text = [] }
+    record { course = setOut; line = zeros 4118; table = emptyTable; piece = buffer; coming = pieces; held = []; text = [] }
 
 -- ---- the statement
 
@@ -86,12 +114,19 @@ pub record Courses : Type 0 where
       (pieces outs : List (List ℕ)) (buffer : List ℕ) → every isSome pieces ≡ true → every roomy outs ≡ true
       → isOver ((playAll false outs (hostOf buffer pieces)) .course .stage) ≡ true
       → Unlisted (join pieces) ((playAll false outs (hostOf buffer pieces)) .text)
+  -- nothing is held back at a read
+  pub shown-at-reads :
+      (ends : Bool) (pieces outs : List (List ℕ)) (buffer : List ℕ)
+      → isRead ((playAll ends outs (hostOf buffer pieces)) .course .stage) ≡ true
+      → (playAll ends outs (hostOf buffer pieces)) .held ≡ []
 
 -- however the recording is cut into pieces, and whether its last read ends or fails, the loop comes to its end
-pub record CourseEnding (ends : Bool) (out buffer : List ℕ) (pieces : List (List ℕ)) : Type 0 where
+pub record CourseEnding (ends : Bool) (buffer : List ℕ) (pieces : List (List ℕ)) : Type 0 where
   pub steps : ℕ
-  pub over : isOver ((playAll ends (replicate steps out) (hostOf buffer pieces)) .course .stage) ≡ true
+  pub over :
+      (outs : List (List ℕ)) → every roomy outs ≡ true → steps ≤ length outs
+      → isOver ((playAll ends outs (hostOf buffer pieces)) .course .stage) ≡ true
 
 abbrev pub EveryCourseEnds : Type 0
 EveryCourseEnds =
-    (ends : Bool) (out buffer : List ℕ) (pieces : List (List ℕ)) → roomy out ≡ true → every isSome pieces ≡ true → CourseEnding ends out buffer pieces
+    (ends : Bool) (buffer : List ℕ) (pieces : List (List ℕ)) → every isSome pieces ≡ true → CourseEnding ends buffer pieces

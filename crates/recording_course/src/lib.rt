@@ -1,11 +1,11 @@
 // A recording's course: what is done around the player's turns. The host reads where a read is wanted, hands over what
-// came of it, and writes what each step wrote; everything else is decided here.
+// came of it, gathers what each step wrote and writes it where that is due; everything else is decided here.
 use recording_player::Player;
 ghost use mathlib.Core.Path.{_≡_};
 ghost use mathlib.Core.List.{List};
 ghost use Prim.Native.Nat.{ℕ, min};
 ghost use Rattle.octets.specs.Buffer.{over};
-ghost use Rattle.recording_course.specs.Course.{isRead, isOver, staged, setOut, givenOf, wroteOf, restOf, nextStage, wentOf, playStep, closeOn, listOn, stillOn, courseStep};
+ghost use Rattle.recording_course.specs.Course.{isRead, isOver, staged, setOut, givenOf, isDue, wroteOf, restOf, nextStage, wentOf, playStep, closeOn, listOn, stillOn, courseStep};
 
 // What comes next.
 pub enum Stage {
@@ -108,7 +108,21 @@ pub fn given(c: Course, good: bool, size: usize) -> Course
     }
 }
 
-// What a step wrote was written by the host, or could not be.
+// Whether the host writes what was gathered, where so much room is left behind it: nothing is held back at a read or at
+// the end, and the next step must find room.
+pub fn is_due(c: Course, room: usize) -> bool
+    ensures { λ r. ⌜ r ≡ isDue (c .stage) room ⌝ }
+{
+    if is_read(c) {
+        return true;
+    }
+    if is_over(c) {
+        return true;
+    }
+    room < 65536
+}
+
+// What was gathered was written by the host, or could not be.
 pub fn wrote(c: Course, good: bool) -> Course
     ensures { λ r. ⌜ r ≡ wroteOf c good ⌝ }
 {

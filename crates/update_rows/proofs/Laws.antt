@@ -11,6 +11,7 @@ use lib.Dec.{ltb, leb}
 use lib.ListN.{length, take, drop, getD, set, replicate, length-append, length-drop, length-replicate, drop-of-length-le}
 use lib.Seq.{sets, length-sets, sets-eq, getD-drop, drop-drop}
 use Rattle.checks.proofs.Laws.{part-from, cond-elim}
+use Rattle.octets.proofs.Numbers.{sets-append}
 use Rattle.nets.specs.Classes.{firstOctet, widthOf, netWidth, hostSpan, goodNet}
 use Rattle.nets.specs.Rows.{Row, flat}
 use Rattle.update_walk.specs.Body.{Got, got, stop, andThen, after, many, extended, bigEndian, leftJustified, netRow, groupRows, hostWidth, gatewayOf, blockRows, bothSides, Walk, whole, broken, walkedBlocks, updateOf, accepted}
@@ -22,12 +23,6 @@ use Rattle.update_walk.proofs.Accepted.{Whole, whole-is, accepted-is}
 use Rattle.update_walk.proofs.Good.{net-of, gateway-fits}
 use Rattle.update_rows.specs.declared.Put.{Put}
 use Rattle.update_rows.specs.Storing.{zeros, padded, isWhole, walkedRows, Storable, isGot, gotRows, gotRest, Room, Stored}
-
-pub sets-append : (l : List ℕ) (i : ℕ) (xs ys : List ℕ) → sets l i (xs ++ ys) ≡ sets (sets l i xs) (i + length xs) ys
-sets-append l i [] ys = ap (λ (k : ℕ). sets l k ys) (sym (add-zero i))
-sets-append l i (x ∷ xs) ys =
-    let e : suc i + length xs ≡ i + suc (length xs) = omega arith in
-    sets-append (set l i x) (suc i) xs ys ∙ ap (λ (k : ℕ). sets (sets (set l i x) (suc i) xs) k ys) e
 
 pub flat-append : (xs ys : List Row) → flat (xs ++ ys) ≡ flat xs ++ flat ys
 unfolding flat

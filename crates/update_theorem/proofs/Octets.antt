@@ -14,6 +14,7 @@ use Rattle.checks.specs.Lists.{every}
 use Rattle.nets.specs.Classes.{netWidth, firstOctet, widthOf, hostSpan, goodNet, onNet}
 use Rattle.nets.specs.Rows.{Row}
 use Rattle.update_walk.specs.Body.{Got, got, stop, extended, bigEndian, leftJustified, rowOfWidth, netRow, hostWidth, gatewayOf}
+use Rattle.update_walk.proofs.Good.{net-of, good-of}
 use Rattle.update_writing.specs.Blocks.{addressOctets, netOctets, hostOctets}
 use Rattle.update_writing.proofs.Claims.{width-most, width-least, net-octets, host-octets}
 use Rattle.update_theorem.specs.Trip.{octetsOnly}
@@ -38,19 +39,17 @@ pub record Good (net : ℕ) : Type 0 where
   pub justified : net % hostSpan (widthOf net) ≡ 0
 
 pub good-is : (net : ℕ) → goodNet net ≡ true → Good net
-unfolding goodNet
 good-is net g =
     let w = width-least net g in
     record {
       class = w;
       most = width-most (firstOctet net);
       first = first-below (firstOctet net) w;
-      justified = eqb-true (net % hostSpan (widthOf net)) 0 (and-right (not (eqb (widthOf net) 0)) (eqb (net % hostSpan (widthOf net)) 0) g);
+      justified = (net-of net g) .justified;
     }
 
 pub is-good : (net : ℕ) → 0 < widthOf net → net % hostSpan (widthOf net) ≡ 0 → goodNet net ≡ true
-unfolding goodNet
-is-good net w e = rw (ne-eqb (widthOf net) 0 (λ z. absurd (omega arith)), e)
+is-good net w e = good-of net (record { classed = λ z. absurd (omega arith); justified = e })
 
 summed : (n x y z first second third : ℕ) → x ≡ first → second ≡ first * 256 + y → third ≡ second * 256 + z → n ≡ third * 256 → (((0 * 256 + x) * 256 + y) * 256 + z) * 256 ≡ n
 summed n x y z first second third p q r s = omega arith

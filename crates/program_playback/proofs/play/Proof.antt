@@ -1,14 +1,11 @@
 -- `program_playback::play` is safe: it lends what the player asks for. Assumes nothing.
-use mathlib.Core.Path.{refl, sym}
+use mathlib.Core.Path.{refl}
 use borrow.Author.Needs.{needs}
 use Rattle.program_playback.proofs.play.Statement.{statement}
 use Rattle.program_playback.proofs.play.Tie as tie
 
 large-buffer-requires : tie.Need-large-buffer-requires
 large-buffer-requires c κs = search needs
-
-large-buffer-requires-2 : tie.Need-large-buffer-requires-2
-large-buffer-requires-2 c κs = search needs
 
 slice-aggregate-play-all : tie.Need-slice-aggregate-play-all
 slice-aggregate-play-all c = search needs
@@ -23,7 +20,7 @@ slice-aggregate-play-all-4 : tie.Need-slice-aggregate-play-all-4
 slice-aggregate-play-all-4 c = search needs
 
 play-all-requires : tie.Need-play-all-requires
-play-all-requires c κs = record { line-size = refl; table-size = refl; out-size = sym (c .before .before .before .before .large-buffer2 .ensures) }
+play-all-requires c κs = record { line-size = refl; table-size = refl; out-size = refl }
 
 returns : tie.Need-returns
 returns c = search needs
@@ -33,7 +30,6 @@ play-spec =
     tie.close
     (tie.spec
     large-buffer-requires
-    large-buffer-requires-2
     slice-aggregate-play-all
     slice-aggregate-play-all-2
     slice-aggregate-play-all-3

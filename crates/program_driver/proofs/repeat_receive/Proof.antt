@@ -2,14 +2,14 @@ use native.Mathlib.Omega.{arith}
 use mathlib.Core.Path.{_≡_, refl}
 use lib.ListN.{length}
 use borrow.Author.Needs.{needs}
-use Rattle.program_driver.proofs.repeat.Statement.{statement}
-use Rattle.program_driver.proofs.repeat.Tie as tie
+use Rattle.program_driver.proofs.repeat_receive.Statement.{statement}
+use Rattle.program_driver.proofs.repeat_receive.Tie as tie
 
 abbrev Inv-loop : tie.InvT-loop
-Inv-loop st table₀ buffer₀ head octets numbers outcome₀ times₀ table buffer outcome times = (length table ≡ length table₀) × (length buffer ≡ length buffer₀)
+Inv-loop st table₀ buffer₀ home address octets times outcome₀ left₀ table buffer outcome left = (length table ≡ length table₀) × (length buffer ≡ length buffer₀)
 
 abbrev μ-loop : tie.MeasureT-loop
-μ-loop st table₀ buffer₀ head octets numbers outcome₀ times₀ table buffer outcome times = times
+μ-loop st table₀ buffer₀ home address octets times outcome₀ left₀ table buffer outcome left = left
 
 refused-requires : tie.Need-refused-requires Inv-loop μ-loop
 refused-requires c κs = tt
@@ -17,11 +17,11 @@ refused-requires c κs = tt
 loop-holds : tie.Need-loop-holds Inv-loop μ-loop
 loop-holds c = (refl, refl)
 
-call-requires : tie.Need-call-requires Inv-loop μ-loop
-call-requires c κs = tt
+receive-requires : tie.Need-receive-requires Inv-loop μ-loop
+receive-requires c κs = tt
 
-sub-times : tie.Need-sub-times Inv-loop μ-loop
-sub-times c = omega arith
+sub-left : tie.Need-sub-left Inv-loop μ-loop
+sub-left c = omega arith
 
 loop-less : tie.Need-loop-less Inv-loop μ-loop
 loop-less c = omega arith
@@ -38,16 +38,16 @@ same-length-2 c = search needs
 returns : tie.Need-returns Inv-loop μ-loop
 returns c = search needs
 
-pub repeat-spec : {M : Type 1} → statement M
-repeat-spec =
+pub repeat-receive-spec : {M : Type 1} → statement M
+repeat-receive-spec =
     tie.close
     (tie.spec
     Inv-loop
     μ-loop
     refused-requires
     loop-holds
-    call-requires
-    sub-times
+    receive-requires
+    sub-left
     loop-less
     loop-again
     same-length

@@ -169,9 +169,9 @@ pub fn count_down(n: Neighbour) -> Neighbour
     ensures { λ r. ⌜ ((settings : Settings) → quiet r ≡ onTick settings n) ⌝ }
     ensures { λ r. ⌜ r .phase ≡ Phase.Up ⌝ }
 {
-    let mut next = n;
-    next.t1 = n.t1 - 1;
-    next.t2 = n.t2 - 1;
-    next.t3 = n.t3 - 1;
-    next
+    let mut left = n;
+    left.t1 = n.t1 - 1;
+    left.t2 = n.t2 - 1;
+    left.t3 = n.t3 - 1;
+    left
 }

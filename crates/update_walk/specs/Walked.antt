@@ -3,9 +3,8 @@ use Prim.Native.Nat.{ℕ, _+_, _-_, _≤_}
 use mathlib.Core.Bool.{cond}
 use mathlib.Core.Path.{_≡_}
 use mathlib.Core.List.{List, []}
-use lib.Dec.{ltb, leb, eqb}
+use lib.Dec.{leb, eqb}
 use lib.ListN.{length, take, drop, getD}
-use Rattle.nets.specs.Classes.{netWidth}
 use Rattle.nets.specs.Rows.{Row}
 use Rattle.update_walk.specs.Body.{Got, got, stop, many, netRow, groupRows}
 use Rattle.update_walk.specs.declared.Skip.{Skip}
@@ -17,10 +16,6 @@ use Rattle.update_walk.specs.declared.Walked.the-variants.{Rows, Broken,
 unfoldable pub skipOf : Got (List Row) → Skip
 skipOf (got rs t) = Past (length rs) (length t)
 skipOf (stop left) = Stop left
-
--- how many octets the net at the front takes; 0: no class; 4: octets are missing
-unfoldable pub netTaken : List ℕ → ℕ
-netTaken t = cond (eqb (length t) 0) 4 (cond (ltb (length t) (netWidth (getD t 0 0))) 4 (netWidth (getD t 0 0)))
 
 -- how many octets of t a reading took, 0 where it is bad
 unfoldable pub taken : {A : Type 0} → List ℕ → Got A → ℕ

@@ -120,26 +120,24 @@ fn neighbour(slot: usize, rows: usize) -> Neighbour {
     }
 }
 
-/// Rows of class C nets behind one gateway, in groups of 16 distances.
-fn class_c(gateway: u32, count: usize) -> Vec<Row> {
+/// Rows of these nets behind one gateway, in groups of 16 distances.
+fn behind(gateway: u32, count: usize, net: fn(u8) -> u32) -> Vec<Row> {
     (0..count)
         .map(|index| Row {
-            net: address(192, 5, index as u8, 0),
+            net: net(index as u8),
             gateway,
             distance: (index / 16) as u32,
         })
         .collect()
 }
 
-/// The same of class A nets, one octet each.
+fn class_c(gateway: u32, count: usize) -> Vec<Row> {
+    behind(gateway, count, |index| address(192, 5, index, 0))
+}
+
+/// Nets of one octet each: most rows to an octet.
 fn class_a(gateway: u32, count: usize) -> Vec<Row> {
-    (0..count)
-        .map(|index| Row {
-            net: address(index as u8 % 128, 0, 0, 0),
-            gateway,
-            distance: (index / 16) as u32,
-        })
-        .collect()
+    behind(gateway, count, |index| address(index % 128, 0, 0, 0))
 }
 
 /// Rows of class C nets, each behind a gateway of its own; the first is the one given.

@@ -54,7 +54,8 @@ use Rattle.codec.proofs.Laws.{octets-short}
 use Rattle.codec.proofs.ReadLaws.{read-kind-good}
 use Rattle.codec_theorem.specs.Widths.{HeadFits, InWidths}
 use Rattle.codec_theorem.specs.Exchange.{handedBack, Common, MeaningsReadBack, Reads, ComesBack, OctetsComeBack, handedOver, CallsUndoEachOther, Bound}
-use Rattle.codec_theorem.proofs.Fixed.{Allowed, ReservedZero, word-back, quad-back, sealed-passes, passes, decodes, ReadAs, read-as, spell, high, low, first-of, second-of, third-of, fourth-of, kind-read, read-allowed, fixed-back}
+use Rattle.octets.proofs.Back.{word-back, quad-back, high, low, first-of, second-of, third-of, fourth-of}
+use Rattle.codec_theorem.proofs.Fixed.{Allowed, ReservedZero, sealed-passes, passes, decodes, ReadAs, read-as, spell, kind-read, read-allowed, fixed-back}
 
 -- ---- rows and their numbers
 

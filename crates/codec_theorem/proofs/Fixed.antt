@@ -1,6 +1,5 @@
 -- Reading and writing undo each other, an Update's blocks left out. Assumes nothing.
 use Prim.Native.Nat.{ℕ, zero, suc, _+_, _/_, _%_, _≤_, _<_}
-use native.Mathlib.Nat.{div-div-eq-div-mul, div-add-mod', mod-eq-of-lt}
 use native.Mathlib.Omega.{arith}
 use borrow.Author.Tests.{eqb-true}
 use mathlib.Core.Path.{_≡_, refl, sym, ap, _∙_}
@@ -9,7 +8,8 @@ use mathlib.Core.Bool.{Bool, true, false, cond}
 use mathlib.Core.List.{List, [], _∷_}
 use lib.ListN.{length, getD, drop, drop-of-length-le}
 use lib.Seq.{drop-cons}
-use Rattle.octets.specs.Numbers.{Octets, pairOf, quadOf, word16, word32, octets16, octets32}
+use Rattle.octets.specs.Numbers.{Octets, word16, word32, octets16, octets32}
+use Rattle.octets.proofs.Back.{word-back, quad-back, high, low, first-of, second-of, third-of, fourth-of}
 use Rattle.octets_checksum.specs.Checksum.{checksumOf, sealed, blanked}
 use Rattle.octets_checksum.proofs.Laws.{sealed-length, field-sealed, sealed-first, sealed-right, sealed-blanked}
 use Rattle.message.proofs.Laws.{kind-pair}
@@ -35,18 +35,6 @@ Allowed m = statusAllowed (kindOf m) (statusOf m) ≡ true
 -- 01: octets come back only "where a Poll's reserved octets are 0"
 abbrev pub ReservedZero : Message → List ℕ → Type 0
 ReservedZero m o = kindOf m ≡ K.Poll → (getD o 10 0 ≡ 0) × (getD o 11 0 ≡ 0)
-
--- ---- numbers and their octets
-
-pub word-back : (n : ℕ) → n < 65536 → pairOf (n / 256 % 256) (n % 256) ≡ n
-word-back n h = omega arith
-
-pub quad-back : (n : ℕ) → n < 4294967296 → quadOf (n / 16777216 % 256) (n / 65536 % 256) (n / 256 % 256) (n % 256) ≡ n
-quad-back n h =
-    let two : n / 65536 ≡ n / 256 / 256 = sym (div-div-eq-div-mul n 256 256) in
-    let three : n / 16777216 ≡ n / 256 / 256 / 256 = sym (ap (λ (k : ℕ). k / 256) (div-div-eq-div-mul n 256 256) ∙ div-div-eq-div-mul n 65536 256) in
-    let small : n / 256 / 256 / 256 < 256 = rw (← three) (omega arith) in
-    rw (two, three, mod-eq-of-lt small, div-add-mod' (n / 256 / 256) 256, div-add-mod' (n / 256) 256, div-add-mod' n 256)
 
 -- ---- what was written passes the header stage
 
@@ -123,25 +111,6 @@ spell-drop (suc n) i l e =
 
 spelled : (n : ℕ) (l : List ℕ) → length l ≡ n → l ≡ spell n 0 l
 spelled n l e = spell-drop n 0 l (omega arith)
-
-pub high : (a b : ℕ) → a < 256 → b < 256 → pairOf a b / 256 % 256 ≡ a
-high a b p q = omega arith
-
-pub low : (a b : ℕ) → a < 256 → b < 256 → pairOf a b % 256 ≡ b
-low a b p q = omega arith
-
-module _ (a b c d : ℕ) (p : a < 256) (q : b < 256) (r : c < 256) (s : d < 256) where
-  pub first-of : quadOf a b c d / 16777216 % 256 ≡ a
-  first-of = omega arith
-
-  pub second-of : quadOf a b c d / 65536 % 256 ≡ b
-  second-of = omega arith
-
-  pub third-of : quadOf a b c d / 256 % 256 ≡ c
-  third-of = omega arith
-
-  pub fourth-of : quadOf a b c d % 256 ≡ d
-  fourth-of = omega arith
 
 -- ---- the octets of what was read, but for the checksum's field
 

@@ -80,7 +80,7 @@ fn count_after(count: u16, effect: Effect) -> u16
     }
 }
 
-fn slot_after(slot: Slot, v: Verdict) -> Slot
+pub fn slot_after(slot: Slot, v: Verdict) -> Slot
     ensures { λ r. ⌜ ((walk : Walk) → takes (v .effect) walk ≡ true → r ≡ slotAfter slot (rulingOf v (walkedRows walk))) ⌝ }
 {
     let next = v.neighbour;

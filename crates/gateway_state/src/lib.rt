@@ -208,7 +208,7 @@ fn is_used_formed(settings: Settings, slot: Slot) -> bool
     are_rows_formed(phase, slot.rows)
 }
 
-fn is_slot_formed(settings: Settings, slot: Slot) -> bool
+pub fn is_slot_formed(settings: Settings, slot: Slot) -> bool
     ensures { λ r. ⌜ r ≡ slotFormed settings slot ⌝ }
 {
     let n = slot.neighbour;
@@ -222,7 +222,7 @@ fn is_slot_formed(settings: Settings, slot: Slot) -> bool
 }
 
 // A short way for a slot in Up, which most are: true where it is formed. Of another slot false says nothing.
-fn is_up_slot_formed(settings: Settings, slot: Slot) -> bool
+pub fn is_up_slot_formed(settings: Settings, slot: Slot) -> bool
     ensures { λ r. ⌜ (r ≡ true → slotFormed settings slot ≡ true) ⌝ }
 {
     let n = slot.neighbour;

@@ -47,14 +47,14 @@ pub fn fourth_of(number: u32) -> u8
 }
 
 // The 16-bit number whose octets are a and b.
-fn pair(a: u8, b: u8) -> u16
+pub fn pair(a: u8, b: u8) -> u16
     ensures { λ r. ⌜ r ≡ pairOf a b ⌝ }
 {
     a as u16 * 256 + b as u16
 }
 
 // The 32-bit number whose octets are a, b, c and d.
-fn quad(a: u8, b: u8, c: u8, d: u8) -> u32
+pub fn quad(a: u8, b: u8, c: u8, d: u8) -> u32
     ensures { λ r. ⌜ r ≡ quadOf a b c d ⌝ }
 {
     ((a as u32 * 256 + b as u32) * 256 + c as u32) * 256 + d as u32

@@ -1,11 +1,10 @@
--- The state as a block of 227 octets. 02: "own AS (2), own address (4), capability (1), common net (4), then each slot's address (4), AS, S, R, T1,
--- T2, t1, t2, t3, row count (2 each), state, mode, register, heard, cause (1 each); states from 0 as listed, mode none, active, passive 0 to 2".
-use Prim.Native.Nat.{ℕ, zero, suc, _+_, _*_, _/_, _%_}
+-- The state as a block of octets: 02's "State block, big-endian". The two lists of widths are all that says where a
+-- field stands; a later field ends its part.
+use Prim.Native.Nat.{ℕ, zero, suc, _+_, _*_}
 use mathlib.Core.Bool.{cond}
 use mathlib.Core.List.{List, [], _∷_, _++_}
-use lib.ListN.{getD}
+use lib.ListN.{getD, take, drop}
 use lib.Dec.{eqb}
-use Rattle.octets.specs.Numbers.{word16, word32, octets16, octets32}
 use Rattle.neighbour.specs.declared.Phase.{Phase}
 use Rattle.neighbour.specs.declared.Phase.the-variants.{Idle, Acquisition, Down, Up, Cease}
 use Rattle.neighbour.specs.declared.Mode.{Mode}
@@ -15,19 +14,30 @@ use Rattle.neighbour.specs.declared.Settings.{Settings}
 use Rattle.neighbour.specs.Record.{phaseNumber, modeNumber}
 use Rattle.gateway_state.specs.declared.Slot.{Slot}
 use Rattle.gateway_state.specs.declared.State.{State}
+use Rattle.host_state_block.specs.Layout.{Width, one, two, four, total, numbersAt, octetsFor}
 
 -- "own AS (2), own address (4), capability (1), common net (4)"
-abbrev pub settingsSize : ℕ
-settingsSize = 11
+abbrev pub ownFields : List Width
+ownFields = two ∷ four ∷ one ∷ four ∷ []
 
 -- "each slot's address (4), AS, S, R, T1, T2, t1, t2, t3, row count (2 each), state, mode, register, heard, cause
 -- (1 each)"
-abbrev pub slotSize : ℕ
-slotSize = 27
+abbrev pub slotFields : List Width
+slotFields = four ∷ two ∷ two ∷ two ∷ two ∷ two ∷ two ∷ two ∷ two ∷ two ∷ one ∷ one ∷ one ∷ one ∷ one ∷ []
 
--- where the octets of slot i begin; that of the slot after the last is where the block ends, 227
+-- 11 octets, 27 for each of the eight slots, 227 in all
+abbrev pub ownSize : ℕ
+ownSize = total ownFields
+
+abbrev pub slotSize : ℕ
+slotSize = total slotFields
+
+abbrev pub blockSize : ℕ
+blockSize = ownSize + 8 * slotSize
+
+-- where the octets of slot i begin
 abbrev pub slotStart : ℕ → ℕ
-slotStart i = settingsSize + i * slotSize
+slotStart i = ownSize + i * slotSize
 
 -- "states from 0 as listed": idle, acquisition, down, up, cease
 abbrev pub phaseAt : ℕ → Phase
@@ -37,53 +47,57 @@ phaseAt n = cond (eqb n 1) Acquisition (cond (eqb n 2) Down (cond (eqb n 3) Up (
 abbrev pub modeAt : ℕ → Mode
 modeAt n = cond (eqb n 1) Active (cond (eqb n 2) Passive Unset)
 
--- the settings at the front of a block
-unfoldable pub settingsAt : List ℕ → Settings
-settingsAt l = record { asn = word16 l 0; own = word32 l 2; capability = getD l 6 0; net = word32 l 7 }
+-- ---- the numbers of the fields, in the order of the widths
 
--- the slot whose octets begin at index at
-unfoldable pub slotRead : List ℕ → ℕ → Slot
-slotRead l at =
+unfoldable pub ownNumbers : Settings → List ℕ
+ownNumbers g = g .asn ∷ g .own ∷ g .capability ∷ g .net ∷ []
+
+unfoldable pub settingsOf : List ℕ → Settings
+settingsOf f = record { asn = getD f 0 0; own = getD f 1 0; capability = getD f 2 0; net = getD f 3 0 }
+
+unfoldable pub slotNumbers : Slot → List ℕ
+slotNumbers slot =
+    slot .address ∷ slot .asn ∷ slot .neighbour .s ∷ slot .neighbour .r ∷ slot .neighbour .period1 ∷ slot .neighbour .period2
+    ∷ slot .neighbour .t1 ∷ slot .neighbour .t2 ∷ slot .neighbour .t3 ∷ slot .rows
+    ∷ phaseNumber (slot .neighbour .phase) ∷ modeNumber (slot .neighbour .mode)
+    ∷ slot .neighbour .register ∷ slot .neighbour .heard ∷ slot .neighbour .cause ∷ []
+
+abbrev pub phaseField : List ℕ → ℕ
+phaseField f = getD f 10 0
+
+abbrev pub modeField : List ℕ → ℕ
+modeField f = getD f 11 0
+
+unfoldable pub slotOf : List ℕ → Slot
+slotOf f =
     record {
-      address = word32 l at;
-      asn = word16 l (at + 4);
+      address = getD f 0 0;
+      asn = getD f 1 0;
       neighbour =
           record {
-            s = word16 l (at + 6);
-            r = word16 l (at + 8);
-            period1 = word16 l (at + 10);
-            period2 = word16 l (at + 12);
-            t1 = word16 l (at + 14);
-            t2 = word16 l (at + 16);
-            t3 = word16 l (at + 18);
-            phase = phaseAt (getD l (at + 22) 0);
-            mode = modeAt (getD l (at + 23) 0);
-            register = getD l (at + 24) 0;
-            heard = getD l (at + 25) 0;
-            cause = getD l (at + 26) 0;
+            s = getD f 2 0;
+            r = getD f 3 0;
+            period1 = getD f 4 0;
+            period2 = getD f 5 0;
+            t1 = getD f 6 0;
+            t2 = getD f 7 0;
+            t3 = getD f 8 0;
+            phase = phaseAt (phaseField f);
+            mode = modeAt (modeField f);
+            register = getD f 12 0;
+            heard = getD f 13 0;
+            cause = getD f 14 0;
           };
-      rows = word16 l (at + 20);
+      rows = getD f 9 0;
     }
 
--- the state whose block this is
-unfoldable pub stateAt : List ℕ → State
-stateAt l =
-    record {
-      settings = settingsAt l;
-      slots =
-          slotRead l (slotStart 0) ∷ slotRead l (slotStart 1) ∷ slotRead l (slotStart 2) ∷ slotRead l (slotStart 3)
-          ∷ slotRead l (slotStart 4) ∷ slotRead l (slotStart 5) ∷ slotRead l (slotStart 6) ∷ slotRead l (slotStart 7) ∷ [];
-    }
+-- ---- written
 
-unfoldable pub settingsOctets : Settings → List ℕ
-settingsOctets s = octets16 (s .asn) (octets32 (s .own) (s .capability ∷ octets32 (s .net) []))
+unfoldable pub ownOctets : Settings → List ℕ
+ownOctets g = octetsFor ownFields (ownNumbers g)
 
 unfoldable pub slotOctets : Slot → List ℕ
-slotOctets slot =
-    octets32 (slot .address) (octets16 (slot .asn) (octets16 (slot .neighbour .s) (octets16 (slot .neighbour .r)
-    (octets16 (slot .neighbour .period1) (octets16 (slot .neighbour .period2) (octets16 (slot .neighbour .t1) (octets16 (slot .neighbour .t2)
-    (octets16 (slot .neighbour .t3) (octets16 (slot .rows) (phaseNumber (slot .neighbour .phase) ∷ modeNumber (slot .neighbour .mode)
-    ∷ slot .neighbour .register ∷ slot .neighbour .heard ∷ slot .neighbour .cause ∷ []))))))))))
+slotOctets slot = octetsFor slotFields (slotNumbers slot)
 
 -- the octets of some slots, one after the other
 unfoldable pub slotsOctets : List Slot → List ℕ
@@ -92,4 +106,22 @@ slotsOctets (slot ∷ rest) = slotOctets slot ++ slotsOctets rest
 
 -- the block of a state
 unfoldable pub blockOf : State → List ℕ
-blockOf st = settingsOctets (st .settings) ++ slotsOctets (st .slots)
+blockOf st = ownOctets (st .settings) ++ slotsOctets (st .slots)
+
+-- ---- read
+
+-- the settings in their part of a block, a slot in its
+unfoldable pub settingsIn : List ℕ → Settings
+settingsIn part = settingsOf (numbersAt ownFields part 0)
+
+unfoldable pub slotIn : List ℕ → Slot
+slotIn part = slotOf (numbersAt slotFields part 0)
+
+-- the first n slots
+unfoldable pub slotsIn : ℕ → List ℕ → List Slot
+slotsIn zero l = []
+slotsIn (suc n) l = slotIn (take slotSize l) ∷ slotsIn n (drop slotSize l)
+
+-- the state whose block this is
+unfoldable pub stateIn : List ℕ → State
+stateIn block = record { settings = settingsIn (take ownSize block); slots = slotsIn 8 (drop ownSize block) }

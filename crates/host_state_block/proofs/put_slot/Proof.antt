@@ -1,41 +1,26 @@
-use Rattle.host_state_block.proofs.Laws.{slot-put}
 use borrow.Author.Needs.{needs}
 use Rattle.host_state_block.proofs.put_slot.Statement.{statement}
 use Rattle.host_state_block.proofs.put_slot.Tie as tie
+use Rattle.host_state_block.proofs.put_slot.Reads as reads
+use Rattle.host_state_block.proofs.put_slot.Lts as lts
+use Rattle.host_state_block.proofs.put_slot_at.Reads as put-slot-at-reads
+use Rattle.host_state_block.proofs.slot_start.Reads as slot-start-reads
 
-sub-store : tie.Need-sub-store
-sub-store c = search needs
+-- src/lib.rt:427:24
+slot-start-requires : tie.Need-slot-start-requires
+slot-start-requires c κs = search needs
 
-part-store-start : tie.Need-part-store-start
-part-store-start c = search needs
+-- src/lib.rt:427:5
+put-slot-at-requires : tie.Need-put-slot-at-requires
+put-slot-at-requires c κs = search needs
 
-part-store-end : tie.Need-part-store-end
-part-store-end c = search needs
-
-slot-octets-requires : tie.Need-slot-octets-requires
-slot-octets-requires c κs = search needs
-
-slice-aggregate-store : tie.Need-slice-aggregate-store
-slice-aggregate-store c = search needs
-
-store-requires : tie.Need-store-requires
-store-requires c κs = search needs
-
+-- src/lib.rt:423:1
 same-length : tie.Need-same-length
 same-length c = search needs
 
+-- src/lib.rt:423:1
 returns : tie.Need-returns
-returns c = slot-put (c .before .before .before .before .before .before .before .args .out .now) _ _ (c .before .before .before .before .before .before .before .args .at) (c .before .before .before .before .before .before .before .args .slot) (c .before .before .before .before .before .before .before .pre) (c .before .before .before .before .slot-octets .ensures) (c .before .before .store .ensures .1)
+returns c = ?
 
 pub put-slot-spec : {M : Type 1} → statement M
-put-slot-spec =
-    tie.close
-    (tie.spec
-    sub-store
-    part-store-start
-    part-store-end
-    slot-octets-requires
-    slice-aggregate-store
-    store-requires
-    same-length
-    returns)
+put-slot-spec = tie.close (tie.spec slot-start-requires put-slot-at-requires same-length returns)

@@ -1,61 +1,55 @@
-use Rattle.neighbour.specs.Record.{idle}
-use borrow.Author.Needs.{needs}
-use Rattle.gateway_state.specs.Slots.{freeSlot}
-use Rattle.gateway_state.proofs.ListLaws.{unmapped}
-use mathlib.Core.Path.{_≡_, refl, sym, ap, _∙_}
-use Prim.Native.Nat.{ℕ, _+_, _-_, _≤_}
-use native.Mathlib.Omega.{arith}
-use lib.ListN.{length, drop, getD}
-use lib.Seq.{sets}
-use Rattle.host_state_block.specs.Block.{slotStart, slotOctets, slotsOctets}
-use Rattle.host_state_block.proofs.Laws.{slot-kept, slots-next, slots-done}
 use Rattle.host_state_block.proofs.put_slots.Statement.{statement}
 use Rattle.host_state_block.proofs.put_slots.Tie as tie
+use Rattle.host_state_block.proofs.put_slots.Reads as reads
+use Rattle.host_state_block.proofs.put_slots.Lts as lts
+use Rattle.host_state_block.proofs.put_slot_at.Reads as put-slot-at-reads
+use Rattle.host_state_block.proofs.slot_start.Reads as slot-start-reads
 
 abbrev Inv-loop : tie.InvT-loop
-Inv-loop out₀ st i₀ out i =
-    (i ≤ 8) × (length out ≡ length out₀) × (sets out₀ (slotStart 0) (slotsOctets (st .slots)) ≡ sets out (slotStart i) (slotsOctets (drop i (st .slots))))
+Inv-loop out₀ st i₀ out i = ?
 
 abbrev μ-loop : tie.MeasureT-loop
-μ-loop out₀ st i₀ out i = 8 - i
+μ-loop out₀ st i₀ out i = ?
 
+-- src/lib.rt:436:5
 loop-holds : tie.Need-loop-holds Inv-loop μ-loop
-loop-holds c = (omega arith, refl, refl)
+loop-holds c = ?
 
+-- src/lib.rt:437:20
 mul-slot : tie.Need-mul-slot Inv-loop μ-loop
-mul-slot c = omega arith
+mul-slot c = ?
 
+-- src/lib.rt:437:20
 element-copy-out-slot : tie.Need-element-copy-out-slot Inv-loop μ-loop
-element-copy-out-slot c = omega arith
+element-copy-out-slot c = ?
 
+-- src/lib.rt:438:26
 slot-start-requires : tie.Need-slot-start-requires Inv-loop μ-loop
-slot-start-requires c κs = omega arith
+slot-start-requires c κs = ?
 
-put-slot-requires : tie.Need-put-slot-requires Inv-loop μ-loop
-put-slot-requires c κs = omega (arith, c .before .before .before .before .before .before .pre, c .slot-start .ensures)
+-- src/lib.rt:438:9
+put-slot-at-requires : tie.Need-put-slot-at-requires Inv-loop μ-loop
+put-slot-at-requires c κs = ?
 
+-- src/lib.rt:439:9
 add-i : tie.Need-add-i Inv-loop μ-loop
-add-i c = omega arith
+add-i c = ?
 
+-- src/lib.rt:436:5
 loop-less : tie.Need-loop-less Inv-loop μ-loop
-loop-less c = omega arith
+loop-less c = ?
 
+-- src/lib.rt:436:5
 loop-again : tie.Need-loop-again Inv-loop μ-loop
-unfolding freeSlot idle
-loop-again c =
-    let l = c .before .before .before .before .before .before .before .loop in
-    let e8 : length (c .before .before .before .before .before .before .before .before .before .args .t2 .slots) ≡ 8 = search (needs, unmapped) in
-    let w = c .before .before .put-slot .ensures ∙ ap (λ (n : ℕ). sets (l .out) n (slotOctets (getD (c .before .before .before .before .before .before .before .before .before .args .t2 .slots) (l .i) freeSlot))) (c .before .before .before .slot-start .ensures) in
-    (omega arith, slot-kept (l .out) _ _ _ (c .before .before .put-slot .ensures) ∙ l .inv .1, l .inv .2 ∙ slots-next (l .out) _ (c .before .before .before .before .before .before .before .before .before .args .t2 .slots) (l .i) freeSlot (omega arith) w)
+loop-again c = ?
 
+-- src/lib.rt:431:1
 same-length : tie.Need-same-length Inv-loop μ-loop
-same-length c = omega arith
+same-length c = ?
 
+-- src/lib.rt:431:1
 returns : tie.Need-returns Inv-loop μ-loop
-returns c =
-    let l = c .before .loop in
-    let e8 : length (c .before .before .before .args .t2 .slots) ≡ 8 = search (needs, unmapped) in
-    sym (l .inv .2 ∙ slots-done (l .out) (slotStart (l .i)) (c .before .before .before .args .t2 .slots) (l .i) (omega arith))
+returns c = ?
 
 pub put-slots-spec : {M : Type 1} → statement M
 put-slots-spec =
@@ -67,7 +61,7 @@ put-slots-spec =
     mul-slot
     element-copy-out-slot
     slot-start-requires
-    put-slot-requires
+    put-slot-at-requires
     add-i
     loop-less
     loop-again

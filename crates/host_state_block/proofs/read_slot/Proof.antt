@@ -1,157 +1,214 @@
-use Rattle.host_state_block.specs.Block.{slotRead}
 use borrow.Author.Needs.{needs}
 use Rattle.host_state_block.proofs.read_slot.Statement.{statement}
 use Rattle.host_state_block.proofs.read_slot.Tie as tie
+use Rattle.host_state_block.proofs.read_slot.Reads as reads
+use Rattle.host_state_block.proofs.read_slot.Lts as lts
+use Rattle.host_state_block.proofs.mode_at.Reads as mode-at-reads
+use Rattle.host_state_block.proofs.phase_at.Reads as phase-at-reads
+use Rattle.octets.proofs.pair.Reads as pair-reads
+use Rattle.octets.proofs.quad.Reads as quad-reads
 
-add-word16-at : tie.Need-add-word16-at
-add-word16-at c = search needs
+-- src/lib.rt:100:25
+shared-slice-read-pair : tie.Need-shared-slice-read-pair
+shared-slice-read-pair c = search needs
 
-word16-at-requires : tie.Need-word16-at-requires
-word16-at-requires c κs = search needs
+-- src/lib.rt:100:34
+shared-slice-read-pair-2 : tie.Need-shared-slice-read-pair-2
+shared-slice-read-pair-2 c = search needs
 
-add-word16-at-2 : tie.Need-add-word16-at-2
-add-word16-at-2 c = search needs
+-- src/lib.rt:100:12
+pair-requires : tie.Need-pair-requires
+pair-requires c κs = search needs
 
-word16-at-requires-2 : tie.Need-word16-at-requires-2
-word16-at-requires-2 c κs = search needs
+-- src/lib.rt:101:25
+shared-slice-read-pair-3 : tie.Need-shared-slice-read-pair-3
+shared-slice-read-pair-3 c = search needs
 
-add-word16-at-3 : tie.Need-add-word16-at-3
-add-word16-at-3 c = search needs
+-- src/lib.rt:101:34
+shared-slice-read-pair-4 : tie.Need-shared-slice-read-pair-4
+shared-slice-read-pair-4 c = search needs
 
-word16-at-requires-3 : tie.Need-word16-at-requires-3
-word16-at-requires-3 c κs = search needs
+-- src/lib.rt:101:12
+pair-requires-2 : tie.Need-pair-requires-2
+pair-requires-2 c κs = search needs
 
-add-word16-at-4 : tie.Need-add-word16-at-4
-add-word16-at-4 c = search needs
+-- src/lib.rt:102:31
+shared-slice-read-pair-5 : tie.Need-shared-slice-read-pair-5
+shared-slice-read-pair-5 c = search needs
 
-word16-at-requires-4 : tie.Need-word16-at-requires-4
-word16-at-requires-4 c κs = search needs
+-- src/lib.rt:102:41
+shared-slice-read-pair-6 : tie.Need-shared-slice-read-pair-6
+shared-slice-read-pair-6 c = search needs
 
-add-word16-at-5 : tie.Need-add-word16-at-5
-add-word16-at-5 c = search needs
+-- src/lib.rt:102:18
+pair-requires-3 : tie.Need-pair-requires-3
+pair-requires-3 c κs = search needs
 
-word16-at-requires-5 : tie.Need-word16-at-requires-5
-word16-at-requires-5 c κs = search needs
+-- src/lib.rt:103:31
+shared-slice-read-pair-7 : tie.Need-shared-slice-read-pair-7
+shared-slice-read-pair-7 c = search needs
 
-add-word16-at-6 : tie.Need-add-word16-at-6
-add-word16-at-6 c = search needs
+-- src/lib.rt:103:41
+shared-slice-read-pair-8 : tie.Need-shared-slice-read-pair-8
+shared-slice-read-pair-8 c = search needs
 
-word16-at-requires-6 : tie.Need-word16-at-requires-6
-word16-at-requires-6 c κs = search needs
+-- src/lib.rt:103:18
+pair-requires-4 : tie.Need-pair-requires-4
+pair-requires-4 c κs = search needs
 
-add-word16-at-7 : tie.Need-add-word16-at-7
-add-word16-at-7 c = search needs
+-- src/lib.rt:104:26
+shared-slice-read-pair-9 : tie.Need-shared-slice-read-pair-9
+shared-slice-read-pair-9 c = search needs
 
-word16-at-requires-7 : tie.Need-word16-at-requires-7
-word16-at-requires-7 c κs = search needs
+-- src/lib.rt:104:36
+shared-slice-read-pair-10 : tie.Need-shared-slice-read-pair-10
+shared-slice-read-pair-10 c = search needs
 
-add-octet : tie.Need-add-octet
-add-octet c = search needs
+-- src/lib.rt:104:13
+pair-requires-5 : tie.Need-pair-requires-5
+pair-requires-5 c κs = search needs
 
-octet-requires : tie.Need-octet-requires
-octet-requires c κs = search needs
+-- src/lib.rt:105:26
+shared-slice-read-pair-11 : tie.Need-shared-slice-read-pair-11
+shared-slice-read-pair-11 c = search needs
 
+-- src/lib.rt:105:36
+shared-slice-read-pair-12 : tie.Need-shared-slice-read-pair-12
+shared-slice-read-pair-12 c = search needs
+
+-- src/lib.rt:105:13
+pair-requires-6 : tie.Need-pair-requires-6
+pair-requires-6 c κs = search needs
+
+-- src/lib.rt:106:26
+shared-slice-read-pair-13 : tie.Need-shared-slice-read-pair-13
+shared-slice-read-pair-13 c = search needs
+
+-- src/lib.rt:106:36
+shared-slice-read-pair-14 : tie.Need-shared-slice-read-pair-14
+shared-slice-read-pair-14 c = search needs
+
+-- src/lib.rt:106:13
+pair-requires-7 : tie.Need-pair-requires-7
+pair-requires-7 c κs = search needs
+
+-- src/lib.rt:107:25
+shared-slice-read-phase-at : tie.Need-shared-slice-read-phase-at
+shared-slice-read-phase-at c = search needs
+
+-- src/lib.rt:107:16
 phase-at-requires : tie.Need-phase-at-requires
 phase-at-requires c κs = search needs
 
-add-octet-2 : tie.Need-add-octet-2
-add-octet-2 c = search needs
+-- src/lib.rt:108:23
+shared-slice-read-mode-at : tie.Need-shared-slice-read-mode-at
+shared-slice-read-mode-at c = search needs
 
-octet-requires-2 : tie.Need-octet-requires-2
-octet-requires-2 c κs = search needs
-
+-- src/lib.rt:108:15
 mode-at-requires : tie.Need-mode-at-requires
 mode-at-requires c κs = search needs
 
-add-octet-3 : tie.Need-add-octet-3
-add-octet-3 c = search needs
+-- src/lib.rt:109:19
+shared-slice-read-quad : tie.Need-shared-slice-read-quad
+shared-slice-read-quad c = search needs
 
-octet-requires-3 : tie.Need-octet-requires-3
-octet-requires-3 c κs = search needs
+-- src/lib.rt:110:16
+shared-slice-read-quad-2 : tie.Need-shared-slice-read-quad-2
+shared-slice-read-quad-2 c = search needs
 
-add-octet-4 : tie.Need-add-octet-4
-add-octet-4 c = search needs
+-- src/lib.rt:111:16
+shared-slice-read-quad-3 : tie.Need-shared-slice-read-quad-3
+shared-slice-read-quad-3 c = search needs
 
-octet-requires-4 : tie.Need-octet-requires-4
-octet-requires-4 c κs = search needs
+-- src/lib.rt:114:31
+shared-slice-read-quad-4 : tie.Need-shared-slice-read-quad-4
+shared-slice-read-quad-4 c = search needs
 
-add-octet-5 : tie.Need-add-octet-5
-add-octet-5 c = search needs
+-- src/lib.rt:114:40
+shared-slice-read-quad-5 : tie.Need-shared-slice-read-quad-5
+shared-slice-read-quad-5 c = search needs
 
-octet-requires-5 : tie.Need-octet-requires-5
-octet-requires-5 c κs = search needs
+-- src/lib.rt:114:49
+shared-slice-read-quad-6 : tie.Need-shared-slice-read-quad-6
+shared-slice-read-quad-6 c = search needs
 
-word32-at-requires : tie.Need-word32-at-requires
-word32-at-requires c κs = search needs
+-- src/lib.rt:114:58
+shared-slice-read-quad-7 : tie.Need-shared-slice-read-quad-7
+shared-slice-read-quad-7 c = search needs
 
-add-word16-at-8 : tie.Need-add-word16-at-8
-add-word16-at-8 c = search needs
+-- src/lib.rt:114:18
+quad-requires : tie.Need-quad-requires
+quad-requires c κs = search needs
 
-word16-at-requires-8 : tie.Need-word16-at-requires-8
-word16-at-requires-8 c κs = search needs
+-- src/lib.rt:115:27
+shared-slice-read-pair-15 : tie.Need-shared-slice-read-pair-15
+shared-slice-read-pair-15 c = search needs
 
-add-word16-at-9 : tie.Need-add-word16-at-9
-add-word16-at-9 c = search needs
+-- src/lib.rt:115:36
+shared-slice-read-pair-16 : tie.Need-shared-slice-read-pair-16
+shared-slice-read-pair-16 c = search needs
 
-word16-at-requires-9 : tie.Need-word16-at-requires-9
-word16-at-requires-9 c κs = search needs
+-- src/lib.rt:115:14
+pair-requires-8 : tie.Need-pair-requires-8
+pair-requires-8 c κs = search needs
 
+-- src/lib.rt:117:28
+shared-slice-read-pair-17 : tie.Need-shared-slice-read-pair-17
+shared-slice-read-pair-17 c = search needs
+
+-- src/lib.rt:117:38
+shared-slice-read-pair-18 : tie.Need-shared-slice-read-pair-18
+shared-slice-read-pair-18 c = search needs
+
+-- src/lib.rt:117:15
+pair-requires-9 : tie.Need-pair-requires-9
+pair-requires-9 c κs = search needs
+
+-- src/lib.rt:95:1
 returns : tie.Need-returns
-unfolding slotRead
-returns c =
-    rw (
-      c .word16-at9 .ensures,
-      c .before .word16-at8 .ensures,
-      c .before .before .word32-at .ensures,
-      c .before .before .before .octet5 .ensures,
-      c .before .before .before .before .octet4 .ensures,
-      c .before .before .before .before .before .octet3 .ensures,
-      c .before .before .before .before .before .before .mode-at .ensures,
-      c .before .before .before .before .before .before .before .octet2 .ensures,
-      c .before .before .before .before .before .before .before .before .phase-at .ensures,
-      c .before .before .before .before .before .before .before .before .before .octet .ensures,
-      c .before .before .before .before .before .before .before .before .before .before .word16-at7 .ensures,
-      c .before .before .before .before .before .before .before .before .before .before .before .word16-at6 .ensures,
-      c .before .before .before .before .before .before .before .before .before .before .before .before .word16-at5 .ensures,
-      c .before .before .before .before .before .before .before .before .before .before .before .before .before .word16-at4 .ensures,
-      c .before .before .before .before .before .before .before .before .before .before .before .before .before .before .word16-at3 .ensures,
-      c .before .before .before .before .before .before .before .before .before .before .before .before .before .before .before .word16-at2 .ensures,
-      c .before .before .before .before .before .before .before .before .before .before .before .before .before .before .before .before .word16-at .ensures,
-    )
+returns c = ?
 
 pub read-slot-spec : {M : Type 1} → statement M
 read-slot-spec =
     tie.close
     (tie.spec
-    add-word16-at
-    word16-at-requires
-    add-word16-at-2
-    word16-at-requires-2
-    add-word16-at-3
-    word16-at-requires-3
-    add-word16-at-4
-    word16-at-requires-4
-    add-word16-at-5
-    word16-at-requires-5
-    add-word16-at-6
-    word16-at-requires-6
-    add-word16-at-7
-    word16-at-requires-7
-    add-octet
-    octet-requires
+    shared-slice-read-pair
+    shared-slice-read-pair-2
+    pair-requires
+    shared-slice-read-pair-3
+    shared-slice-read-pair-4
+    pair-requires-2
+    shared-slice-read-pair-5
+    shared-slice-read-pair-6
+    pair-requires-3
+    shared-slice-read-pair-7
+    shared-slice-read-pair-8
+    pair-requires-4
+    shared-slice-read-pair-9
+    shared-slice-read-pair-10
+    pair-requires-5
+    shared-slice-read-pair-11
+    shared-slice-read-pair-12
+    pair-requires-6
+    shared-slice-read-pair-13
+    shared-slice-read-pair-14
+    pair-requires-7
+    shared-slice-read-phase-at
     phase-at-requires
-    add-octet-2
-    octet-requires-2
+    shared-slice-read-mode-at
     mode-at-requires
-    add-octet-3
-    octet-requires-3
-    add-octet-4
-    octet-requires-4
-    add-octet-5
-    octet-requires-5
-    word32-at-requires
-    add-word16-at-8
-    word16-at-requires-8
-    add-word16-at-9
-    word16-at-requires-9
+    shared-slice-read-quad
+    shared-slice-read-quad-2
+    shared-slice-read-quad-3
+    shared-slice-read-quad-4
+    shared-slice-read-quad-5
+    shared-slice-read-quad-6
+    shared-slice-read-quad-7
+    quad-requires
+    shared-slice-read-pair-15
+    shared-slice-read-pair-16
+    pair-requires-8
+    shared-slice-read-pair-17
+    shared-slice-read-pair-18
+    pair-requires-9
     returns)

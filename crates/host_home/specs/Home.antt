@@ -1,0 +1,20 @@
+-- The home list as octets, for a host. 02: "A home list goes as octets too, 12 a row; any other length gives 4."
+use Prim.Native.Nat.{ℕ, _%_}
+use mathlib.Core.Bool.{cond}
+use mathlib.Core.List.{List, [], _∷_}
+use lib.Dec.{eqb}
+use lib.ListN.{length}
+use Rattle.octets_words.specs.Words.{wordsOf}
+use Rattle.nets.specs.Rows.{Row, rowsOf}
+
+-- its numbers; of another length, one number, which is no whole row and so no good list
+unfoldable pub homeIn : List ℕ → List ℕ
+homeIn octets = cond (eqb (length octets % 12) 0) (wordsOf octets) (0 ∷ [])
+
+-- the whole rows of a list of octets, 12 a row
+abbrev pub rowsIn : List ℕ → List Row
+rowsIn octets = rowsOf (wordsOf octets)
+
+-- 128 rows
+abbrev pub mostOctets : ℕ
+mostOctets = 1536

@@ -13,6 +13,12 @@ use Rattle.octets_words.specs.Words.{wordOctets}
 use Rattle.update_rows.specs.Storing.{zeros}
 use Rattle.neighbour.specs.declared.Settings.{Settings}
 use Rattle.gateway_slots.specs.Calls.{freshOf}
+use Rattle.nets.specs.Rows.{Row, rowsOf}
+use Rattle.neighbour_machine.specs.declared.Reply.{Reply}
+use Rattle.neighbour_machine.specs.declared.Reply.the-variants.{Nothing}
+use Rattle.gateway_rules.specs.Number.{namedReply}
+use Rattle.gateway_rules.specs.Carried.{firstOctets, secondOctets, replyOctets}
+use Rattle.gateway_theorems.specs.Claims.{neighbourOf}
 use Rattle.model.specs.Model.{Call, add, remove, happen, receive, listing, model, empty, saidFrom}
 use Rattle.model.specs.Theorem.{Gateway, Seen, bufferOf, isOctet, stateOf, tableOf, shown, run}
 use Rattle.host_result.specs.Packed.{packed, bare}
@@ -68,14 +74,14 @@ fitsTypes (listing buffer) = true
 
 -- ---- 02: "and demand 3 where the host hands back what it was left"
 
-pub record HostAgreement (g : Settings) (block : List ℕ) (calls : List Call) : Type 0 where
+pub record HostAgreement (g : Settings) (block₀ : List ℕ) (calls : List Call) : Type 0 where
   -- every octet of the final block, and of the final table, by the model: from fresh's settings and the calls alone
-  pub block : (hostRun g block calls) .block ≡ blockOf (stateOf (model g (map asGateway calls)))
-  pub table : (hostRun g block calls) .table ≡ wordOctets (tableOf (model g (map asGateway calls)))
+  pub block : (hostRun g block₀ calls) .block ≡ blockOf (stateOf (model g (map asGateway calls)))
+  pub table : (hostRun g block₀ calls) .table ≡ wordOctets (tableOf (model g (map asGateway calls)))
   -- every number returned, and every octet of every buffer
-  pub seen : hostSeenFrom (hostBegun g block) calls ≡ map asHostSees (shown (map asGateway calls) (saidFrom (empty g) (map asGateway calls)))
+  pub seen : hostSeenFrom (hostBegun g block₀) calls ≡ map asHostSees (shown (map asGateway calls) (saidFrom (empty g) (map asGateway calls)))
   -- the blocks hold what the gateway's own calls leave, so that all that is shown of those holds of them
-  pub holds : held ((hostRun g block calls) .block) ((hostRun g block calls) .table) ≡ run g (map asGateway calls)
+  pub holds : held ((hostRun g block₀ calls) .block) ((hostRun g block₀ calls) .table) ≡ run g (map asGateway calls)
 
 -- all settings that fresh takes, any block of the right length to begin with, and all lists
 abbrev pub HostListOfCalls : Type 0
@@ -86,15 +92,37 @@ HostListOfCalls =
 
 -- ---- demand 1 through the layer: any block, table and buffer at all
 
-pub record HostRefused (call : Call) (block table : List ℕ) : Type 0 where
-  -- 02: "no octet of it is touched"
-  pub block : blockAfter call block table ≡ block
-  pub table : tableAfter call block table ≡ table
-  -- the reply that 01 names beside the number, of the lengths that are reported, and nothing else
-  pub reply : List ℕ
-  pub buffer : bufferAfter call block table ≡ over reply (bufferOf call)
+-- 01's column "Reply": only a message that is refused draws one; the rows that it would be written with
+unfoldable pub namedBy : Call → Gateway → ℕ → Reply
+namedBy (add address asn) b number = Nothing
+namedBy (remove address) b number = Nothing
+namedBy (happen event a buffer) b number = Nothing
+namedBy (receive a o home buffer) b number = namedReply (b .state .settings) (neighbourOf (b .state) a) o number
+namedBy (listing buffer) b number = Nothing
 
--- 01: the answers 1 to 8 and 13 have no reply, 20 neither
+unfoldable pub homeRows : Call → List Row
+homeRows (add address asn) = []
+homeRows (remove address) = []
+homeRows (happen event a buffer) = []
+homeRows (receive a o home buffer) = rowsOf home
+homeRows (listing buffer) = []
+
+unfoldable pub replyTo : Call → List ℕ → List ℕ → Reply
+replyTo call block table = namedBy (asGateway call) (held block table) (numberOf call block table)
+
+pub record HostRefused (call : Call) (block₀ table₀ : List ℕ) : Type 0 where
+  -- 02: "no octet of it is touched"
+  pub block : blockAfter call block₀ table₀ ≡ block₀
+  pub table : tableAfter call block₀ table₀ ≡ table₀
+  -- the reply that 01 names beside the number at the buffer's front, and no other octet
+  pub buffer : bufferAfter call block₀ table₀ ≡ over (replyOctets (replyTo call block₀ table₀) (homeRows (asGateway call))) (bufferOf call)
+  -- the number, and the reply's lengths: 0 and 0 where none is named
+  pub result :
+      resultOf call block₀ table₀
+      ≡ packed (numberOf call block₀ table₀) (length (firstOctets (replyTo call block₀ table₀) (homeRows (asGateway call))))
+      (length (secondOctets (replyTo call block₀ table₀) (homeRows (asGateway call))))
+
+-- of all calls, and of fresh
 pub record RefusedTouchesNothing : Type 0 where
   pub calls : (call : Call) (block table : List ℕ) → (numberOf call block table ≡ 0 → ⊥) → HostRefused call block table
   -- before the gateway is asked, no octet at all is written, and the number stands alone

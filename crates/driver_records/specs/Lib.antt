@@ -1,3 +1,2 @@
-pub mod Numbers
+pub mod Filled
 pub mod Records
-pub mod Meaning

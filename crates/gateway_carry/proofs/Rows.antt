@@ -25,12 +25,12 @@ use Rattle.gateway_carry.specs.Asked.{takes, changeOf, rulingOf}
 -- ---- rows that may be stored
 
 module _ (count : ℕ) where
-  taken-whole : (walk : Walk) → takes (Replace count) walk ≡ true → isWhole walk ≡ true
+  pub taken-whole : (walk : Walk) → takes (Replace count) walk ≡ true → isWhole walk ≡ true
   unfolding takes isWhole
   taken-whole (whole rows) e = refl
   taken-whole (broken offset) e = absurd (false≢true e)
 
-  taken-count : (walk : Walk) → takes (Replace count) walk ≡ true → (count ≡ length (walkedRows walk)) × (length (walkedRows walk) ≤ 128)
+  pub taken-count : (walk : Walk) → takes (Replace count) walk ≡ true → (count ≡ length (walkedRows walk)) × (length (walkedRows walk) ≤ 128)
   unfolding takes walkedRows
   taken-count (whole rows) e = (
     eqb-true count (length rows) (and-left (eqb count (length rows)) (leb (length rows) 128) e),

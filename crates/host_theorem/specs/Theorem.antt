@@ -1,13 +1,11 @@
 -- The theorem about lists of calls, carried over to a C host's blocks; and what a refused call leaves there.
-use Prim.Native.Nat.{ℕ, _<_, _≤_}
+use Prim.Native.Nat.{ℕ}
 use mathlib.Core.Path.{_≡_}
 use mathlib.Core.Bool.{Bool, true, _&&_}
-use mathlib.Core.List.{List, [], _∷_, _++_, map}
+use mathlib.Core.List.{List, [], _∷_, map}
 use lib.Dec.{ltb}
 use lib.ListN.{length}
-use lib.Seq.{sets}
 use Rattle.checks.specs.Lists.{every}
-use Rattle.octets.specs.Numbers.{Octets}
 use Rattle.octets.specs.Buffer.{over}
 use Rattle.octets_words.specs.Words.{wordOctets}
 use Rattle.update_rows.specs.Storing.{zeros}

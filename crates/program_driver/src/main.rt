@@ -28,6 +28,14 @@ fn kept(st: State) -> Outcome {
     }
 }
 
+// The state whose block the host hands in.
+fn hand_state(st: State, block: &[u8]) -> Outcome {
+    if block.len() < host_state_block::BLOCK {
+        return gateway_state::refused(st, 255);
+    }
+    kept(host_state_block::read_state(block))
+}
+
 // Reading alone: the meaning and 384 numbers go into the buffer, and the first length is the number of rows.
 fn read_alone(st: State, buffer: &mut [u8], net: u32, message: &[u8]) -> Outcome {
     let reading = codec::read(net, message);
@@ -38,9 +46,9 @@ fn read_alone(st: State, buffer: &mut [u8], net: u32, message: &[u8]) -> Outcome
             if buffer.len() < 1560 {
                 return gateway_state::refused(st, 255);
             }
-            octets::store(buffer, &driver_records::meaning_octets(m));
+            octets::store(buffer, &host_meaning::meaning_octets(m));
             let rows = reading.rows;
-            driver_records::write_numbers(&mut buffer[24..], &rows);
+            octets_words::write_words(&mut buffer[24..], &rows);
             Outcome {
                 answer: 0,
                 first: reading.count,
@@ -52,7 +60,7 @@ fn read_alone(st: State, buffer: &mut [u8], net: u32, message: &[u8]) -> Outcome
 }
 
 fn write_alone(st: State, buffer: &mut [u8], octets: &[u8], rows: &[u32]) -> Outcome {
-    let written = codec::write(buffer, driver_records::read_meaning(octets), rows);
+    let written = codec::write(buffer, host_meaning::read_meaning(octets), rows);
     Outcome {
         answer: written.answer,
         first: written.length,
@@ -82,7 +90,7 @@ fn call(
         7 => listing::listing(st, table, buffer),
         8 => read_alone(st, buffer, head.net, octets),
         9 => write_alone(st, buffer, octets, numbers),
-        10 => kept(host_state_block::read_state(octets)),
+        10 => hand_state(st, octets),
         _ => gateway_state::refused(st, 255),
     }
 }
@@ -182,7 +190,7 @@ fn show_outcome(o: Outcome, room: u32, count: u32, raw: &mut [u8]) -> bool
 fn show_table(table: &[u32], raw: &mut [u8]) -> bool
     requires { ⌜ length (now table) * 4 ≤ length (now raw) ⌝ }
 {
-    driver_records::write_numbers(raw, table);
+    octets_words::write_words(raw, table);
     show_front(raw, table.len() * 4)
 }
 
@@ -214,7 +222,7 @@ fn take_numbers(numbers: &mut [u32], count: usize)
 {
     let mut raw = [0u8; 16384];
     take_octets(&mut raw, count * 4);
-    driver_records::read_numbers(&mut numbers[..count], &raw);
+    octets_words::read_words(&mut numbers[..count], &raw);
 }
 
 // The buffer as it is lent.
@@ -326,7 +334,7 @@ fn serve(
 // Records until the input ends, from the all-zero state. Nothing says that an input ends, so the turns are counted down from a number
 // that no run uses up.
 fn play(table: &mut [u32; 4096], buffer: &mut [u8; 70000]) {
-    let mut st = host_state_block::read_state(b"");
+    let mut st = host_state_block::read_state(&[0u8; 227]);
     let mut count = 3072;
     let mut turns = u64::MAX;
     while turns > 0 {

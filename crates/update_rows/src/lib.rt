@@ -11,9 +11,9 @@ ghost use Rattle.update_walk.specs.Body.{bigEndian, many, leftJustified, netRow
 ghost use Rattle.update_rows.specs.Storing.{zeros, padded, Storable, Room, Stored, walkedRows};
 
 // Where the next number goes, and how many octets are left.
-struct Put {
-    at: usize,
-    left: usize,
+pub struct Put {
+    pub at: usize,
+    pub left: usize,
 }
 
 // A net: its number, left justified, and how many octets it takes.
@@ -65,7 +65,7 @@ fn net_at(t: &[u8], i: usize) -> Net
 }
 
 // The number of the host part at the front, of this width.
-fn host_part(t: &[u8], host: usize) -> u32
+pub fn host_part(t: &[u8], host: usize) -> u32
     requires { ⌜ (0 < host) × (host < 4) × (host ≤ length (now t)) ⌝ }
     ensures number { λ r. ⌜ r ≡ bigEndian (take host (now (t .entry))) ⌝ }
     ensures bound { λ r. ⌜ r < 256 ^ host ⌝ }

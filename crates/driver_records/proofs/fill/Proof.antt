@@ -3,7 +3,7 @@ use Prim.Native.Nat.{_+_, _*_, _-_, _≤_}
 use native.Mathlib.Omega.{arith}
 use lib.ListN.{length, drop, length-set}
 use lib.Seq.{sets, length-sets}
-use Rattle.driver_records.specs.Numbers.{filled}
+use Rattle.driver_records.specs.Filled.{filled}
 use Rattle.driver_records.proofs.Laws.{fill-turn, fill-done, fill-all}
 use Rattle.driver_records.proofs.fill.Statement.{statement}
 use Rattle.driver_records.proofs.fill.Tie as tie

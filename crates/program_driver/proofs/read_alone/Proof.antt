@@ -33,20 +33,20 @@ slice-aggregate-store c = search needs
 store-requires : tie.Need-store-requires
 store-requires c κs = search needs
 
-sub-write-numbers : tie.Need-sub-write-numbers
-sub-write-numbers c = search needs
+sub-write-words : tie.Need-sub-write-words
+sub-write-words c = search needs
 
-part-write-numbers-start : tie.Need-part-write-numbers-start
-part-write-numbers-start c = search needs
+part-write-words-start : tie.Need-part-write-words-start
+part-write-words-start c = search needs
 
-part-write-numbers-end : tie.Need-part-write-numbers-end
-part-write-numbers-end c = search needs
+part-write-words-end : tie.Need-part-write-words-end
+part-write-words-end c = search needs
 
-slice-aggregate-write-numbers : tie.Need-slice-aggregate-write-numbers
-slice-aggregate-write-numbers c = search needs
+slice-aggregate-write-words : tie.Need-slice-aggregate-write-words
+slice-aggregate-write-words c = search needs
 
-write-numbers-requires : tie.Need-write-numbers-requires
-write-numbers-requires c κs = let r : length (c .before .before .before .before .before .before .before .before .before .before .before .before .before .read .result .rows) ≡ 384 = search needs in rw (part-from 24 (c .before .before .before .before .before .store .last .0), length-drop 24 (c .before .before .before .before .before .store .last .0)) (omega (arith, r, c .before .before .before .before .before .store .kept .0, c .before .before .before .before .before .before .before .before .before .if1 .left))
+write-words-requires : tie.Need-write-words-requires
+write-words-requires c κs = let r : length (c .before .before .before .before .before .before .before .before .before .before .before .before .before .read .result .rows) ≡ 384 = search needs in rw (part-from 24 (c .before .before .before .before .before .store .last .0), length-drop 24 (c .before .before .before .before .before .store .last .0)) (omega (arith, r, c .before .before .before .before .before .store .kept .0, c .before .before .before .before .before .before .before .before .before .if1 .left))
 
 returns-2 : tie.Need-returns-2
 returns-2 c = search needs
@@ -70,11 +70,11 @@ read-alone-spec =
     meaning-octets-requires
     slice-aggregate-store
     store-requires
-    sub-write-numbers
-    part-write-numbers-start
-    part-write-numbers-end
-    slice-aggregate-write-numbers
-    write-numbers-requires
+    sub-write-words
+    part-write-words-start
+    part-write-words-end
+    slice-aggregate-write-words
+    write-words-requires
     returns-2
     same-length
     returns-3)

@@ -16,17 +16,17 @@ mul-take-octets c = search needs
 take-octets-requires : tie.Need-take-octets-requires
 take-octets-requires c κs = search needs
 
-slice-relend-prefix-read-numbers : tie.Need-slice-relend-prefix-read-numbers
-slice-relend-prefix-read-numbers c = search needs
+slice-relend-prefix-read-words : tie.Need-slice-relend-prefix-read-words
+slice-relend-prefix-read-words c = search needs
 
-slice-aggregate-read-numbers : tie.Need-slice-aggregate-read-numbers
-slice-aggregate-read-numbers c = sym (length-take-le (c .before .before .before .before .before .args .count) (c .before .before .before .before .before .args .numbers .now) (c .before .before .before .before .before .pre .0))
+slice-aggregate-read-words : tie.Need-slice-aggregate-read-words
+slice-aggregate-read-words c = sym (length-take-le (c .before .before .before .before .before .args .count) (c .before .before .before .before .before .args .numbers .now) (c .before .before .before .before .before .pre .0))
 
-slice-aggregate-read-numbers-2 : tie.Need-slice-aggregate-read-numbers-2
-slice-aggregate-read-numbers-2 c = search needs
+slice-aggregate-read-words-2 : tie.Need-slice-aggregate-read-words-2
+slice-aggregate-read-words-2 c = search needs
 
-read-numbers-requires : tie.Need-read-numbers-requires
-read-numbers-requires c κs = omega (arith, length-take-le (c .before .before .before .before .before .before .args .count) (c .before .before .before .before .before .before .args .numbers .now) (c .before .before .before .before .before .before .pre .0), c .before .before .before .before .before .before .pre .1, c .before .before .before .take-octets .kept .0, length-replicate {A = ℕ} 16384 0)
+read-words-requires : tie.Need-read-words-requires
+read-words-requires c κs = omega (arith, length-take-le (c .before .before .before .before .before .before .args .count) (c .before .before .before .before .before .before .args .numbers .now) (c .before .before .before .before .before .before .pre .0), c .before .before .before .before .before .before .pre .1, c .before .before .before .take-octets .kept .0, length-replicate {A = ℕ} 16384 0)
 
 same-length : tie.Need-same-length
 same-length c = search needs
@@ -41,9 +41,9 @@ take-numbers-spec =
     slice-aggregate-take-octets
     mul-take-octets
     take-octets-requires
-    slice-relend-prefix-read-numbers
-    slice-aggregate-read-numbers
-    slice-aggregate-read-numbers-2
-    read-numbers-requires
+    slice-relend-prefix-read-words
+    slice-aggregate-read-words
+    slice-aggregate-read-words-2
+    read-words-requires
     same-length
     returns)

@@ -1,0 +1,5 @@
+pub mod Same
+pub mod ReadLaws
+pub mod WriteLaws
+pub mod Meanings
+pub mod Claims

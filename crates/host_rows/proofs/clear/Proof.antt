@@ -1,0 +1,17 @@
+-- `host_rows::clear` meets its contract: zeros from the front on. Assumes nothing.
+use Rattle.update_rows.proofs.Laws.{clear-all}
+use borrow.Author.Needs.{needs}
+use Rattle.host_rows.proofs.clear.Statement.{statement}
+use Rattle.host_rows.proofs.clear.Tie as tie
+
+clear-from-requires : tie.Need-clear-from-requires
+clear-from-requires c κs = search needs
+
+same-length : tie.Need-same-length
+same-length c = search needs
+
+returns : tie.Need-returns
+returns c = clear-all (c .before .before .before .before .before .args .part .now) _ (c .before .before .clear-from .ensures)
+
+pub clear-spec : {M : Type 1} → statement M
+clear-spec = tie.close (tie.spec clear-from-requires same-length returns)

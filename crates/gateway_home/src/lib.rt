@@ -5,7 +5,7 @@ ghost use Rattle.nets.specs.Rows.{rowsOf};
 ghost use Rattle.gateway_rules.specs.Home.{homeRow, ownFirst, goodHome};
 
 // One row of it.
-fn is_home_row(common: u32, net: u32, gateway: u32, third: u32) -> bool
+pub fn is_home_row(common: u32, net: u32, gateway: u32, third: u32) -> bool
     ensures { λ r. ⌜ r ≡ homeRow common (record { net = net; gateway = gateway; third = third }) ⌝ }
 {
     if !nets::good_net(net) {

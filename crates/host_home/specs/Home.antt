@@ -3,18 +3,23 @@ use Prim.Native.Nat.{ℕ, _%_}
 use mathlib.Core.Bool.{cond}
 use mathlib.Core.List.{List, [], _∷_}
 use lib.Dec.{eqb}
-use lib.ListN.{length}
+use lib.ListN.{length, take}
 use Rattle.octets_words.specs.Words.{wordsOf}
 use Rattle.nets.specs.Rows.{Row, rowsOf}
+use Rattle.update_writing.specs.Steps.{column, agreeing}
 
 -- its numbers; of another length, one number, which is no whole row and so no good list
 unfoldable pub homeIn : List ℕ → List ℕ
 homeIn octets = cond (eqb (length octets % 12) 0) (wordsOf octets) (0 ∷ [])
 
--- the whole rows of a list of octets, 12 a row
+-- the whole rows of octets, 12 a row
 abbrev pub rowsIn : List ℕ → List Row
 rowsIn octets = rowsOf (wordsOf octets)
 
--- 128 rows
+-- the octets of 128 rows
 abbrev pub mostOctets : ℕ
 mostOctets = 1536
+
+-- the rows at the front with this third number
+abbrev pub front : ℕ → List ℕ → List Row
+front third octets = take (agreeing (column 2) third (rowsIn octets)) (rowsIn octets)

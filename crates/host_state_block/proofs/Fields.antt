@@ -1,14 +1,14 @@
 -- Numbers in fields and their octets, each from the other. Assumes nothing.
-use Prim.Native.Nat.{ℕ, zero, suc, _+_, _<_}
+use Prim.Native.Nat.{ℕ, suc, _+_}
 use native.Mathlib.Nat.{add-zero}
 use native.Mathlib.Omega.{arith}
 use mathlib.Core.Path.{_≡_, refl, sym, ap, _∙_}
-use mathlib.Core.List.{List, [], _∷_, _++_}
+use mathlib.Core.List.{List, [], _∷_}
 use lib.ListN.{length, getD, drop, length-append}
 use lib.Seq.{getD-drop, drop-drop}
-use Rattle.octets.specs.Numbers.{Octets, pairOf, quadOf, octets16, octets32}
+use Rattle.octets.specs.Numbers.{Octets}
 use Rattle.octets.proofs.Back.{word-back, quad-back, high, low, first-of, second-of, third-of, fourth-of}
-use Rattle.host_state_block.specs.Layout.{Width, one, two, four, size, total, numberAt, octetsOf, limit, numbersAt, octetsFor, Fit}
+use Rattle.host_state_block.specs.Layout.{Width, one, two, four, size, total, numberAt, octetsOf, numbersAt, octetsFor, Fit}
 
 pub octets-size : (w : Width) (n : ℕ) → length (octetsOf w n) ≡ size w
 octets-size one n = refl

@@ -1,17 +1,17 @@
 -- The slots of a block, one by one. Assumes nothing.
 use Prim.Native.Nat.{ℕ, zero, suc, _+_, _*_, _-_, _≤_, _<_}
-use native.Mathlib.Nat.{add-zero, zero-add}
+use native.Mathlib.Nat.{zero-add}
 use native.Mathlib.Omega.{arith}
 use mathlib.Core.Path.{_≡_, refl, sym, ap, ap₂, _∙_}
 use mathlib.Core.Bool.{Bool, true, false, _&&_}
 use mathlib.Core.List.{List, [], _∷_, _++_, map}
 use lib.ListN.{length, getD, take, drop, set, length-append, length-drop, take-append-drop}
-use lib.Seq.{sets, sets-eq, drop-at, take-at, drop-drop, getD-take, length-take-le}
+use lib.Seq.{sets, sets-eq, drop-at, drop-drop, getD-take, length-take-le}
 use borrow.Author.Tests.{leb-true}
 use lib.Dec.{leb}
 use Rattle.checks.specs.Lists.{every}
 use Rattle.checks.proofs.Laws.{and-left, and-right}
-use Rattle.octets.specs.Numbers.{Octets, word32}
+use Rattle.octets.specs.Numbers.{Octets}
 use Rattle.neighbour.specs.declared.Phase.{Phase}
 use Rattle.neighbour.specs.declared.Phase.the-variants.{Idle, Acquisition, Down, Up, Cease}
 use Rattle.neighbour.specs.declared.Mode.{Mode}
@@ -160,7 +160,7 @@ unfolding slotIn slotOf numbersAt
 address-part l = rw (getD-take 27 l 0 0 (omega arith), getD-take 27 l 1 0 (omega arith), getD-take 27 l 2 0 (omega arith), getD-take 27 l 3 0 (omega arith))
 
 -- those of n slots from the k-th on
-abbrev addressesFrom : ℕ → ℕ → List ℕ → List ℕ
+abbrev pub addressesFrom : ℕ → ℕ → List ℕ → List ℕ
 addressesFrom zero k l = []
 addressesFrom (suc n) k l = addressOf (slotIn (drop (k * slotSize) l)) ∷ addressesFrom n (suc k) l
 

@@ -1,10 +1,10 @@
 -- A block and its state, each from the other. Assumes nothing.
-use Prim.Native.Nat.{ℕ, zero, suc, _+_, _*_, _-_, _≤_, _<_}
+use Prim.Native.Nat.{ℕ, _+_, _*_, _-_, _<_}
 use native.Mathlib.Omega.{arith}
 use mathlib.Core.Path.{_≡_, refl, sym, ap, ap₂, _∙_}
 use mathlib.Core.Bool.{true}
 use mathlib.Core.List.{List, [], _∷_, _++_}
-use lib.ListN.{length, take, drop, set, length-drop, take-append-drop}
+use lib.ListN.{length, take, drop, length-drop, take-append-drop}
 use lib.Seq.{sets, drop-at, take-at, length-take-le}
 use Rattle.checks.proofs.Laws.{and-left}
 use Rattle.octets.specs.Numbers.{Octets}
@@ -16,13 +16,13 @@ use Rattle.gateway_state.specs.Formed.{stateFormed}
 use Rattle.host_state_block.specs.Layout.{Fit, numbersAt, octetsFor}
 use Rattle.host_state_block.specs.Block.{ownFields, slotFields, ownSize, slotSize, blockSize, slotStart, ownNumbers, settingsOf, slotNumbers, slotOf, ownOctets, slotOctets, slotsOctets, blockOf, settingsIn, slotIn, slotsIn, stateIn}
 use Rattle.host_state_block.specs.Formed.{blockInRange, blockFormed}
-use Rattle.host_state_block.specs.Claims.{SlotsFit, StateFits, WrittenReadsBack, ReadWritesBack, BlocksReadBack}
+use Rattle.host_state_block.specs.Claims.{SlotsFit, WrittenReadsBack, BlocksReadBack}
 use Rattle.host_state_block.proofs.Fields.{octets-total, numbers-back, octets-back}
 use Rattle.host_state_block.proofs.Slots.{phase-back, mode-back, slot-length, octets-take, octets-drop, slots-octets-back, slots-count, slots-set, sets-behind}
 
 -- ---- written, then read
 
-own-length : (g : Settings) → length (ownOctets g) ≡ ownSize
+pub own-length : (g : Settings) → length (ownOctets g) ≡ ownSize
 unfolding ownOctets
 own-length g = octets-total ownFields (ownNumbers g)
 

@@ -20,8 +20,11 @@ ghost use Rattle.host_state_block.specs.Steps.{partFormed, partsFormed};
 
 // The octets of a block: 11 of the settings, 27 of each slot.
 pub const BLOCK: usize = 227;
+
 const OWN: usize = 11;
+
 const SLOT: usize = 27;
+
 const SLOTS: usize = 8;
 
 // The state that a number stands for, counted from 0 in 01's order; numbers above 4 stand for none.

@@ -100,7 +100,7 @@ fn write_net(out: &mut [u8], at: usize, net: u32) -> usize
 }
 
 // Writes the host part of a gateway.
-fn write_host(out: &mut [u8], at: usize, net: u32, gateway: u32) -> usize
+pub fn write_host(out: &mut [u8], at: usize, net: u32, gateway: u32) -> usize
     requires { ⌜ at + length (hostOctets net gateway) ≤ length (now out) ⌝ }
     ensures { λ r. ⌜ Written (hostOctets net gateway) at (now (out .entry)) (now (out .exit)) r ⌝ }
 {

@@ -1,50 +1,55 @@
+use native.Mathlib.Omega.{arith}
+use borrow.Author.Needs.{needs}
+use mathlib.Core.Path.{_≡_, ap}
+use borrow.Author.Tests.{eq-eqb, ne-eqb}
+use Prim.Native.Nat.{_+_, _-_, _≤_}
+use lib.ListN.{length, drop}
+use Rattle.checks.specs.Lists.{first}
+use Rattle.gateway_state.specs.Slots.{isNone, lowestFree}
+use Rattle.gateway_state.proofs.ListLaws.{first-here, first-next, first-end}
+use Rattle.host_state_block.specs.Block.{stateIn}
 use Rattle.host_state_block.proofs.lowest_free.Statement.{statement}
 use Rattle.host_state_block.proofs.lowest_free.Tie as tie
-use Rattle.host_state_block.proofs.lowest_free.Reads as reads
-use Rattle.host_state_block.proofs.lowest_free.Lts as lts
-use Rattle.host_state_block.proofs.addresses_of.Reads as addresses-of-reads
 
 abbrev Inv-loop : tie.InvT-loop
-Inv-loop block addresses i₀ i = ?
+Inv-loop block addresses i₀ i = (i ≤ 8) × (lowestFree (stateIn block) ≡ i + first isNone (drop i addresses))
 
 abbrev μ-loop : tie.MeasureT-loop
-μ-loop block addresses i₀ i = ?
+μ-loop block addresses i₀ i = 8 - i
 
--- src/lib.rt:344:21
 addresses-of-requires : tie.Need-addresses-of-requires Inv-loop μ-loop
-addresses-of-requires c κs = ?
+addresses-of-requires c κs = c .before .pre
 
--- src/lib.rt:346:5
 loop-holds : tie.Need-loop-holds Inv-loop μ-loop
-loop-holds c = ?
+unfolding lowestFree
+loop-holds c = omega (arith, ap (first isNone) (c .addresses-of .ensures))
 
--- src/lib.rt:347:12
 mul-if1 : tie.Need-mul-if1 Inv-loop μ-loop
-mul-if1 c = ?
+mul-if1 c = omega arith
 
--- src/lib.rt:347:12
 array-read-if1 : tie.Need-array-read-if1 Inv-loop μ-loop
-array-read-if1 c = ?
+array-read-if1 c = c .loop-test .taken
 
--- src/lib.rt:348:13
 returns : tie.Need-returns Inv-loop μ-loop
-returns c = ?
+returns c =
+    let eight : length (c .before .before .before .addresses-of .result) ≡ 8 = search needs in
+    omega (arith, c .before .before .loop .inv .1, first-here isNone (c .before .before .before .addresses-of .result) (c .before .before .loop .i) 0 (omega (arith, eight, c .before .loop-test .taken)) (eq-eqb _ _ (c .if1 .taken)))
 
--- src/lib.rt:350:9
 add-i : tie.Need-add-i Inv-loop μ-loop
-add-i c = ?
+add-i c = omega arith
 
--- src/lib.rt:346:5
 loop-less : tie.Need-loop-less Inv-loop μ-loop
-loop-less c = ?
+loop-less c = omega (arith, c .before .loop-test .taken)
 
--- src/lib.rt:346:5
 loop-again : tie.Need-loop-again Inv-loop μ-loop
-loop-again c = ?
+loop-again c =
+    let eight : length (c .before .before .before .addresses-of .result) ≡ 8 = search needs in
+    (omega (arith, c .before .loop-test .taken), omega (arith, c .before .before .loop .inv .1, first-next isNone (c .before .before .before .addresses-of .result) (c .before .before .loop .i) 0 (omega (arith, eight, c .before .loop-test .taken)) (ne-eqb _ _ (c .if1 .left))))
 
--- src/lib.rt:340:1
 returns-2 : tie.Need-returns-2 Inv-loop μ-loop
-returns-2 c = ?
+returns-2 c =
+    let eight : length (c .before .before .addresses-of .result) ≡ 8 = search needs in
+    omega (arith, c .before .loop .inv .1, first-end isNone (c .before .before .addresses-of .result) (c .before .loop .i) (omega (arith, eight, c .loop-test .left)))
 
 pub lowest-free-spec : {M : Type 1} → statement M
 lowest-free-spec =

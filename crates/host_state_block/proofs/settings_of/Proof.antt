@@ -1,20 +1,19 @@
+use native.Mathlib.Omega.{arith}
+use mathlib.Core.Path.{sym}
+use lib.Seq.{length-take-le}
+use Rattle.host_state_block.specs.Block.{stateIn}
 use Rattle.host_state_block.proofs.settings_of.Statement.{statement}
 use Rattle.host_state_block.proofs.settings_of.Tie as tie
-use Rattle.host_state_block.proofs.settings_of.Reads as reads
-use Rattle.host_state_block.proofs.settings_of.Lts as lts
-use Rattle.host_state_block.proofs.read_settings.Reads as read-settings-reads
 
--- src/lib.rt:134:19
 slice-aggregate-read-settings : tie.Need-slice-aggregate-read-settings
-slice-aggregate-read-settings c = ?
+slice-aggregate-read-settings c = sym (length-take-le 11 (c .before .before .args .block .now) (omega (arith, c .before .before .pre)))
 
--- src/lib.rt:134:5
 read-settings-requires : tie.Need-read-settings-requires
-read-settings-requires c κs = ?
+read-settings-requires c κs = length-take-le 11 (c .before .before .args .block .now) (omega (arith, c .before .before .pre))
 
--- src/lib.rt:130:1
 returns : tie.Need-returns
-returns c = ?
+unfolding stateIn
+returns c = c .read-settings .ensures
 
 pub settings-of-spec : {M : Type 1} → statement M
 settings-of-spec =

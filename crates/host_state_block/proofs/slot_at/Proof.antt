@@ -1,38 +1,29 @@
+use mathlib.Core.Path.{_∙_}
+use Rattle.host_state_block.proofs.Read.{slot-part}
 use borrow.Author.Needs.{needs}
 use Rattle.host_state_block.proofs.slot_at.Statement.{statement}
 use Rattle.host_state_block.proofs.slot_at.Tie as tie
-use Rattle.host_state_block.proofs.slot_at.Reads as reads
-use Rattle.host_state_block.proofs.slot_at.Lts as lts
-use Rattle.host_state_block.proofs.read_slot.Reads as read-slot-reads
-use Rattle.host_state_block.proofs.slot_start.Reads as slot-start-reads
 
--- src/lib.rt:142:9
 slot-start-requires : tie.Need-slot-start-requires
 slot-start-requires c κs = search needs
 
--- src/lib.rt:143:15
 add-end : tie.Need-add-end
 add-end c = search needs
 
--- src/lib.rt:144:15
 sub-read-slot : tie.Need-sub-read-slot
 sub-read-slot c = search needs
 
--- src/lib.rt:144:15
 part-read-slot-start : tie.Need-part-read-slot-start
 part-read-slot-start c = search needs
 
--- src/lib.rt:144:15
 part-read-slot-end : tie.Need-part-read-slot-end
 part-read-slot-end c = search needs
 
--- src/lib.rt:144:5
 read-slot-requires : tie.Need-read-slot-requires
 read-slot-requires c κs = search needs
 
--- src/lib.rt:138:1
 returns : tie.Need-returns
-returns c = ?
+returns c = c .read-slot .ensures ∙ slot-part (c .before .before .before .before .args .block .now) (c .before .before .before .before .args .i) (c .before .before .slot-start .result) (c .before .before .before .before .pre .1) (c .before .before .slot-start .ensures)
 
 pub slot-at-spec : {M : Type 1} → statement M
 slot-at-spec =

@@ -1,0 +1,5 @@
+pub mod Rows
+pub mod Home
+pub mod Stores
+pub mod Loops
+pub mod Update

@@ -34,6 +34,7 @@ ghost use Rattle.host_calls.specs.Steps.{hostLent, octetsAfter};
 
 // The octets of the table, 3,072 numbers of four, and of a slot's part of it.
 const TABLE: usize = 12288;
+
 const PART: usize = 1536;
 
 // How many rows an Update may bring.
@@ -73,7 +74,8 @@ fn send(buffer: &mut [u8], reply: Reply, home: &[u8]) -> Lengths
         sequence,
         status,
         net,
-    } = m else {
+    } = m
+    else {
         return gateway_carry::send(buffer, reply, &none);
     };
     let first = host_home::write_update(buffer, asn, sequence, status, net, home);
@@ -142,13 +144,7 @@ fn only_counts(event: Event, n: Neighbour) -> bool
 }
 
 // What the operator or the clock asks of the neighbour with this address.
-fn happen(
-    block: &mut [u8],
-    table: &mut [u8],
-    reply: &mut [u8],
-    address: u32,
-    event: Event,
-) -> u64
+fn happen(block: &mut [u8], table: &mut [u8], reply: &mut [u8], address: u32, event: Event) -> u64
     ensures { λ r. ⌜ ((e : I.Intrinsic) → event ≡ I.asEvent e → r ≡ resultOf (M.happen e address (now (reply .entry))) (now (block .entry)) (now (table .entry))) ⌝ }
     ensures { λ _. ⌜ ((e : I.Intrinsic) → event ≡ I.asEvent e → now (block .exit) ≡ blockAfter (M.happen e address (now (reply .entry))) (now (block .entry)) (now (table .entry))) ⌝ }
     ensures { λ _. ⌜ ((e : I.Intrinsic) → event ≡ I.asEvent e → now (table .exit) ≡ tableAfter (M.happen e address (now (reply .entry))) (now (block .entry)) (now (table .entry))) ⌝ }

@@ -1,0 +1,134 @@
+-- What the sheet's calls are lent, as literals: the block, the table, the buffers, the home list.
+use Prim.Native.Nat.{ℕ, _+_}
+use Prim.Native.String.{String}
+use mathlib.Core.List.{List, [], _∷_, _++_}
+use lib.ListN.{take, drop, replicate}
+use Rattle.gateway_check_sheet.specs.Given.{hex, ip, repeated}
+
+-- a block as it is lent: its own 11 octets, then 27 for each of the eight slots
+unfoldable pub block : String → String → String → String → String → String → String → String → String → List ℕ
+block own a b c d e f g h =
+    hex own ++ (hex a ++ (hex b ++ (hex c ++ (hex d ++ (hex e ++ (hex f ++ (hex g ++ hex h)))))))
+
+-- AS 9 at 128.9.0.1 on 128.9.0.0, capability 0
+unfoldable pub own : String
+own = "00 09 80 09 00 01 00 80 09 00 00"
+
+-- 01: "free slots are all zero"
+unfoldable pub free : String
+free = "00 00 00 00 00 00 00 00 00 00 00 00 00 00 00 00 00 00 00 00 00 00 00 00 00 00 00"
+
+-- 128.9.0.10 of AS 10, Idle
+unfoldable pub tenth : String
+tenth = "80 09 00 0A 00 0A 00 00 00 00 00 00 00 00 00 00 00 00 00 00 00 00 00 00 00 00 00"
+
+-- 128.9.0.5 of AS 7, Up and active with three rows: S 1, R 4, T1 32, T2 122, t1 20, t2 100, t3 50, register 7
+unfoldable pub fifth : String
+fifth = "80 09 00 05 00 07 00 01 00 04 00 20 00 7A 00 14 00 64 00 32 00 03 03 01 07 00 00"
+
+-- a well-formed block with a neighbour in each of the five states, in both modes, and slot 5 free
+unfoldable pub sound : List ℕ
+sound =
+    block own
+    -- 0: Idle
+    tenth
+    -- 1: 128.9.0.11 of AS 11, Acquisition: S 3, R 5, t1 20, t3 100
+    "80 09 00 0B 00 0B 00 03 00 05 00 00 00 00 00 14 00 00 00 64 00 00 01 00 00 00 00"
+    -- 2: Up, active
+    fifth
+    -- 3: 128.9.0.13 of AS 13, Down and passive: S 258, R 772, T1 122, T2 482, t1 121, t3 3,600, register 15, heard 1
+    "80 09 00 0D 00 0D 01 02 03 04 00 7A 01 E2 00 79 00 00 0E 10 00 00 02 02 0F 01 00"
+    -- 4: 128.9.0.14 of AS 14, Cease: S 65,535, R 65,534, t1 30, t3 120, cause 6
+    "80 09 00 0E 00 0E FF FF FF FE 00 00 00 00 00 1E 00 00 00 78 00 00 04 00 00 00 06"
+    -- 5
+    free
+    -- 6: 128.9.0.16 of AS 16, Up and passive with 128 rows: S 6, R 8, T1 62, T2 202, t1 1, t2 482, t3 3,599, register 8
+    "80 09 00 10 00 10 00 06 00 08 00 3E 00 CA 00 01 01 E2 0E 0F 00 80 03 02 08 00 00"
+    -- 7: 128.9.0.17 of AS 65,535, Idle
+    "80 09 00 11 FF FF 00 00 00 00 00 00 00 00 00 00 00 00 00 00 00 00 00 00 00 00 00"
+
+-- the block with other octets for one slot, whose own begin at this index
+unfoldable pub exchanged : ℕ → String → List ℕ → List ℕ
+exchanged start octets lent = take start lent ++ (hex octets ++ drop (start + 27) lent)
+
+-- where they begin: 11, and 27 for each slot before it
+unfoldable pub slot0 : ℕ
+slot0 = 11
+
+unfoldable pub slot2 : ℕ
+slot2 = 65
+
+unfoldable pub slot5 : ℕ
+slot5 = 146
+
+unfoldable pub slot6 : ℕ
+slot6 = 173
+
+unfoldable pub slot7 : ℕ
+slot7 = 200
+
+-- the block with another octet at this index
+unfoldable pub changed : ℕ → ℕ → List ℕ → List ℕ
+changed index octet lent = take index lent ++ (octet ∷ drop (index + 1) lent)
+
+-- a neighbour in every slot
+unfoldable pub full : List ℕ
+full = exchanged slot5 "80 09 00 0F 00 0F 00 00 00 00 00 00 00 00 00 00 00 00 00 00 00 00 00 00 00 00 00" sound
+
+-- blocks of other lengths: without the last octet, and with one more
+unfoldable pub shorter : List ℕ
+shorter = take 226 sound
+
+unfoldable pub longer : List ℕ
+longer = sound ++ (0 ∷ [])
+
+-- a table of so many octets, all 8; a buffer of so many, all 7: so that what is kept shows
+unfoldable pub eights : ℕ → List ℕ
+eights n = replicate n 8
+
+unfoldable pub sevens : ℕ → List ℕ
+sevens n = replicate n 7
+
+-- those of the lengths asked for
+unfoldable pub table : List ℕ
+table = eights 12288
+
+unfoldable pub room : List ℕ
+room = sevens 2048
+
+unfoldable pub page : List ℕ
+page = sevens 65536
+
+-- 01's case U: its neighbour alone, in slot 0, and the octets of its two rows at the front of a table of zeros
+unfoldable pub blockOfU : List ℕ
+blockOfU =
+    block own
+    "80 09 00 05 00 07 00 01 00 04 00 20 00 7A 00 14 00 64 00 32 00 02 03 01 07 00 00"
+    free free free free free free free
+
+unfoldable pub tableOfU : List ℕ
+tableOfU = hex "0A 00 00 00 80 09 00 05 00 00 00 00 C0 05 06 00 80 09 00 05 00 00 00 00" ++ replicate 12264 0
+
+-- the addresses in slots 0, 2, 6 and 7, and one that no slot has
+unfoldable pub inSlot0 : ℕ
+inSlot0 = ip 128 9 0 10
+
+unfoldable pub inSlot2 : ℕ
+inSlot2 = ip 128 9 0 5
+
+unfoldable pub inSlot6 : ℕ
+inSlot6 = ip 128 9 0 16
+
+unfoldable pub inSlot7 : ℕ
+inSlot7 = ip 128 9 0 17
+
+unfoldable pub nobody : ℕ
+nobody = ip 128 9 0 99
+
+-- a home list of one row: 10.0.0.0 by our own address, at distance 7
+unfoldable pub row : List ℕ
+row = hex "0A 00 00 00 80 09 00 01 00 00 00 07"
+
+-- of so many of this row
+unfoldable pub rows : ℕ → List ℕ
+rows n = repeated n row

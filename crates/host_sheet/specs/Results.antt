@@ -1,0 +1,65 @@
+-- What the calls return. 02: "four 16-bit numbers in one, from the top: 0, second length, first length, answer". As
+-- hexadecimal numbers these are the four parts themselves.
+use Prim.Native.Nat.{ℕ}
+use mathlib.Core.List.{List, [], _∷_}
+use Rattle.text.specs.Text.{text}
+use Rattle.neighbour_machine.specs.Intrinsics.{Start, Stop, Tick}
+use Rattle.model.specs.Model.{happen, receive, listing}
+use Rattle.host_result.specs.Packed.{packed, bare}
+use Rattle.gateway_check_sheet.specs.Given.{hex}
+use Rattle.host_sheet.specs.Given.{sound, exchanged, slot0, slot2, table, room, page, inSlot0, inSlot2, blockOfU, tableOfU, row}
+use Rattle.host_sheet.specs.Line.{Line, lent}
+
+-- answer, first length and second length, packed
+unfoldable pub packedComputed : List ℕ
+packedComputed = packed 0xA 0xB 0xC ∷ packed 0xFFFF 0 0 ∷ packed 0 0xFFFF 0 ∷ packed 0 0 0xFFFF ∷ packed 0x1234 0x5678 0x9ABC ∷ bare 20 ∷ []
+
+unfoldable pub packedWritten : List ℕ
+packedWritten =
+    0x0000_000C_000B_000A ∷
+    0x0000_0000_0000_FFFF ∷
+    0x0000_0000_FFFF_0000 ∷
+    0x0000_FFFF_0000_0000 ∷
+    0x0000_9ABC_5678_1234 ∷
+    0x0000_0000_0000_0014 ∷
+    []
+
+-- 01: "The whole listing for case U", 153 octets
+unfoldable pub listingOfU : List ℕ
+listingOfU =
+    text "neighbours=1\nslot=0\naddr=128.9.0.5\nas=7\nstate=up\nmode=active\nrows=2\nnet=10.0.0.0\ngw=128.9.0.5\ndist=0\nside=int\nnet=192.5.6.0\ngw=128.9.0.5\ndist=0\nside=int\n"
+
+unfoldable pub results : List Line
+results =
+    -- Start in Idle: Request, 14 octets. Its slot: Acquisition, t1 30, t3 120
+    lent (happen Start inSlot0 room) sound table 0 0x0000_0000_000E_0000
+    (exchanged slot0 "80 09 00 0A 00 0A 00 00 00 00 00 00 00 00 00 1E 00 00 00 78 00 00 01 00 00 00 00" sound)
+    (hex "02 03 00 00 FD 5D 00 09 00 00 00 1E 00 78") ∷
+    -- Request in Idle, hello 60 and poll 200, from AS 10, so that we are active: Confirm and Hello, 14 and 10 octets.
+    -- Its slot: Down, R 9, T1 62, T2 202
+    lent (receive inSlot0 (hex "02 03 00 00 FC E5 00 0A 00 09 00 3C 00 C8") [] room) sound table 0 0x0000_000A_000E_0000
+    (exchanged slot0 "80 09 00 0A 00 0A 00 00 00 09 00 3E 00 CA 00 3E 00 00 00 78 00 00 02 01 00 00 00" sound)
+    (hex "02 03 01 00 FC 54 00 09 00 09 00 1E 00 78 02 05 00 02 FD EF 00 09 00 00") ∷
+    -- Request in Idle from AS 12: 9, and Refuse, 10 octets
+    lent (receive inSlot0 (hex "02 03 00 00 FD 51 00 0C 00 09 00 1E 00 78") [] room) sound table 9 0x0000_0000_000A_0009
+    sound (hex "02 03 02 04 FB E6 00 09 00 09") ∷
+    -- 01's case V in Up: 14, and Error 2, 24 octets
+    lent (receive inSlot2 (hex "02 01 00 01 B9 D7 00 07 00 01 01 00 80 09 00 00 00 05 01 00 02 0A C0 05") [] room) sound table 14 0x0000_0000_0018_000E
+    sound (hex "02 08 00 01 41 06 00 09 00 04 00 02 02 01 00 01 B9 D7 00 07 00 01 01 00") ∷
+    -- a tick that goes Up: Hello and Poll, 10 and 16 octets
+    lent (happen Tick inSlot2 room)
+    (exchanged slot2 "80 09 00 05 00 07 00 03 00 05 00 20 00 7A 00 01 00 00 00 64 00 00 02 01 03 01 00" sound) table 0 0x0000_0010_000A_0000
+    (exchanged slot2 "80 09 00 05 00 07 00 04 00 05 00 20 00 7A 00 20 00 7A 00 63 00 00 03 01 07 00 00" sound)
+    (hex "02 05 00 01 FD ED 00 09 00 03 02 02 00 01 7D E6 00 09 00 04 00 00 80 09 00 00") ∷
+    -- Poll with a home list of 12 octets, and with none: Update, 22 and 16 octets. Its slot: R 9
+    lent (receive inSlot2 (hex "02 02 00 01 7D E3 00 07 00 09 00 00 80 09 00 00") row room) sound table 0 0x0000_0000_0016_0000
+    (exchanged slot2 "80 09 00 05 00 07 00 01 00 09 00 20 00 7A 00 14 00 64 00 32 00 03 03 01 07 00 00" sound)
+    (hex "02 01 00 01 7A D0 00 09 00 09 01 00 80 09 00 00 00 01 01 07 01 0A") ∷
+    lent (receive inSlot2 (hex "02 02 00 01 7D E3 00 07 00 09 00 00 80 09 00 00") [] room) sound table 0 0x0000_0000_0010_0000
+    (exchanged slot2 "80 09 00 05 00 07 00 01 00 09 00 20 00 7A 00 14 00 64 00 32 00 03 03 01 07 00 00" sound)
+    (hex "02 01 00 01 7D E2 00 09 00 09 00 00 80 09 00 00") ∷
+    -- Stop in Idle, where there is nothing to do
+    lent (happen Stop inSlot0 room) sound table 0 0 sound [] ∷
+    -- a listing: its length is the first
+    lent (listing page) blockOfU tableOfU 0 0x0000_0000_0099_0000 blockOfU listingOfU ∷
+    []

@@ -45,6 +45,8 @@ pub enum Answer {
     NotIdle = 18,
     /// A bad line of a recording (02, L1). It comes before all others: nothing is called for it.
     BadLine = 19,
+    /// A state block that has not its length (02, L4): before 1.
+    BlockLength = 20,
 }
 
 impl Answer {

@@ -118,7 +118,7 @@ pub fn survey_places(seeds: &[u64], count: usize) -> Survey {
 }
 
 impl Survey {
-    fn new() -> Survey {
+    pub(crate) fn new() -> Survey {
         let mut survey = Survey::of_places();
         for (section, label) in expected() {
             survey.items.insert((section, label), Count::default());
@@ -144,6 +144,22 @@ impl Survey {
     /// What no call may do, as far as it was found.
     pub fn breaches(&self) -> &[String] {
         &self.breaches
+    }
+
+    /// How often each item was hit that a full list is to touch.
+    pub(crate) fn counts(&self) -> Vec<usize> {
+        self.items.values().map(|count| count.total).collect()
+    }
+
+    /// The items that were hit fewer times than this.
+    pub(crate) fn below(&self, wanted: usize) -> Vec<String> {
+        self.items
+            .iter()
+            .filter(|(_, count)| count.total < wanted)
+            .map(|((section, label), count)| {
+                format!("{}: {label}: {}", section.title(), count.total)
+            })
+            .collect()
     }
 
     /// Whether every item was hit often enough for the calls made.
@@ -241,8 +257,19 @@ impl Survey {
         }
     }
 
-    fn observe(&mut self, step: &Step, before: &Moment, after: &Moment, record: &Record) {
+    /// Counts what a step was made for.
+    pub(crate) fn observe_aim(&mut self, step: &Step) {
         self.hit(Section::Aims, step.aim, step.origin);
+    }
+
+    pub(crate) fn observe(
+        &mut self,
+        step: &Step,
+        before: &Moment,
+        after: &Moment,
+        record: &Record,
+    ) {
+        self.observe_aim(step);
         let Some(kind) = step.call.kind() else {
             return;
         };

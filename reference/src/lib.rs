@@ -15,8 +15,13 @@
 //! * [`record`], [`compare`], [`sample`], [`speed`]: calls as octets, and another implementation
 //!   run on them call by call, or timed.
 //! * [`recording`], [`playback`]: a site's recording, and what playing it gives (02, L1).
+//! * [`host`], [`host_places`]: the layer for a host in C (02, L4), and what a comparison through it
+//!   must reach.
+//! * [`ffi`], [`fuzz`]: the reference for programs in C, and a fuzzer's input as a call.
 //! * [`compare_recordings`], [`site`]: another implementation's player beside this one, and the
 //!   technicians' example.
+
+#![deny(unsafe_code)]
 
 pub mod answer;
 pub mod call;
@@ -25,8 +30,12 @@ pub mod checksums;
 pub mod compare;
 pub mod compare_recordings;
 pub mod coverage;
+pub mod ffi;
+pub mod fuzz;
 pub mod gateway;
 pub mod generate;
+pub mod host;
+pub mod host_places;
 pub mod listing;
 pub mod message;
 pub mod neighbour;

@@ -6,9 +6,11 @@ use std::io::{self, Read, Write};
 use std::process::ExitCode;
 
 use reference::coverage::{Survey, PLACES_WANTED};
+use reference::generate::hosts::Hosts;
 use reference::generate::{day, recordings};
+use reference::host_places::HostSurvey;
 use reference::speed::{self, growth, instructions};
-use reference::{checksums, compare, compare_recordings, coverage, playback, sample, site};
+use reference::{checksums, compare, compare_recordings, coverage, fuzz, playback, sample, site};
 
 fn main() -> ExitCode {
     let arguments: Vec<String> = std::env::args().skip(1).collect();
@@ -30,6 +32,8 @@ fn main() -> ExitCode {
             compare_seeds(driver, count, seeds, &mut Survey::of_places())
         }),
         ["compare-checksums", program] => compare_checksums(program),
+        ["host-places", count, seeds @ ..] => with_seeds(count, seeds, print_host_places),
+        ["fuzz-seeds", directory] => write_fuzz_seeds(directory),
         _ => speed_command(&words),
     }
 }
@@ -137,6 +141,37 @@ fn print_places(survey: &Survey) -> ExitCode {
     }
 }
 
+/// Says how often each place of a host's calls was reached, and which not often enough.
+fn print_host_places(count: usize, seeds: &[u64]) -> ExitCode {
+    let mut survey = HostSurvey::default();
+    for &seed in seeds {
+        for case in Hosts::new(seed).take(count) {
+            survey.observe(&case);
+        }
+    }
+    print!("{}{}", survey.details(), survey.report());
+    let missed = survey.missed();
+    for place in &missed {
+        println!("fewer than {} times: {place}", survey.wanted());
+    }
+    if missed.is_empty() && survey.breaches().is_empty() {
+        ExitCode::SUCCESS
+    } else {
+        ExitCode::FAILURE
+    }
+}
+
+/// Writes the inputs from which a fuzzer starts.
+fn write_fuzz_seeds(directory: &str) -> ExitCode {
+    for (name, input) in fuzz::seeds(1, 50_000) {
+        if let Err(error) = fs::write(format!("{directory}/{name}"), input) {
+            eprintln!("{name}: {error}");
+            return ExitCode::FAILURE;
+        }
+    }
+    ExitCode::SUCCESS
+}
+
 fn print_coverage(seed: u64, count: usize) -> ExitCode {
     let survey = coverage::survey(seed, count);
     print!("{}", survey.report());
@@ -216,6 +251,8 @@ fn usage() -> ExitCode {
        reference compare DRIVER COUNT SEED..
        reference compare-calls DRIVER COUNT SEED..
        reference places COUNT SEED..
+       reference host-places COUNT SEED..
+       reference fuzz-seeds DIRECTORY
        reference case SEED INDEX
        reference sample records|answers
        reference speed DRIVER C_DRIVER

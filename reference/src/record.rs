@@ -148,7 +148,8 @@ fn event(kind: u8, address: u32, buffer: Buffer, times: u32) -> Vec<u8> {
         .record(times, &[], &[])
 }
 
-fn rows(message: &Message) -> &[Row] {
+/// The rows of a meaning; only an Update has any.
+pub fn rows(message: &Message) -> &[Row] {
     match &message.body {
         Body::Update { rows, .. } => rows,
         _ => &[],
@@ -199,9 +200,9 @@ fn slot_block(neighbour: &Neighbour, block: &mut Vec<u8>) {
     block.extend([state, mode, n.register, n.heard, n.cause]);
 }
 
-/// A message's meaning in 24 octets; an Update's rows stand outside.
-pub fn meaning(message: &Message) -> [u8; MEANING] {
-    let number = match message.kind() {
+/// The number of a kind in a meaning.
+pub fn kind_number(kind: Kind) -> u8 {
+    match kind {
         Kind::Request => 0,
         Kind::Confirm => 1,
         Kind::Refuse => 2,
@@ -212,9 +213,13 @@ pub fn meaning(message: &Message) -> [u8; MEANING] {
         Kind::Poll => 7,
         Kind::Update => 8,
         Kind::Error => 9,
-    };
+    }
+}
+
+/// A message's meaning in 24 octets; an Update's rows stand outside.
+pub fn meaning(message: &Message) -> [u8; MEANING] {
     let mut octets = [0; MEANING];
-    octets[0] = number;
+    octets[0] = kind_number(message.kind());
     octets[1] = message.status;
     octets[2..4].copy_from_slice(&message.as_number.to_be_bytes());
     octets[4..6].copy_from_slice(&message.sequence.to_be_bytes());

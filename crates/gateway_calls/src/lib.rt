@@ -34,7 +34,7 @@ fn lent_answer(st: State, numbers: usize, octets: usize) -> u8
 }
 
 // Whether nothing but the timers changes.
-fn only_counts(event: Event, n: Neighbour) -> bool
+pub fn only_counts(event: Event, n: Neighbour) -> bool
     ensures { λ r. ⌜ (r ≡ true → (event ≡ Event.Tick) × (n .phase ≡ Phase.Up) × (1 < n .t1) × (1 < n .t2) × (1 < n .t3)) ⌝ }
 {
     match event {

@@ -11,7 +11,7 @@ use lib.Seq.{sets}
 use Rattle.checks.specs.Checks.{check, ifOk}
 use Rattle.checks.proofs.Laws.{check-holds, check-fails, ifOk-new}
 use Rattle.octets.specs.Numbers.{Octets}
-use Rattle.octets_words.specs.Words.{wordsOf, wordOctets}
+use Rattle.octets_words.specs.Words.{wordsOf, wordOctets, rowNumbers}
 use Rattle.nets.specs.Rows.{rowsOf}
 use Rattle.update_walk.specs.Body.{walkedBlocks}
 use Rattle.update_rows.specs.Storing.{walkedRows}
@@ -134,7 +134,7 @@ module _ (event : Event) (block table buffer : List ℕ) (a : ℕ) where
         module _ (after : After) (v : Verdict) (m : after ≡ stepOf ((stateIn block) .settings) (slot .asn) (slot .neighbour) event (record { first = 0; second = 0; third = 0 }))
             (w : v ≡ verdictOf (stepped (slot .neighbour) after)) where
           pub happen-asked : (sendable (v .reply) (homeIn []) ≡ true) × (takes (v .effect) (walkedBlocks ((stateIn block) .settings .net) []) ≡ true)
-          unfolding homeIn wordsOf
+          unfolding rowNumbers wordsOf
           happen-asked = event-asked event (stateIn block) (tableIn table) buffer a 0 checks refl i slot after v p s m w [] .1
 
           pub happen-done : (r : ℕ) (b t x : List ℕ)
@@ -143,7 +143,7 @@ module _ (event : Event) (block table buffer : List ℕ) (a : ℕ) where
               → ((counts : List ℕ) → t ≡ ifOk (v .answer) (octetsAfter table counts i (changeOf (v .effect) (walkedRows (walkedBlocks ((stateIn block) .settings .net) [])))) table)
               → x ≡ Carried.bufferAfter buffer (v .reply) (rowsOf (homeIn []))
               → Answered event block table buffer a r b t x
-          unfolding homeIn wordsOf octetsAfter lengthsOf rulingOf outcomeAfter rowsOf
+          unfolding rowNumbers wordsOf octetsAfter lengthsOf rulingOf outcomeAfter rowsOf
           happen-done r b t x e f g k =
               let st = stateIn block in
               let rows = walkedRows (walkedBlocks (st .settings .net) []) in

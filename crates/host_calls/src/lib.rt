@@ -6,8 +6,6 @@ use gateway_rules::Verdict;
 use gateway_state::Slot;
 use message::Message;
 use message_reading::Decoded;
-use neighbour::Neighbour;
-use neighbour::Phase;
 use neighbour_machine::Event;
 use neighbour_machine::Reply;
 use neighbour_messages::Head;
@@ -131,18 +129,6 @@ fn apply(
     result
 }
 
-// Whether nothing but the timers changes.
-fn only_counts(event: Event, n: Neighbour) -> bool
-    ensures { λ r. ⌜ (r ≡ true → (event ≡ Event.Tick) × (n .phase ≡ Phase.Up) × (1 < n .t1) × (1 < n .t2) × (1 < n .t3)) ⌝ }
-{
-    match event {
-        Event::Received(_) => false,
-        Event::Start => false,
-        Event::Stop => false,
-        Event::Tick => neighbour_tick::only_counts(n),
-    }
-}
-
 // What the operator or the clock asks of the neighbour with this address.
 fn happen(block: &mut [u8], table: &mut [u8], reply: &mut [u8], address: u32, event: Event) -> u64
     ensures { λ r. ⌜ ((e : I.Intrinsic) → event ≡ I.asEvent e → r ≡ resultOf (M.happen e address (now (reply .entry))) (now (block .entry)) (now (table .entry))) ⌝ }
@@ -160,7 +146,7 @@ fn happen(block: &mut [u8], table: &mut [u8], reply: &mut [u8], address: u32, ev
     }
     let slot = host_state_block::slot_at(block, i);
     let n = slot.neighbour;
-    if only_counts(event, n) {
+    if gateway_calls::only_counts(event, n) {
         let next = gateway_carry::with_neighbour(slot, neighbour_tick::count_down(n));
         host_state_block::put_slot(block, i, next);
         return host_result::alone(0);

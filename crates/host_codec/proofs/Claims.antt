@@ -12,7 +12,7 @@ use borrow.Author.Tests.{leb-true, le-leb, eqb-true, eqb-false}
 use Rattle.checks.proofs.Laws.{check-passed, check-holds, and-left, and-right, and-both, ifOk-new, ifOk-old, ifOk-holds}
 use Rattle.octets.specs.Numbers.{Octets}
 use Rattle.octets.specs.Buffer.{over}
-use Rattle.octets_words.specs.Words.{wordsOf, wordOctets}
+use Rattle.octets_words.specs.Words.{wordsOf, wordOctets, rowNumbers}
 use Rattle.octets_words.proofs.Words.{word-octets-length, words-length, octets-of-words, words-of-octets}
 use Rattle.nets.specs.Rows.{Row, flat, rowsOf}
 use Rattle.message.specs.declared.Message.{Message}
@@ -30,7 +30,7 @@ use Rattle.codec_theorem.specs.Exchange.{handedBack, Common, Reads, ComesBack}
 use Rattle.codec_theorem.proofs.Exchange.{meanings-read-back, octets-come-back}
 use Rattle.host_result.specs.Packed.{packed}
 use Rattle.host_meaning.specs.Meaning.{meaningAt, meaningOctets}
-use Rattle.host_codec.specs.Codec.{readingNumber, foundOctets, readingOctets, readingBuffer, readingResult, isMeaning, rowsIn, writingNumber, writingOctets, writingBuffer}
+use Rattle.host_codec.specs.Codec.{readingNumber, foundOctets, readingOctets, readingBuffer, readingResult, isMeaning, writingNumber, writingOctets, writingBuffer}
 use Rattle.host_codec.specs.Claims.{MeaningBack, readLength, Within, handedMessage, handedMeaning, handedRows, CallsUndoEachOther}
 use Rattle.host_codec.proofs.Same.{same-equal, same-self}
 use Rattle.host_codec.proofs.ReadLaws.{reading-sound, meaning-length, read-good}
@@ -119,17 +119,17 @@ read-octets net message buffer m count numbers h e n =
     (rw (take-at numbers (zeros (384 - length numbers)) (count * 3) n)) refl
 
 module _ (meaning rows buffer : List ℕ) (z : writingNumber meaning rows buffer ≡ 0) where
-  both : (isMeaning meaning && writable (meaningAt meaning) (rowsIn rows)) ≡ true
+  both : (isMeaning meaning && writable (meaningAt meaning) (rowNumbers rows)) ≡ true
   unfolding writingNumber
   both =
-      check-passed (isMeaning meaning && writable (meaningAt meaning) (rowsIn rows)) 16 0 refl
+      check-passed (isMeaning meaning && writable (meaningAt meaning) (rowNumbers rows)) 16 0 refl
       (check-passed (leb 2048 (length buffer)) 3 _ refl z .1) .0
 
   is : isMeaning meaning ≡ true
-  is = and-left (isMeaning meaning) (writable (meaningAt meaning) (rowsIn rows)) both
+  is = and-left (isMeaning meaning) (writable (meaningAt meaning) (rowNumbers rows)) both
 
-  may : writable (meaningAt meaning) (rowsIn rows) ≡ true
-  may = and-right (isMeaning meaning) (writable (meaningAt meaning) (rowsIn rows)) both
+  may : writable (meaningAt meaning) (rowNumbers rows) ≡ true
+  may = and-right (isMeaning meaning) (writable (meaningAt meaning) (rowNumbers rows)) both
 
   whole : length rows % 12 ≡ 0
   whole = go (eqb (length rows % 12) 0) refl
@@ -155,7 +155,7 @@ calls-written net meaning rows buffer room om or c z h =
     let words = wordsOf rows in
     let count = length (rowsOf (wordsOf rows)) in
     let d : length rows % 12 ≡ 0 = whole meaning rows buffer z in
-    let w : rowsIn rows ≡ wordsOf rows = rows-whole rows d in
+    let w : rowNumbers rows ≡ wordsOf rows = rows-whole rows d in
     let e : readOf net (handedMessage meaning rows buffer) ≡ handedBack (meaningAt meaning) (length (rowsOf (wordsOf rows))) (wordsOf rows) =
     ap (readOf net) (handed meaning rows buffer z ∙ ap (λ (l : List ℕ). messageOctets m (rowsOf l)) w)
     ∙ meanings-read-back .same net m words (meaning-fits meaning om) (ap (writable m) (sym w) ∙ may meaning rows buffer z) c in
@@ -177,7 +177,7 @@ rows-flat (r ∷ rs) = ap (λ (k : List Row). r ∷ k) (rows-flat rs)
 
 -- a meaning and rows that may be written, as octets
 module _ (m : Message) (numbers buffer : List ℕ) (f : InWidths m) (w : writable m numbers ≡ true) (h : 2048 ≤ length buffer) where
-  rows-back : rowsIn (wordOctets numbers) ≡ numbers
+  rows-back : rowNumbers (wordOctets numbers) ≡ numbers
   rows-back =
       let n = writable-numbers m numbers w in
       rows-whole (wordOctets numbers) (omega (arith, word-octets-length numbers, n .thirds)) ∙ words-of-octets numbers (n .words)
@@ -186,7 +186,7 @@ module _ (m : Message) (numbers buffer : List ℕ) (f : InWidths m) (w : writabl
   unfolding writingNumber
   number-0 =
       check-holds (leb 2048 (length buffer)) 3 _ (le-leb 2048 (length buffer) h)
-      ∙ check-holds (isMeaning (meaningOctets m) && writable (meaningAt (meaningOctets m)) (rowsIn (wordOctets numbers))) 16 0
+      ∙ check-holds (isMeaning (meaningOctets m) && writable (meaningAt (meaningOctets m)) (rowNumbers (wordOctets numbers))) 16 0
       (and-both (isMeaning (meaningOctets m)) _ (is-meaning m f) (rw (meaning-back m f, rows-back) w))
 
   octets-are : writingOctets (meaningOctets m) (wordOctets numbers) ≡ messageOctets m (rowsOf numbers)

@@ -12,7 +12,7 @@ use Rattle.checks.specs.Checks.{check, ifOk}
 use Rattle.checks.proofs.Laws.{and-right, cond-elim, check-holds, check-fails, ifOk-old}
 use Rattle.octets.specs.Buffer.{over}
 use Rattle.octets.proofs.Buffer.{over-nothing}
-use Rattle.octets_words.specs.Words.{wordsOf}
+use Rattle.octets_words.specs.Words.{wordsOf, rowNumbers}
 use Rattle.octets_words.proofs.Words.{words-length}
 use Rattle.nets.specs.Classes.{goodNet}
 use Rattle.nets.specs.Rows.{rowsOf}
@@ -28,7 +28,7 @@ use Rattle.codec.specs.Writing.{rowsAllowed, writable, writeAnswer, writeOctets
 use Rattle.codec.specs.declared.WriteAnswer.{WriteAnswer}
 use Rattle.host_result.specs.Packed.{packed, bare}
 use Rattle.host_meaning.specs.Meaning.{meaningAt, meaningOctets}
-use Rattle.host_codec.specs.Codec.{sameOctets, isMeaning, rowsIn, writingNumber, writingOctets, writingBuffer, writingResult}
+use Rattle.host_codec.specs.Codec.{sameOctets, isMeaning, writingNumber, writingOctets, writingBuffer, writingResult}
 use Rattle.host_codec.proofs.Same.{and-false}
 
 -- ---- rows that the writer refuses beside every kind
@@ -77,15 +77,15 @@ many-refused m numbers k e = and-false (statusAllowed (kindOf m) (statusOf m)) (
 
 -- ---- rows as octets
 
-pub rows-broken : (octets : List ℕ) → (length octets % 12 ≡ 0 → ⊥) → rowsIn octets ≡ 0 ∷ []
-unfolding rowsIn
+pub rows-broken : (octets : List ℕ) → (length octets % 12 ≡ 0 → ⊥) → rowNumbers octets ≡ 0 ∷ []
+unfolding rowNumbers
 rows-broken octets n = rw (ne-eqb (length octets % 12) 0 n)
 
-pub rows-whole : (octets : List ℕ) → length octets % 12 ≡ 0 → rowsIn octets ≡ wordsOf octets
-unfolding rowsIn
+pub rows-whole : (octets : List ℕ) → length octets % 12 ≡ 0 → rowNumbers octets ≡ wordsOf octets
+unfolding rowNumbers
 rows-whole octets e = rw (eq-eqb (length octets % 12) 0 e)
 
-pub long-refused : (m : Message) (octets : List ℕ) → length octets % 12 ≡ 0 → 1536 < length octets → writable m (rowsIn octets) ≡ false
+pub long-refused : (m : Message) (octets : List ℕ) → length octets % 12 ≡ 0 → 1536 < length octets → writable m (rowNumbers octets) ≡ false
 long-refused m octets e h =
     let k : 384 < length (wordsOf octets) = omega (arith, words-length octets) in
     let t : length (wordsOf octets) % 3 ≡ 0 = omega (arith, words-length octets) in
@@ -176,20 +176,20 @@ module _ (meaning rows buffer : List ℕ) where
   write-16 r h w e =
       refused 16 r
       (check-holds (leb 2048 (length buffer)) 3 _ (le-leb 2048 (length buffer) h)
-      ∙ check-fails (isMeaning meaning && writable (meaningAt meaning) (rowsIn rows)) 16 0 (rw w))
+      ∙ check-fails (isMeaning meaning && writable (meaningAt meaning) (rowNumbers rows)) 16 0 (rw w))
       (λ z. absurd (omega arith)) e
 
   -- a meaning that reading can give: the answer is the writer's own
-  number-writer : isMeaning meaning ≡ true → writingNumber meaning rows buffer ≡ writeAnswer (meaningAt meaning) (rowsIn rows) buffer
+  number-writer : isMeaning meaning ≡ true → writingNumber meaning rows buffer ≡ writeAnswer (meaningAt meaning) (rowNumbers rows) buffer
   unfolding writingNumber writeAnswer
   number-writer w = rw w
 
-  pub write-done : (r : ℕ) (a : WriteAnswer) (x : List ℕ) → isMeaning meaning ≡ true → a ≡ writeOf (meaningAt meaning) (rowsIn rows) buffer
-      → x ≡ over (writeOctets (meaningAt meaning) (rowsIn rows) buffer) buffer → r ≡ packed (a .answer) (a .length) 0
+  pub write-done : (r : ℕ) (a : WriteAnswer) (x : List ℕ) → isMeaning meaning ≡ true → a ≡ writeOf (meaningAt meaning) (rowNumbers rows) buffer
+      → x ≡ over (writeOctets (meaningAt meaning) (rowNumbers rows) buffer) buffer → r ≡ packed (a .answer) (a .length) 0
       → (r ≡ writingResult meaning rows buffer) × (x ≡ writingBuffer meaning rows buffer)
   unfolding writingResult writingBuffer writingOctets writeOf writeOctets
   write-done r a x w e f g =
       rw (number-writer w) (
-        g ∙ ap (λ (a : WriteAnswer). packed (a .answer) (a .length) 0) e ∙ packed-answer (writeAnswer (meaningAt meaning) (rowsIn rows) buffer) _,
-        f ∙ over-answer (writeAnswer (meaningAt meaning) (rowsIn rows) buffer) _ buffer,
+        g ∙ ap (λ (a : WriteAnswer). packed (a .answer) (a .length) 0) e ∙ packed-answer (writeAnswer (meaningAt meaning) (rowNumbers rows) buffer) _,
+        f ∙ over-answer (writeAnswer (meaningAt meaning) (rowNumbers rows) buffer) _ buffer,
       )

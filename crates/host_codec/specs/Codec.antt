@@ -1,13 +1,13 @@
 -- Reading alone and writing for a C host. 02: "functions take numbers and octets only". A meaning is 24 octets, as in
 -- host_meaning, and its rows 12 octets each.
-use Prim.Native.Nat.{ℕ, _*_, _%_}
-use mathlib.Core.Bool.{Bool, true, false, cond, _&&_}
+use Prim.Native.Nat.{ℕ, _*_}
+use mathlib.Core.Bool.{Bool, true, false, _&&_}
 use mathlib.Core.List.{List, [], _∷_, _++_}
 use lib.Dec.{eqb, leb}
 use lib.ListN.{length, take}
 use Rattle.checks.specs.Checks.{check, ifOk}
 use Rattle.octets.specs.Buffer.{over}
-use Rattle.octets_words.specs.Words.{wordsOf, wordOctets}
+use Rattle.octets_words.specs.Words.{wordOctets, rowNumbers}
 use Rattle.nets.specs.Rows.{rowsOf}
 use Rattle.codec_writing.specs.Octets.{messageOctets}
 use Rattle.codec.specs.Reading.{readNumber, readOf}
@@ -64,18 +64,14 @@ sameOctets (x ∷ xs) (y ∷ ys) = eqb x y && sameOctets xs ys
 unfoldable pub isMeaning : List ℕ → Bool
 isMeaning octets = sameOctets octets (meaningOctets (meaningAt octets))
 
--- the numbers of rows, 12 octets a row; octets that are not whole rows stand as one number, which is no row
-unfoldable pub rowsIn : List ℕ → List ℕ
-rowsIn octets = cond (eqb (length octets % 12) 0) (wordsOf octets) (0 ∷ [])
-
 -- 01: "writing makes 3, then 16"
 unfoldable pub writingNumber : List ℕ → List ℕ → List ℕ → ℕ
 writingNumber meaning rows buffer =
-    check (leb 2048 (length buffer)) 3 (check (isMeaning meaning && writable (meaningAt meaning) (rowsIn rows)) 16 0)
+    check (leb 2048 (length buffer)) 3 (check (isMeaning meaning && writable (meaningAt meaning) (rowNumbers rows)) 16 0)
 
 -- the message that is written
 unfoldable pub writingOctets : List ℕ → List ℕ → List ℕ
-writingOctets meaning rows = messageOctets (meaningAt meaning) (rowsOf (rowsIn rows))
+writingOctets meaning rows = messageOctets (meaningAt meaning) (rowsOf (rowNumbers rows))
 
 -- a refused call writes nothing
 unfoldable pub writingBuffer : List ℕ → List ℕ → List ℕ → List ℕ

@@ -6,9 +6,9 @@ ghost use mathlib.Core.Path.{_≡_};
 ghost use Prim.Native.Nat.{_*_, _≤_};
 ghost use lib.ListN.{length};
 ghost use Rattle.octets.specs.Buffer.{over};
-ghost use Rattle.octets_words.specs.Words.{wordsOf};
+ghost use Rattle.octets_words.specs.Words.{wordsOf, rowNumbers};
 ghost use Rattle.codec.specs.Writing.{writeOf, writeOctets};
-ghost use Rattle.host_codec.specs.Codec.{readingResult, readingBuffer, sameOctets, rowsIn, writingResult, writingBuffer};
+ghost use Rattle.host_codec.specs.Codec.{readingResult, readingBuffer, sameOctets, writingResult, writingBuffer};
 
 // Reads a message alone, given the common net: its meaning goes into the buffer, and an Update's rows behind it.
 pub fn read(buffer: &mut [u8], net: u32, message: &[u8]) -> u64
@@ -63,8 +63,8 @@ fn write_words(buffer: &mut [u8], m: Message, rows: &[u8], room: &mut [u32]) -> 
 // The same for rows of any length: where they are not whole, or more than may be written, the writer is given one
 // number, which it refuses.
 fn write_rows(buffer: &mut [u8], m: Message, rows: &[u8]) -> WriteAnswer
-    ensures { λ r. ⌜ r ≡ writeOf m (rowsIn (now (rows .entry))) (now (buffer .entry)) ⌝ }
-    ensures { λ _. ⌜ now (buffer .exit) ≡ over (writeOctets m (rowsIn (now (rows .entry))) (now (buffer .entry))) (now (buffer .entry)) ⌝ }
+    ensures { λ r. ⌜ r ≡ writeOf m (rowNumbers (now (rows .entry))) (now (buffer .entry)) ⌝ }
+    ensures { λ _. ⌜ now (buffer .exit) ≡ over (writeOctets m (rowNumbers (now (rows .entry))) (now (buffer .entry))) (now (buffer .entry)) ⌝ }
 {
     if rows.len() % 12 != 0 {
         return codec::write(buffer, m, &[0u32]);

@@ -10,7 +10,7 @@ use lib.ListN.{length, drop, length-drop}
 use Rattle.checks.specs.Lists.{every}
 use Rattle.checks.proofs.Laws.{and-left, and-right}
 use Rattle.octets.specs.Numbers.{word32}
-use Rattle.octets_words.specs.Words.{wordsOf}
+use Rattle.octets_words.specs.Words.{wordsOf, rowNumbers}
 use Rattle.octets_words.proofs.Words.{words-length}
 use Rattle.nets.specs.Classes.{goodNet, onNet}
 use Rattle.neighbour.specs.declared.Settings.{Settings}
@@ -87,12 +87,12 @@ module _ (common : ℕ) (l rest : List ℕ) (h : 11 < length l) (e : true ≡ ho
 -- ---- the whole list
 
 pub home-words : (l : List ℕ) → length l % 12 ≡ 0 → homeIn l ≡ wordsOf l
-unfolding homeIn
+unfolding rowNumbers
 home-words l e = rw e
 
 -- a list that an Update can carry is of whole rows
 pub home-whole : (net : ℕ) (l : List ℕ) → writableNumbers net (homeIn l) ≡ true → length l % 12 ≡ 0
-unfolding homeIn
+unfolding rowNumbers
 home-whole net l w = go (eqb (length l % 12) 0) refl w
   where
     go : (b : Bool) → eqb (length l % 12) 0 ≡ b → writableNumbers net (cond b (wordsOf l) (0 ∷ [])) ≡ true → length l % 12 ≡ 0
@@ -101,7 +101,7 @@ home-whole net l w = go (eqb (length l % 12) 0) refl w
 
 module _ (g : Settings) (l : List ℕ) where
   pub not-whole : (length l % 12 ≡ 0 → ⊥) → false ≡ goodHome g (homeIn l)
-  unfolding goodHome homeIn
+  unfolding goodHome rowNumbers
   not-whole e = rw (ne-eqb (length l % 12) 0 e)
 
   module _ (e : length l % 12 ≡ 0) where

@@ -1,16 +1,14 @@
 -- The home list as octets, for a host. 02: "A home list goes as octets too, 12 a row; any other length gives 4."
-use Prim.Native.Nat.{ℕ, _%_}
-use mathlib.Core.Bool.{cond}
-use mathlib.Core.List.{List, [], _∷_}
-use lib.Dec.{eqb}
-use lib.ListN.{length, take}
-use Rattle.octets_words.specs.Words.{wordsOf}
+use Prim.Native.Nat.{ℕ}
+use mathlib.Core.List.{List}
+use lib.ListN.{take}
+use Rattle.octets_words.specs.Words.{wordsOf, rowNumbers}
 use Rattle.nets.specs.Rows.{Row, rowsOf}
 use Rattle.update_writing.specs.Steps.{column, agreeing}
 
--- its numbers; of another length, one number, which is no whole row and so no good list
-unfoldable pub homeIn : List ℕ → List ℕ
-homeIn octets = cond (eqb (length octets % 12) 0) (wordsOf octets) (0 ∷ [])
+-- its numbers; of another length it is one number, which is no whole row and so no good list
+abbrev pub homeIn : List ℕ → List ℕ
+homeIn octets = rowNumbers octets
 
 -- the whole rows of octets, 12 a row
 abbrev pub rowsIn : List ℕ → List Row

@@ -27,7 +27,7 @@ use Rattle.gateway_state.specs.Places as Places
 use Rattle.gateway_state.specs.Formed as GatewayStateFormed
 use Rattle.gateway_state.specs.Outcomes as Outcomes
 use Rattle.gateway_slots.specs.Calls as GatewaySlotsCalls
-use Rattle.gateway_rules.specs.Home as GatewayRulesHome
+use Rattle.gateway_rules.specs.Home as Home
 use Rattle.gateway_rules.specs.Number as Number
 use Rattle.gateway_rules.specs.Ruling as Ruling
 use Rattle.gateway_rules.specs.Carried as Carried
@@ -40,7 +40,6 @@ use Rattle.host_result.specs.Packed as Packed
 use Rattle.host_state_block.specs.Layout as HostStateBlockLayout
 use Rattle.host_state_block.specs.Block as Block
 use Rattle.host_state_block.specs.Formed as HostStateBlockFormed
-use Rattle.host_home.specs.Home as HostHomeHome
 use Rattle.host_rules.specs.Held as Held
 use Rattle.host_rules.specs.Calls as HostRulesCalls
 use Rattle.host_sheet.specs.Given as HostSheetGiven
@@ -52,5 +51,5 @@ use Rattle.host_sheet.specs.Results as Results
 use Rattle.host_sheet.specs.Effects as Effects
 
 unfoldable pub opened : ℕ
-unfolding Checks.check Checks.ifOk Lists.first Lists.every Lists.distinct Lists.join Buffer.over Checksum.onesAdd Checksum.onesSum Checksum.checksumOf Checksum.sealed Words.wordsOf Words.wordOctets Classes.netWidth Classes.hostSpan Classes.goodNet Classes.onNet Rows.flat Rows.rowsOf Text.text Text.digit Text.digits Text.decimal Text.dotted Text.line Kinds.kindAt Kinds.plainStatus Kinds.refusalStatus Kinds.markedStatus Reading.isKnown Reading.statusFits Reading.lengthFits Reading.meaningOf Reading.decodeAs Reading.decodeOf Writing.headOf Body.extended Body.many Body.leftJustified Body.rowOfWidth Body.netRow Body.groupAt Body.hostWidth Body.gatewayOf Body.blockAt Body.sidesAt Body.groupsHold Body.blocksHold Body.sidesHold Body.readAs Body.bothSides Body.nothingLeft Body.bodyOf Body.further Body.netAt Body.walkedBlocks Body.readWithin Body.updateOf Body.updateNumber Body.rowsRead Storing.zeros Storing.padded Blocks.sideRows Blocks.joined Blocks.runs Blocks.each Blocks.addressOctets Blocks.netOctets Blocks.hostOctets Blocks.netsOctets Blocks.groupOctets Blocks.groupsOctets Blocks.blockOctets Blocks.sideOctets Blocks.blocksWritten Blocks.internalBlocks Blocks.externalBlocks Octets.plainOctets Octets.messageOctets Record.under Record.withNumbers Record.withTimers Record.withReach Record.idle Record.leftIdle Record.waiting Record.initialised Record.heardFrom Record.shifted Record.enterUp Record.leaveUp Record.polled Rules.inSequence Rules.commanded Rules.indicates Rules.noted Rules.period1Of Rules.period2Of Rules.unacceptable Rules.modeOf Rules.offerOf Rules.onesOf Rules.goesUp Rules.goesDown Rules.judged NeighbourWellformedFormed.allZero NeighbourWellformedFormed.idleFormed NeighbourWellformedFormed.timersBelow NeighbourWellformedFormed.timersRun NeighbourWellformedFormed.t2Formed NeighbourWellformedFormed.registerFormed NeighbourWellformedFormed.agreed NeighbourWellformedFormed.intervalsFormed NeighbourWellformedFormed.causeFormed NeighbourWellformedFormed.wellFormed Table.followed Table.quiet Table.answers Table.says Table.helloIf Table.doesA Table.doesB Table.ceases Table.repeatsCease Table.acquires Table.stray Table.onRequest Table.settles Table.onConfirm Table.onRefuse Table.onCease Table.onCeaseAck Table.onHello Table.onIHeardYou Table.answersPoll Table.onPoll Table.onUpdate Table.onStart Table.onStop Tick.expired Tick.repeats Tick.listens Tick.polls Tick.pollsOnEntry Tick.takesT2 Tick.pollsInUp Tick.tickOn Tick.onTick Step.onMessage Step.stepOf Slots.freeSlot Slots.slotAt Slots.withSlot Slots.addresses Slots.clash Slots.slotOf Slots.lowestFree Places.rowCounts Places.partAt Places.withPart Places.readRows Places.writeRows GatewayStateFormed.goodSettings GatewayStateFormed.goodPeer GatewayStateFormed.rowsFormed GatewayStateFormed.freeFormed GatewayStateFormed.usedFormed GatewayStateFormed.slotFormed GatewayStateFormed.stateFormed Outcomes.refusedOf Outcomes.silentOf GatewaySlotsCalls.freeSlots GatewaySlotsCalls.emptyState GatewaySlotsCalls.zeroState GatewaySlotsCalls.freshAnswer GatewaySlotsCalls.freshOf GatewaySlotsCalls.addAnswer GatewaySlotsCalls.addOf GatewaySlotsCalls.removeAnswer GatewaySlotsCalls.removeOf GatewayRulesHome.homeRow GatewayRulesHome.ownFirst GatewayRulesHome.goodHome Number.sequenceFits Number.bringsRows Number.bodyNumber Number.messageNumber Number.errorHead Number.errorTo Number.refuseTo Number.namedReply Ruling.leaving Ruling.stepped Ruling.refuses Ruling.takenStep Ruling.changeBy Ruling.carriedOut Ruling.receiveRuling Carried.firstOctets Carried.secondOctets Carried.replyOctets Carried.tableAfter Carried.countAfter Carried.slotAfter Carried.outcomeAfter Carried.bufferAfter GatewayRulesCalls.lentChecks GatewayRulesCalls.eventChecks GatewayRulesCalls.messageChecks GatewayRulesCalls.noHead GatewayRulesCalls.updateRoom GatewayRulesCalls.eventRuling GatewayRulesCalls.messageRuling GatewayRulesCalls.eventOutcome GatewayRulesCalls.eventTable GatewayRulesCalls.eventBuffer GatewayRulesCalls.messageOutcome GatewayRulesCalls.messageTable GatewayRulesCalls.messageBuffer Lines.stateWord Lines.modeWord Lines.distanceIn Lines.sideWord Lines.headLines Lines.rowLines Lines.rowText Lines.entryText Lines.listingText Listing.entryOf Listing.entriesFrom Listing.entries Listing.markedRow Listing.listable Listing.listingChecks Listing.listingOutcome Listing.listingBuffer GatewayCheckSheetGiven.hexValue GatewayCheckSheetGiven.hex GatewayCheckSheetGiven.repeated GatewayCheckSheetGiven.ip GatewayCheckSheetGiven.set GatewayCheckSheetGiven.made GatewayCheckSheetGiven.slot GatewayCheckSheetGiven.state Theorem.outcomeOf Theorem.tableLeft Theorem.bufferOf Theorem.bufferLeft Packed.packed HostStateBlockLayout.numbersAt HostStateBlockLayout.octetsFor Block.ownNumbers Block.settingsOf Block.slotNumbers Block.slotOf Block.ownOctets Block.slotOctets Block.slotsOctets Block.blockOf Block.settingsIn Block.slotIn Block.slotsIn Block.stateIn HostStateBlockFormed.inRange HostStateBlockFormed.allInRange HostStateBlockFormed.blockInRange HostStateBlockFormed.blockFormed HostHomeHome.homeIn Held.tableIn Held.held Held.holdsState Held.asGateway HostRulesCalls.heldOutcome HostRulesCalls.numberOf HostRulesCalls.resultOf HostRulesCalls.blockAfter HostRulesCalls.tableAfter HostRulesCalls.bufferAfter HostRulesCalls.freshNumber HostRulesCalls.freshBlock HostRulesCalls.freshResult HostSheetGiven.block HostSheetGiven.own HostSheetGiven.free HostSheetGiven.tenth HostSheetGiven.fifth HostSheetGiven.sound HostSheetGiven.exchanged HostSheetGiven.slot0 HostSheetGiven.slot2 HostSheetGiven.slot5 HostSheetGiven.slot6 HostSheetGiven.slot7 HostSheetGiven.changed HostSheetGiven.full HostSheetGiven.shorter HostSheetGiven.longer HostSheetGiven.eights HostSheetGiven.sevens HostSheetGiven.table HostSheetGiven.room HostSheetGiven.page HostSheetGiven.blockOfU HostSheetGiven.tableOfU HostSheetGiven.inSlot0 HostSheetGiven.inSlot2 HostSheetGiven.inSlot6 HostSheetGiven.inSlot7 HostSheetGiven.nobody HostSheetGiven.row HostSheetGiven.rows HostSheetLayout.everyField HostSheetLayout.everyOctet HostSheetLayout.placesComputed HostSheetLayout.placesWritten Ranges.computed Ranges.written Ranges.ranges Line.keeps Line.twoRows Line.front Line.computed Line.replied Line.written Numbers.hello Numbers.helloCut Numbers.goodCalls Numbers.badCalls Numbers.ofLength Numbers.beforeOthers Numbers.lengths Numbers.ofForm Numbers.beforeTable Numbers.forms Numbers.ofTable Numbers.beforeBuffer Numbers.tables Numbers.others Results.packedComputed Results.packedWritten Results.listingOfU Results.results Effects.effects
+unfolding Checks.check Checks.ifOk Lists.first Lists.every Lists.distinct Lists.join Buffer.over Checksum.onesAdd Checksum.onesSum Checksum.checksumOf Checksum.sealed Words.wordsOf Words.wordOctets Words.rowNumbers Classes.netWidth Classes.hostSpan Classes.goodNet Classes.onNet Rows.flat Rows.rowsOf Text.text Text.digit Text.digits Text.decimal Text.dotted Text.line Kinds.kindAt Kinds.plainStatus Kinds.refusalStatus Kinds.markedStatus Reading.isKnown Reading.statusFits Reading.lengthFits Reading.meaningOf Reading.decodeAs Reading.decodeOf Writing.headOf Body.extended Body.many Body.leftJustified Body.rowOfWidth Body.netRow Body.groupAt Body.hostWidth Body.gatewayOf Body.blockAt Body.sidesAt Body.groupsHold Body.blocksHold Body.sidesHold Body.readAs Body.bothSides Body.nothingLeft Body.bodyOf Body.further Body.netAt Body.walkedBlocks Body.readWithin Body.updateOf Body.updateNumber Body.rowsRead Storing.zeros Storing.padded Blocks.sideRows Blocks.joined Blocks.runs Blocks.each Blocks.addressOctets Blocks.netOctets Blocks.hostOctets Blocks.netsOctets Blocks.groupOctets Blocks.groupsOctets Blocks.blockOctets Blocks.sideOctets Blocks.blocksWritten Blocks.internalBlocks Blocks.externalBlocks Octets.plainOctets Octets.messageOctets Record.under Record.withNumbers Record.withTimers Record.withReach Record.idle Record.leftIdle Record.waiting Record.initialised Record.heardFrom Record.shifted Record.enterUp Record.leaveUp Record.polled Rules.inSequence Rules.commanded Rules.indicates Rules.noted Rules.period1Of Rules.period2Of Rules.unacceptable Rules.modeOf Rules.offerOf Rules.onesOf Rules.goesUp Rules.goesDown Rules.judged NeighbourWellformedFormed.allZero NeighbourWellformedFormed.idleFormed NeighbourWellformedFormed.timersBelow NeighbourWellformedFormed.timersRun NeighbourWellformedFormed.t2Formed NeighbourWellformedFormed.registerFormed NeighbourWellformedFormed.agreed NeighbourWellformedFormed.intervalsFormed NeighbourWellformedFormed.causeFormed NeighbourWellformedFormed.wellFormed Table.followed Table.quiet Table.answers Table.says Table.helloIf Table.doesA Table.doesB Table.ceases Table.repeatsCease Table.acquires Table.stray Table.onRequest Table.settles Table.onConfirm Table.onRefuse Table.onCease Table.onCeaseAck Table.onHello Table.onIHeardYou Table.answersPoll Table.onPoll Table.onUpdate Table.onStart Table.onStop Tick.expired Tick.repeats Tick.listens Tick.polls Tick.pollsOnEntry Tick.takesT2 Tick.pollsInUp Tick.tickOn Tick.onTick Step.onMessage Step.stepOf Slots.freeSlot Slots.slotAt Slots.withSlot Slots.addresses Slots.clash Slots.slotOf Slots.lowestFree Places.rowCounts Places.partAt Places.withPart Places.readRows Places.writeRows GatewayStateFormed.goodSettings GatewayStateFormed.goodPeer GatewayStateFormed.rowsFormed GatewayStateFormed.freeFormed GatewayStateFormed.usedFormed GatewayStateFormed.slotFormed GatewayStateFormed.stateFormed Outcomes.refusedOf Outcomes.silentOf GatewaySlotsCalls.freeSlots GatewaySlotsCalls.emptyState GatewaySlotsCalls.zeroState GatewaySlotsCalls.freshAnswer GatewaySlotsCalls.freshOf GatewaySlotsCalls.addAnswer GatewaySlotsCalls.addOf GatewaySlotsCalls.removeAnswer GatewaySlotsCalls.removeOf Home.homeRow Home.ownFirst Home.goodHome Number.sequenceFits Number.bringsRows Number.bodyNumber Number.messageNumber Number.errorHead Number.errorTo Number.refuseTo Number.namedReply Ruling.leaving Ruling.stepped Ruling.refuses Ruling.takenStep Ruling.changeBy Ruling.carriedOut Ruling.receiveRuling Carried.firstOctets Carried.secondOctets Carried.replyOctets Carried.tableAfter Carried.countAfter Carried.slotAfter Carried.outcomeAfter Carried.bufferAfter GatewayRulesCalls.lentChecks GatewayRulesCalls.eventChecks GatewayRulesCalls.messageChecks GatewayRulesCalls.noHead GatewayRulesCalls.updateRoom GatewayRulesCalls.eventRuling GatewayRulesCalls.messageRuling GatewayRulesCalls.eventOutcome GatewayRulesCalls.eventTable GatewayRulesCalls.eventBuffer GatewayRulesCalls.messageOutcome GatewayRulesCalls.messageTable GatewayRulesCalls.messageBuffer Lines.stateWord Lines.modeWord Lines.distanceIn Lines.sideWord Lines.headLines Lines.rowLines Lines.rowText Lines.entryText Lines.listingText Listing.entryOf Listing.entriesFrom Listing.entries Listing.markedRow Listing.listable Listing.listingChecks Listing.listingOutcome Listing.listingBuffer GatewayCheckSheetGiven.hexValue GatewayCheckSheetGiven.hex GatewayCheckSheetGiven.repeated GatewayCheckSheetGiven.ip GatewayCheckSheetGiven.set GatewayCheckSheetGiven.made GatewayCheckSheetGiven.slot GatewayCheckSheetGiven.state Theorem.outcomeOf Theorem.tableLeft Theorem.bufferOf Theorem.bufferLeft Packed.packed HostStateBlockLayout.numbersAt HostStateBlockLayout.octetsFor Block.ownNumbers Block.settingsOf Block.slotNumbers Block.slotOf Block.ownOctets Block.slotOctets Block.slotsOctets Block.blockOf Block.settingsIn Block.slotIn Block.slotsIn Block.stateIn HostStateBlockFormed.inRange HostStateBlockFormed.allInRange HostStateBlockFormed.blockInRange HostStateBlockFormed.blockFormed Held.tableIn Held.held Held.holdsState Held.asGateway HostRulesCalls.heldOutcome HostRulesCalls.numberOf HostRulesCalls.resultOf HostRulesCalls.blockAfter HostRulesCalls.tableAfter HostRulesCalls.bufferAfter HostRulesCalls.freshNumber HostRulesCalls.freshBlock HostRulesCalls.freshResult HostSheetGiven.block HostSheetGiven.own HostSheetGiven.free HostSheetGiven.tenth HostSheetGiven.fifth HostSheetGiven.sound HostSheetGiven.exchanged HostSheetGiven.slot0 HostSheetGiven.slot2 HostSheetGiven.slot5 HostSheetGiven.slot6 HostSheetGiven.slot7 HostSheetGiven.changed HostSheetGiven.full HostSheetGiven.shorter HostSheetGiven.longer HostSheetGiven.eights HostSheetGiven.sevens HostSheetGiven.table HostSheetGiven.room HostSheetGiven.page HostSheetGiven.blockOfU HostSheetGiven.tableOfU HostSheetGiven.inSlot0 HostSheetGiven.inSlot2 HostSheetGiven.inSlot6 HostSheetGiven.inSlot7 HostSheetGiven.nobody HostSheetGiven.row HostSheetGiven.rows HostSheetLayout.everyField HostSheetLayout.everyOctet HostSheetLayout.placesComputed HostSheetLayout.placesWritten Ranges.computed Ranges.written Ranges.ranges Line.keeps Line.twoRows Line.front Line.computed Line.replied Line.written Numbers.hello Numbers.helloCut Numbers.goodCalls Numbers.badCalls Numbers.ofLength Numbers.beforeOthers Numbers.lengths Numbers.ofForm Numbers.beforeTable Numbers.forms Numbers.ofTable Numbers.beforeBuffer Numbers.tables Numbers.others Results.packedComputed Results.packedWritten Results.listingOfU Results.results Effects.effects
 opened = 0

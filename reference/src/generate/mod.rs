@@ -7,6 +7,7 @@
 
 pub mod day;
 pub mod faults;
+pub mod hosts;
 pub mod line_faults;
 pub mod material;
 pub mod recordings;
@@ -151,6 +152,19 @@ impl Generator {
             focus_left: 0,
             temper: Temper::Steady,
         }
+    }
+
+    /// The next call.
+    pub fn step(&mut self) -> Step {
+        let (call, aim) = self.choose();
+        let handed = matches!(call, Call::HandState(_) | Call::HandTable(_));
+        let origin = if self.aside.is_some() && !handed {
+            Origin::HandedIn
+        } else {
+            Origin::Reached
+        };
+        self.bench.run(&call);
+        Step { call, aim, origin }
     }
 
     fn choose(&mut self) -> (Call, &'static str) {
@@ -1079,14 +1093,6 @@ impl Iterator for Generator {
     type Item = Step;
 
     fn next(&mut self) -> Option<Step> {
-        let (call, aim) = self.choose();
-        let handed = matches!(call, Call::HandState(_) | Call::HandTable(_));
-        let origin = if self.aside.is_some() && !handed {
-            Origin::HandedIn
-        } else {
-            Origin::Reached
-        };
-        self.bench.run(&call);
-        Some(Step { call, aim, origin })
+        Some(self.step())
     }
 }

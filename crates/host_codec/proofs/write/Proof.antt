@@ -3,10 +3,11 @@ use borrow.Author.Tests.{not-true, not-false}
 use Rattle.octets.specs.Buffer.{over}
 use Rattle.message.specs.declared.Message.{Message}
 use Rattle.codec.specs.Writing.{writeOf, writeOctets}
-use Rattle.host_codec.specs.Codec.{rowsIn}
+use Rattle.host_codec.specs.Codec.{}
 use Rattle.host_codec.proofs.WriteLaws.{is-told, write-3, write-16, write-done}
 use borrow.Author.Needs.{needs}
 use Rattle.host_codec.proofs.write.Statement.{statement}
+use Rattle.octets_words.specs.Words.{rowNumbers}
 use Rattle.host_codec.proofs.write.Tie as tie
 
 alone-requires : tie.Need-alone-requires
@@ -48,8 +49,8 @@ returns-3 c =
     let m = c .before .before .before .before .before .before .before .before .before .read-meaning .ensures in
     write-done (a .meaning .now) (a .rows .now) (a .buffer .now) _ _ _
     (is-told _ _ _ _ (c .before .before .before .before .before .before .same-octets .ensures) (c .before .before .before .before .before .before .before .before .meaning-octets .ensures) m ∙ not-false (c .before .before .before .before .before .before .same-octets .result) (c .before .before .before .before .before .if2 .left))
-    (c .before .before .before .write-rows .ensures .0 ∙ ap (λ (t : Message). writeOf t (rowsIn (a .rows .now)) (a .buffer .now)) m)
-    (c .before .before .before .write-rows .ensures .1 ∙ ap (λ (t : Message). over (writeOctets t (rowsIn (a .rows .now)) (a .buffer .now)) (a .buffer .now)) m) (c .pack .ensures)
+    (c .before .before .before .write-rows .ensures .0 ∙ ap (λ (t : Message). writeOf t (rowNumbers (a .rows .now)) (a .buffer .now)) m)
+    (c .before .before .before .write-rows .ensures .1 ∙ ap (λ (t : Message). over (writeOctets t (rowNumbers (a .rows .now)) (a .buffer .now)) (a .buffer .now)) m) (c .pack .ensures)
 
 pub write-spec : {M : Type 1} → statement M
 write-spec =

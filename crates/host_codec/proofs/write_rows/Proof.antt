@@ -1,8 +1,9 @@
 use mathlib.Core.List.{[], _∷_}
 use Rattle.host_codec.proofs.WriteLaws.{one-refused, long-refused, rows-broken, rows-whole, refused-alike}
-use Rattle.host_codec.specs.Codec.{rowsIn}
+use Rattle.host_codec.specs.Codec.{}
 use borrow.Author.Needs.{needs}
 use Rattle.host_codec.proofs.write_rows.Statement.{statement}
+use Rattle.octets_words.specs.Words.{rowNumbers}
 use Rattle.host_codec.proofs.write_rows.Tie as tie
 
 slice-aggregate-write : tie.Need-slice-aggregate-write
@@ -27,7 +28,7 @@ same-length-2 : tie.Need-same-length-2
 same-length-2 c = search needs
 
 returns-2 : tie.Need-returns-2
-returns-2 c = refused-alike (c .before .before .before .before .before .before .before .before .before .args .m) (c .before .before .before .before .before .before .before .before .before .args .buffer .now) (0 ∷ []) (rowsIn (c .before .before .before .before .before .before .before .before .before .args .rows .now)) (one-refused (c .before .before .before .before .before .before .before .before .before .args .m)) (long-refused (c .before .before .before .before .before .before .before .before .before .args .m) (c .before .before .before .before .before .before .before .before .before .args .rows .now) (c .before .before .before .before .before .before .if1 .left) (c .before .before .before .before .before .if2 .taken)) _ _ (c .before .before .write2 .ensures .0) (c .before .before .write2 .ensures .1)
+returns-2 c = refused-alike (c .before .before .before .before .before .before .before .before .before .args .m) (c .before .before .before .before .before .before .before .before .before .args .buffer .now) (0 ∷ []) (rowNumbers (c .before .before .before .before .before .before .before .before .before .args .rows .now)) (one-refused (c .before .before .before .before .before .before .before .before .before .args .m)) (long-refused (c .before .before .before .before .before .before .before .before .before .args .m) (c .before .before .before .before .before .before .before .before .before .args .rows .now) (c .before .before .before .before .before .before .if1 .left) (c .before .before .before .before .before .if2 .taken)) _ _ (c .before .before .write2 .ensures .0) (c .before .before .write2 .ensures .1)
 
 slice-aggregate-write-words : tie.Need-slice-aggregate-write-words
 slice-aggregate-write-words c = search needs

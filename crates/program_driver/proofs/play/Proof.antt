@@ -15,7 +15,7 @@ slice-aggregate-read-state : tie.Need-slice-aggregate-read-state Inv-loop μ-loo
 slice-aggregate-read-state c = refl
 
 read-state-requires : tie.Need-read-state-requires Inv-loop μ-loop
-read-state-requires c κs = tt
+read-state-requires c κs = omega arith
 
 loop-holds : tie.Need-loop-holds Inv-loop μ-loop
 loop-holds c = omega arith

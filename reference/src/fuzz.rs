@@ -1,0 +1,370 @@
+//! A fuzzer's input as a call of a host: `fuzz/README.md` has the layout.
+//!
+//! Every input is some call. A few octets at the front choose its kind, its lengths and what is
+//! made to fit, so that an input need not find a well-formed block or a checksum by itself; octets
+//! that are missing at the end are 0.
+
+use std::collections::BTreeMap;
+
+use crate::call::CallKind;
+use crate::checksum;
+use crate::gateway::{State, SLOTS, TABLE_NUMBERS};
+use crate::generate::hosts::{Hosts, BLOCK_LENGTHS, TABLE_LENGTHS};
+use crate::host::{self, row_octets, takes, HostCall, Part, TABLE};
+use crate::neighbour::{Mode, Neighbour, NeighbourState};
+use crate::net::Class;
+use crate::record::{self, STATE_BLOCK};
+use crate::update::{Row, MOST_ROWS};
+
+/// What an input asks for, a bit each.
+mod option {
+    /// The block is made from the octets, well formed, instead of being these.
+    pub const BLOCK_MADE: u8 = 1;
+    /// The message gets version 2, the neighbour's AS, and our S as its sequence number.
+    pub const MESSAGE_FITTED: u8 = 2;
+    /// The message gets its right checksum.
+    pub const MESSAGE_SEALED: u8 = 4;
+    /// The rows' nets, gateways and distances are made good.
+    pub const ROWS_MADE: u8 = 8;
+    /// The table has rows where the block says so.
+    pub const TABLE_FILLED: u8 = 16;
+    /// The address is a neighbour's.
+    pub const ADDRESS_FITTED: u8 = 32;
+}
+
+/// At most so many numbers of the table are changed, and so many octets of rows come in.
+const MOST_CHANGES: u8 = 16;
+const MOST_ROW_OCTETS: u16 = 1_560;
+
+/// The octets of an input, one after the other.
+struct Input<'a>(&'a [u8]);
+
+impl Input<'_> {
+    fn octet(&mut self) -> u8 {
+        let Some((first, rest)) = self.0.split_first() else {
+            return 0;
+        };
+        self.0 = rest;
+        *first
+    }
+
+    fn number16(&mut self) -> u16 {
+        u16::from_be_bytes([self.octet(), self.octet()])
+    }
+
+    fn number32(&mut self) -> u32 {
+        u32::from_be_bytes([self.octet(), self.octet(), self.octet(), self.octet()])
+    }
+
+    fn octets(&mut self, count: usize) -> Vec<u8> {
+        (0..count).map(|_| self.octet()).collect()
+    }
+
+    /// A number from `least` to `most`.
+    fn within(&mut self, least: u16, most: u16) -> u16 {
+        least + self.number16() % (most - least + 1)
+    }
+}
+
+/// The call that an input stands for.
+pub fn call_of(input: &[u8]) -> HostCall {
+    let mut input = Input(input);
+    let kind = CallKind::ALL[usize::from(input.octet()) % CallKind::ALL.len()];
+    let options = input.octet();
+    let has = |option: u8| options & option != 0;
+    let lengths = input.octet();
+    let buffer_and_slot = input.octet();
+    let fill = input.octet();
+    let mut call = HostCall::bare(kind);
+    call.capability = input.octet();
+    call.as_number = input.number16();
+    call.address = input.number32();
+    call.net = input.number32();
+
+    let block = if has(option::BLOCK_MADE) {
+        record::state_block(&state(&mut input))
+    } else {
+        input.octets(STATE_BLOCK)
+    };
+    let state = host::read_block(&block).unwrap_or_default();
+    let neighbour = state.neighbours[usize::from(buffer_and_slot >> 4) % SLOTS];
+    let table = table(&mut input, has(option::TABLE_FILLED).then_some(&state));
+    let rows = rows(&mut input, has(option::ROWS_MADE).then_some(&state));
+    let octets = input.0.to_vec();
+
+    if takes(kind, Part::Block) {
+        call.lent.block = block;
+        resize(&mut call.lent.block, &BLOCK_LENGTHS, lengths & 15);
+    }
+    if takes(kind, Part::Table) {
+        call.lent.table = table;
+        resize(&mut call.lent.table, &TABLE_LENGTHS, lengths >> 4);
+    }
+    if takes(kind, Part::Buffer) {
+        let choices = buffer_lengths(kind);
+        let length = choices[usize::from(buffer_and_slot & 15) % choices.len()];
+        call.lent.buffer = vec![fill; length];
+    }
+    if takes(kind, Part::Rows) {
+        call.rows = rows;
+    }
+    if takes(kind, Part::Octets) {
+        call.octets = octets;
+    }
+    if has(option::ADDRESS_FITTED) {
+        call.address = neighbour.address;
+    }
+    if kind != CallKind::Write {
+        fit(
+            &mut call.octets,
+            has(option::MESSAGE_FITTED).then_some(&neighbour),
+            has(option::MESSAGE_SEALED),
+        );
+    }
+    call
+}
+
+/// Gives octets another length, if one is chosen; 0 keeps theirs.
+fn resize(octets: &mut Vec<u8>, lengths: &[usize], choice: u8) {
+    if let Some(length) = usize::from(choice)
+        .checked_sub(1)
+        .and_then(|choice| lengths.get(choice))
+    {
+        octets.resize(*length, 0);
+    }
+}
+
+/// The lengths a buffer may have, the least that is good first.
+fn buffer_lengths(kind: CallKind) -> [usize; 6] {
+    let least = host::least_buffer(kind);
+    [least, least - 1, least + 1, 0, 24, least + 1_000]
+}
+
+/// Fits a message to the neighbour it comes from, and makes its checksum right.
+fn fit(octets: &mut [u8], neighbour: Option<&Neighbour>, is_sealed: bool) {
+    if octets.len() < 10 {
+        return;
+    }
+    if let Some(neighbour) = neighbour {
+        octets[0] = 2;
+        octets[6..8].copy_from_slice(&neighbour.as_number.to_be_bytes());
+        octets[8..10].copy_from_slice(&neighbour.send_sequence.to_be_bytes());
+    }
+    if is_sealed {
+        checksum::seal(octets);
+    }
+}
+
+/// A net of the class that the octets choose.
+fn good_net(number: u32) -> u32 {
+    let number = if Class::of(number).is_none() {
+        number & 0x7FFF_FFFF
+    } else {
+        number
+    };
+    Class::of(number).map_or(0, |class| number & class.net_mask())
+}
+
+/// An address on a good net.
+fn address_on(net: u32, host: u32) -> u32 {
+    Class::of(net).map_or(0, |class| net | host & !class.net_mask())
+}
+
+/// A well-formed state.
+fn state(input: &mut Input) -> State {
+    let net = good_net(input.number32());
+    let mut state = State {
+        as_number: input.number16().max(1),
+        address: address_on(net, input.number32()),
+        capability: input.octet() % 3,
+        net,
+        ..State::default()
+    };
+    for slot in 0..SLOTS {
+        // Less than half of the numbers leave a slot free.
+        let phase = usize::from(input.octet() % 9);
+        let Some(phase) = NeighbourState::ALL.get(phase) else {
+            continue;
+        };
+        let mut address = address_on(net, input.number32());
+        let mut as_number = input.number16();
+        while address == 0 || address == state.address || state.find(address).is_some() {
+            address = address.wrapping_add(1);
+        }
+        while as_number == 0 || as_number == state.as_number {
+            as_number = as_number.wrapping_add(1);
+        }
+        state.neighbours[slot] = neighbour(input, address, as_number, *phase);
+    }
+    state
+}
+
+/// A well-formed neighbour in this state.
+fn neighbour(input: &mut Input, address: u32, as_number: u16, state: NeighbourState) -> Neighbour {
+    let mut n = Neighbour::idle(address, as_number);
+    n.state = state;
+    if state == NeighbourState::Idle {
+        return n;
+    }
+    n.send_sequence = input.number16();
+    n.receive_sequence = input.number16();
+    n.t1 = input.within(1, 122);
+    n.t3 = input.within(1, 3_600);
+    if state.is_acquired() {
+        n.hello_interval = input.within(32, 122);
+        n.poll_interval = input.within(122, 482);
+        let reach = input.octet();
+        n.register = reach & 15;
+        n.heard = reach >> 4 & 1;
+        n.mode = if reach >> 5 & 1 == 0 {
+            Mode::Active
+        } else {
+            Mode::Passive
+        };
+    }
+    if state == NeighbourState::Up {
+        n.t2 = input.within(1, 482);
+        n.row_count = input.within(0, MOST_ROWS as u16);
+    }
+    if state == NeighbourState::Cease {
+        n.cause = 5 + input.octet() % 2;
+    }
+    n
+}
+
+/// A table of zeros, or with rows where this state has them, and a few numbers changed.
+fn table(input: &mut Input, filled_for: Option<&State>) -> Vec<u8> {
+    let mut numbers = vec![0; TABLE_NUMBERS];
+    for (slot, neighbour) in filled_for
+        .iter()
+        .flat_map(|state| state.neighbours.iter().enumerate())
+    {
+        let count = usize::from(neighbour.row_count).min(MOST_ROWS);
+        for (index, row) in numbers[3 * MOST_ROWS * slot..]
+            .chunks_mut(3)
+            .take(count)
+            .enumerate()
+        {
+            row.copy_from_slice(&[(index as u32) << 24, neighbour.address, index as u32 * 4]);
+        }
+    }
+    for _ in 0..input.octet() % (MOST_CHANGES + 1) {
+        let place = usize::from(input.number16()) % TABLE_NUMBERS;
+        numbers[place] = input.number32();
+    }
+    host::octets_of(&numbers)
+}
+
+/// The octets of rows as they are, or good ones for this state, our own address first.
+fn rows(input: &mut Input, made_for: Option<&State>) -> Vec<u8> {
+    let Some(state) = made_for else {
+        let count = input.number16() % (MOST_ROW_OCTETS + 1);
+        return input.octets(usize::from(count));
+    };
+    let count = usize::from(input.octet()) % (MOST_ROWS + 2);
+    let rows: Vec<Row> = (0..count)
+        .map(|index| {
+            let host = input.number32();
+            Row {
+                net: good_net(input.number32()),
+                gateway: match index {
+                    0 => state.address,
+                    // Runs of equal gateways come up.
+                    _ => address_on(state.net, host & 3),
+                },
+                distance: u32::from(input.octet()),
+            }
+        })
+        .collect();
+    row_octets(&rows)
+}
+
+/// An input that stands for this call, with its block and all octets as they are; none if its
+/// table, its rows or its lengths are such that no input of this sort has them.
+pub fn input_of(call: &HostCall) -> Option<Vec<u8>> {
+    let HostCall { kind, lent, .. } = call;
+    let number = CallKind::ALL.iter().position(|other| other == kind)? as u8;
+    let block = choice(
+        &lent.block,
+        takes(*kind, Part::Block),
+        STATE_BLOCK,
+        &BLOCK_LENGTHS,
+    )?;
+    let table = choice(
+        &lent.table,
+        takes(*kind, Part::Table),
+        TABLE,
+        &TABLE_LENGTHS,
+    )?;
+    let buffer = match takes(*kind, Part::Buffer) {
+        true => buffer_lengths(*kind)
+            .iter()
+            .position(|length| *length == lent.buffer.len())?,
+        false => 0,
+    };
+    let mut input = vec![
+        number,
+        0,
+        table << 4 | block,
+        buffer as u8,
+        lent.buffer.first().copied().unwrap_or(0),
+        call.capability,
+    ];
+    input.extend(call.as_number.to_be_bytes());
+    input.extend(call.address.to_be_bytes());
+    input.extend(call.net.to_be_bytes());
+    let mut block = lent.block.clone();
+    block.resize(STATE_BLOCK, 0);
+    input.extend(block);
+    let changes: Vec<(usize, u32)> = host::numbers_of(&lent.table)
+        .into_iter()
+        .enumerate()
+        .filter(|(_, number)| *number != 0)
+        .take(usize::from(MOST_CHANGES))
+        .collect();
+    input.push(changes.len() as u8);
+    for (place, number) in changes {
+        input.extend((place as u16).to_be_bytes());
+        input.extend(number.to_be_bytes());
+    }
+    input.extend((call.rows.len() as u16).to_be_bytes());
+    input.extend(&call.rows);
+    input.extend(&call.octets);
+    (call_of(&input) == *call).then_some(input)
+}
+
+/// The number that chooses the length of a part; none if it has another.
+fn choice(octets: &[u8], is_used: bool, right: usize, others: &[usize]) -> Option<u8> {
+    if !is_used || octets.len() == right {
+        return Some(0);
+    }
+    let place = others.iter().position(|length| *length == octets.len())?;
+    Some(place as u8 + 1)
+}
+
+/// Inputs for a fuzzer to start from, by name: calls of a list that are carried out, one of each
+/// kind and of each kind of message, as short as they come.
+pub fn seeds(seed: u64, calls: usize) -> BTreeMap<String, Vec<u8>> {
+    let mut seeds: BTreeMap<String, Vec<u8>> = BTreeMap::new();
+    for case in Hosts::new(seed)
+        .take(calls)
+        .filter(|case| case.answer() == 0)
+    {
+        let name = match (case.call.kind, case.call.octets.as_slice()) {
+            (CallKind::Message, [_, message_type, code, ..]) => {
+                format!("message-{message_type}-{code}")
+            }
+            (kind, _) => format!("{kind:?}").to_lowercase(),
+        };
+        let Some(input) = input_of(&case.call) else {
+            continue;
+        };
+        match seeds.get(&name) {
+            Some(shorter) if shorter.len() <= input.len() => {}
+            _ => {
+                seeds.insert(name, input);
+            }
+        }
+    }
+    seeds
+}

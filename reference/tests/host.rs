@@ -1,0 +1,333 @@
+//! The layer for a host in C: each answer by the octets and lengths handed over, and every octet
+//! that is left.
+
+mod common;
+
+use common::*;
+use reference::call::CallKind::{self, *};
+use reference::host::{self, HostCall, Lent, TABLE};
+use reference::record;
+use reference::update::Row;
+
+/// A call on N in this state, with all that its kind takes.
+fn call(kind: CallKind, neighbour: reference::neighbour::Neighbour) -> HostCall {
+    let gateway = Gateway::with(neighbour);
+    let mut call = HostCall::bare(kind);
+    let least = host::least_buffer(kind);
+    call.address = N;
+    if host::takes(kind, host::Part::Block) {
+        call.lent.block = record::state_block(gateway.state());
+    }
+    if host::takes(kind, host::Part::Table) {
+        call.lent.table = host::octets_of(&gateway.bench.table);
+    }
+    if host::takes(kind, host::Part::Buffer) {
+        call.lent.buffer = vec![FILL; least];
+    }
+    call
+}
+
+fn up() -> reference::neighbour::Neighbour {
+    in_state(Up, reference::neighbour::Mode::Active)
+}
+
+fn answer(call: &HostCall) -> u8 {
+    host::answer(call.make().0)
+}
+
+/// A refusal with this number: no length, no octet changed.
+fn assert_refused(call: &HostCall, number: u8) {
+    assert_eq!(call.make(), (u64::from(number), call.lent.clone()));
+}
+
+fn fresh_over(block: Vec<u8>) -> HostCall {
+    let mut fresh = HostCall::bare(Fresh);
+    fresh.as_number = OWN_AS;
+    fresh.address = OWN;
+    fresh.capability = 1;
+    fresh.net = NET;
+    fresh.lent.block = block;
+    fresh
+}
+
+const WITH_BLOCK: [CallKind; 8] = [Fresh, Add, Remove, Start, Stop, Tick, Message, Listing];
+const WITH_TABLE: [CallKind; 5] = [Start, Stop, Tick, Message, Listing];
+
+#[test]
+fn fresh_writes_the_whole_block() {
+    let (result, after) = fresh_over(vec![0xEE; 227]).make();
+    assert_eq!(result, 0);
+    assert_eq!(after.block[..11], hex("00 09 80 09 00 01 01 80 09 00 00"));
+    assert!(after.block[11..].iter().all(|octet| *octet == 0));
+}
+
+#[test]
+fn a_refused_fresh_touches_no_octet() {
+    let good = fresh_over(vec![0xEE; 227]);
+    let spoils: [fn(&mut HostCall); 5] = [
+        |call| call.as_number = 0,
+        |call| call.capability = 3,
+        |call| call.net |= 1,
+        |call| (call.net, call.address) = (0xE000_0000, 0xE000_0001),
+        |call| call.address = 1,
+    ];
+    for spoil in spoils {
+        let mut bad = good.clone();
+        spoil(&mut bad);
+        assert_refused(&bad, 16);
+        bad.lent.block.pop();
+        assert_refused(&bad, 20);
+    }
+}
+
+#[test]
+fn twenty_comes_first() {
+    for kind in WITH_BLOCK {
+        for length in [0, 1, 226, 228, 404, 65_536 + 227] {
+            let mut call = call(kind, up());
+            call.lent.block.resize(length, 0);
+            call.lent.table.clear();
+            call.lent.buffer.clear();
+            call.rows = vec![1];
+            assert_refused(&call, 20);
+        }
+    }
+}
+
+#[test]
+fn numbers_of_no_state_and_no_mode_give_1() {
+    for kind in WITH_BLOCK.into_iter().filter(|kind| *kind != Fresh) {
+        for slot in 0..8 {
+            for (at, code) in [(22, 5), (22, 255), (23, 3), (23, 255)] {
+                let mut call = call(kind, up());
+                call.lent.block[11 + 27 * slot + at] = code;
+                call.lent.table.clear();
+                assert_refused(&call, 1);
+            }
+        }
+    }
+}
+
+#[test]
+fn a_table_of_another_length_gives_2() {
+    for kind in WITH_TABLE {
+        for length in [0, 3_072, 12_284, 12_287, 12_289, 12_292, 65_536 + TABLE] {
+            let mut call = call(kind, up());
+            call.lent.table.resize(length, 0);
+            call.lent.buffer.clear();
+            assert_refused(&call, 2);
+        }
+    }
+}
+
+#[test]
+fn a_short_buffer_gives_3() {
+    for (kind, least) in [
+        (Start, 2_048),
+        (Stop, 2_048),
+        (Tick, 2_048),
+        (Message, 2_048),
+        (Listing, 65_536),
+        (Read, 1_560),
+        (Write, 2_048),
+    ] {
+        let mut call = call(kind, up());
+        call.lent.buffer.truncate(least - 1);
+        call.rows = vec![1];
+        assert_refused(&call, 3);
+        call.lent.buffer.push(FILL);
+        assert_ne!(answer(&call), 3);
+    }
+}
+
+#[test]
+fn a_home_list_has_twelve_octets_a_row() {
+    let row = Row {
+        net: NET,
+        gateway: OWN,
+        distance: 1,
+    };
+    for (count, cut, number) in [
+        (0, 0, 0),
+        (1, 0, 0),
+        (1, 1, 4),
+        (1, 11, 4),
+        (2, 11, 4),
+        (2, 8, 4),
+        (128, 0, 0),
+        (128, 1, 4),
+        (129, 11, 4),
+        (129, 0, 4),
+    ] {
+        let mut call = call(Message, up());
+        call.octets = peer(HELLO, 1, 9, &[]);
+        call.rows = host::row_octets(&vec![row; count]);
+        call.rows.truncate(12 * count - cut);
+        assert_eq!(answer(&call), number, "{count} rows less {cut} octets");
+        if number == 4 {
+            call.address = 77;
+            assert_refused(&call, 4);
+        }
+    }
+}
+
+#[test]
+fn the_lengths_stand_above_the_answer() {
+    // In Down with three of four heard the next turn of t1 sends Hello and then Poll.
+    let mut neighbour = in_state(Down, reference::neighbour::Mode::Active);
+    neighbour.register = 0b0110;
+    neighbour.heard = 1;
+    neighbour.t1 = 1;
+    let (result, after) = call(Tick, neighbour).make();
+    assert_eq!(result, 16 << 32 | 10 << 16);
+    assert_eq!(after.buffer[..10], our_hello(1, 4));
+    assert_eq!(after.buffer[10..26], our_poll(5));
+    assert!(after.buffer[26..].iter().all(|octet| *octet == FILL));
+    assert_eq!(after.block[11 + 22], 3);
+}
+
+#[test]
+fn a_refused_message_may_name_a_reply() {
+    let mut call = call(Message, up());
+    call.octets = peer((9, 9), 0, 1, &[]);
+    let (result, after) = call.make();
+    assert_eq!(result, 24 << 16 | 10);
+    assert_eq!(after.buffer[..24], our_error(1, 5, 1, &call.octets));
+    assert_eq!(after.block, call.lent.block);
+    assert_eq!(after.table, call.lent.table);
+}
+
+#[test]
+fn rows_are_written_in_the_slot_alone() {
+    let mut call = call(Message, up());
+    call.lent.table.fill(7);
+    let rest = hex("01 00 80 09 00 00 00 05 01 00 02 0A C0 05 06");
+    call.octets = peer(UPDATE, 1, 4, &rest);
+    let (result, after) = call.make();
+    assert_eq!(result, 0);
+    let rows = hex("0A 00 00 00 80 09 00 05 00 00 00 00 C0 05 06 00 80 09 00 05 00 00 00 00");
+    assert_eq!(after.table[..24], rows);
+    assert!(after.table[24..1_536].iter().all(|octet| *octet == 0));
+    assert!(after.table[1_536..].iter().all(|octet| *octet == 7));
+    assert_eq!(after.block[11 + 20..11 + 22], [0, 2]);
+}
+
+#[test]
+fn every_octet_of_a_block_is_read_and_written() {
+    let state = {
+        let mut gateway = Gateway::with(up());
+        for slot in 2..8 {
+            let mut neighbour = up();
+            neighbour.address += 100 + slot as u32;
+            gateway.bench.state.neighbours[slot] = neighbour;
+        }
+        gateway.bench.state
+    };
+    let block = record::state_block(&state);
+    assert_eq!(host::read_block(&block), Ok(state));
+    for at in 0..block.len() {
+        let mut other = block.clone();
+        other[at] ^= 1;
+        let read = host::read_block(&other);
+        assert_ne!(read, Ok(state), "octet {at}");
+        if let Ok(read) = read {
+            assert_eq!(record::state_block(&read), other, "octet {at}");
+        }
+    }
+}
+
+#[test]
+fn reading_gives_meaning_and_rows() {
+    let mut call = call(Read, up());
+    call.net = NET;
+    call.octets = hex(CASE_U);
+    let (result, after) = call.make();
+    assert_eq!(result, 24 << 32 | 24 << 16);
+    assert_eq!(
+        after.buffer[..24],
+        hex("08 01 00 07 00 01 00 00 00 00 00 00 80 09 00 00 00 00 00 00 00 00 00 00")
+    );
+    let rows = hex("0A 00 00 00 80 09 00 05 00 00 00 00 C0 05 06 00 80 09 00 05 00 00 00 00");
+    assert_eq!(after.buffer[24..48], rows);
+    assert!(after.buffer[48..].iter().all(|octet| *octet == FILL));
+    call.octets.pop();
+    assert_refused(&call, 8);
+}
+
+/// Writing what reading gave.
+fn writing_of(octets: &[u8]) -> HostCall {
+    let mut reading = call(Read, up());
+    reading.net = NET;
+    reading.octets = octets.to_vec();
+    let (result, Lent { buffer, .. }) = reading.make();
+    assert_eq!(host::answer(result), 0);
+    let mut writing = call(Write, up());
+    writing.octets = buffer[..24].to_vec();
+    writing.rows = buffer[24..][..(result >> 32) as usize].to_vec();
+    writing
+}
+
+#[test]
+fn what_is_read_is_written_again() {
+    let mut error = hex("00 02");
+    error.extend(1..=12);
+    for octets in [
+        request(0, 1, 30, 120),
+        confirm(2, 2, 31, 121),
+        peer(REFUSE, 3, 3, &[]),
+        peer(CEASE, 4, 4, &[]),
+        peer(CEASE_ACK, 0, 5, &[]),
+        peer(HELLO, 1, 6, &[]),
+        peer(I_H_U, 2, 7, &[]),
+        poll(0, 8, 0x0102_0304),
+        hex(CASE_U),
+        peer(ERROR, 130, 10, &error),
+    ] {
+        let writing = writing_of(&octets);
+        let (result, after) = writing.make();
+        assert_eq!(result, (octets.len() as u64) << 16);
+        assert_eq!(after.buffer[..octets.len()], octets);
+        assert!(after.buffer[octets.len()..].iter().all(|o| *o == FILL));
+        writing_refusals(&writing);
+    }
+}
+
+/// A good writing, broken in each way that is not about the message itself.
+fn writing_refusals(good: &HostCall) {
+    let kind = good.octets[0];
+    for length in [0, 1, 23, 25, 48] {
+        let mut bad = good.clone();
+        bad.octets.resize(length, 0);
+        assert_refused(&bad, 16);
+    }
+    for number in [10, 11, 255] {
+        let mut bad = good.clone();
+        bad.octets[0] = number;
+        assert_refused(&bad, 16);
+    }
+    for at in reference::generate::hosts::unused_octets(kind) {
+        let mut bad = good.clone();
+        bad.octets[at] = 1;
+        assert_refused(&bad, 16);
+    }
+    for extra in [1, 11, 13] {
+        let mut bad = good.clone();
+        bad.rows.extend(vec![0; extra]);
+        assert_refused(&bad, 16);
+    }
+    if kind != 8 {
+        let mut bad = good.clone();
+        bad.rows = hex("80 09 00 00 80 09 00 01 00 00 00 00");
+        assert_refused(&bad, 16);
+    }
+}
+
+#[test]
+fn the_writer_takes_128_rows() {
+    let mut writing = writing_of(&hex(CASE_U));
+    let row = writing.rows[..12].to_vec();
+    writing.rows = row.repeat(128);
+    assert_eq!(answer(&writing), 0);
+    writing.rows = row.repeat(129);
+    assert_refused(&writing, 16);
+}

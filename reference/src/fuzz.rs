@@ -11,16 +11,18 @@ use crate::checksum;
 use crate::gateway::{State, SLOTS, TABLE_NUMBERS};
 use crate::generate::hosts::{Hosts, BLOCK_LENGTHS, TABLE_LENGTHS};
 use crate::host::{self, row_octets, takes, HostCall, Part, TABLE};
+use crate::message::{Kind, SHORTEST, VERSION};
 use crate::neighbour::{Mode, Neighbour, NeighbourState};
 use crate::net::Class;
-use crate::record::{self, STATE_BLOCK};
+use crate::record::{self, MEANING, STATE_BLOCK};
 use crate::update::{Row, MOST_ROWS};
 
 /// What an input asks for, a bit each.
 mod option {
     /// The block is made from the octets, well formed, instead of being these.
     pub const BLOCK_MADE: u8 = 1;
-    /// The message gets version 2, the neighbour's AS, and our S as its sequence number.
+    /// The message is of some kind, of its length if it is longer, from the neighbour, in sequence
+    /// and about the common net; a meaning has its length and a known kind.
     pub const MESSAGE_FITTED: u8 = 2;
     /// The message gets its right checksum.
     pub const MESSAGE_SEALED: u8 = 4;
@@ -30,6 +32,8 @@ mod option {
     pub const TABLE_FILLED: u8 = 16;
     /// The address is a neighbour's.
     pub const ADDRESS_FITTED: u8 = 32;
+    /// The common net that is given as a number is made good.
+    pub const NET_FITTED: u8 = 64;
 }
 
 /// At most so many numbers of the table are changed, and so many octets of rows come in.
@@ -80,24 +84,22 @@ pub fn call_of(input: &[u8]) -> HostCall {
     call.as_number = input.number16();
     call.address = input.number32();
     call.net = input.number32();
+    if has(option::NET_FITTED) {
+        call.net = good_net(call.net);
+    }
 
-    let block = if has(option::BLOCK_MADE) {
-        record::state_block(&state(&mut input))
-    } else {
-        input.octets(STATE_BLOCK)
-    };
-    let state = host::read_block(&block).unwrap_or_default();
-    let neighbour = state.neighbours[usize::from(buffer_and_slot >> 4) % SLOTS];
-    let table = table(&mut input, has(option::TABLE_FILLED).then_some(&state));
-    let rows = rows(&mut input, has(option::ROWS_MADE).then_some(&state));
-    let octets = input.0.to_vec();
-
+    let mut state = State::default();
     if takes(kind, Part::Block) {
-        call.lent.block = block;
+        call.lent.block = if has(option::BLOCK_MADE) {
+            record::state_block(&made_state(&mut input))
+        } else {
+            input.octets(STATE_BLOCK)
+        };
+        state = host::read_block(&call.lent.block).unwrap_or_default();
         resize(&mut call.lent.block, &BLOCK_LENGTHS, lengths & 15);
     }
     if takes(kind, Part::Table) {
-        call.lent.table = table;
+        call.lent.table = table(&mut input, has(option::TABLE_FILLED).then_some(&state));
         resize(&mut call.lent.table, &TABLE_LENGTHS, lengths >> 4);
     }
     if takes(kind, Part::Buffer) {
@@ -105,21 +107,35 @@ pub fn call_of(input: &[u8]) -> HostCall {
         let length = choices[usize::from(buffer_and_slot & 15) % choices.len()];
         call.lent.buffer = vec![fill; length];
     }
-    if takes(kind, Part::Rows) {
-        call.rows = rows;
-    }
-    if takes(kind, Part::Octets) {
-        call.octets = octets;
-    }
+    let neighbour = state.neighbours[usize::from(buffer_and_slot >> 4) % SLOTS];
     if has(option::ADDRESS_FITTED) {
         call.address = neighbour.address;
     }
-    if kind != CallKind::Write {
-        fit(
-            &mut call.octets,
-            has(option::MESSAGE_FITTED).then_some(&neighbour),
-            has(option::MESSAGE_SEALED),
+    if !takes(kind, Part::Block) {
+        state.address = address_on(call.net, call.address);
+        state.net = call.net;
+    }
+    if takes(kind, Part::Rows) {
+        let has_externals = kind == CallKind::Write;
+        call.rows = rows(
+            &mut input,
+            has(option::ROWS_MADE).then_some(&state),
+            has_externals,
         );
+    }
+    if takes(kind, Part::Octets) {
+        call.octets = input.0.to_vec();
+        let fit = match kind {
+            CallKind::Write => fit_meaning,
+            _ => fit_message,
+        };
+        if has(option::MESSAGE_FITTED) {
+            fit(&mut call.octets, &neighbour, state.net);
+        }
+        let is_sealed = has(option::MESSAGE_SEALED) && kind != CallKind::Write;
+        if is_sealed && call.octets.len() >= SHORTEST {
+            checksum::seal(&mut call.octets);
+        }
     }
     call
 }
@@ -140,18 +156,32 @@ fn buffer_lengths(kind: CallKind) -> [usize; 6] {
     [least, least - 1, least + 1, 0, 24, least + 1_000]
 }
 
-/// Fits a message to the neighbour it comes from, and makes its checksum right.
-fn fit(octets: &mut [u8], neighbour: Option<&Neighbour>, is_sealed: bool) {
-    if octets.len() < 10 {
+/// Fits a message to the neighbour it comes from: of the kind that its second octet chooses, no
+/// longer than this is, in sequence, and about this net.
+fn fit_message(octets: &mut Vec<u8>, neighbour: &Neighbour, net: u32) {
+    if octets.len() < SHORTEST {
         return;
     }
-    if let Some(neighbour) = neighbour {
-        octets[0] = 2;
-        octets[6..8].copy_from_slice(&neighbour.as_number.to_be_bytes());
-        octets[8..10].copy_from_slice(&neighbour.send_sequence.to_be_bytes());
+    let kind = Kind::ALL[usize::from(octets[1]) % Kind::ALL.len()];
+    let length = (SHORTEST..=octets.len()).find(|length| kind.allows_length(*length));
+    if let Some(length) = length.filter(|_| kind != Kind::Update) {
+        octets.truncate(length);
     }
-    if is_sealed {
-        checksum::seal(octets);
+    octets[0] = VERSION;
+    (octets[1], octets[2]) = kind.type_and_code();
+    octets[6..8].copy_from_slice(&neighbour.as_number.to_be_bytes());
+    octets[8..10].copy_from_slice(&neighbour.send_sequence.to_be_bytes());
+    if matches!(kind, Kind::Poll | Kind::Update) && octets.len() >= 16 {
+        octets[12..16].copy_from_slice(&net.to_be_bytes());
+    }
+}
+
+/// Fits a meaning: 24 octets of a known kind, and of an Update about this net.
+fn fit_meaning(octets: &mut Vec<u8>, _: &Neighbour, net: u32) {
+    octets.resize(MEANING, 0);
+    octets[0] %= Kind::ALL.len() as u8;
+    if octets[0] == record::kind_number(Kind::Update) {
+        octets[12..16].copy_from_slice(&net.to_be_bytes());
     }
 }
 
@@ -171,7 +201,7 @@ fn address_on(net: u32, host: u32) -> u32 {
 }
 
 /// A well-formed state.
-fn state(input: &mut Input) -> State {
+fn made_state(input: &mut Input) -> State {
     let net = good_net(input.number32());
     let mut state = State {
         as_number: input.number16().max(1),
@@ -255,8 +285,9 @@ fn table(input: &mut Input, filled_for: Option<&State>) -> Vec<u8> {
     host::octets_of(&numbers)
 }
 
-/// The octets of rows as they are, or good ones for this state, our own address first.
-fn rows(input: &mut Input, made_for: Option<&State>) -> Vec<u8> {
+/// The octets of rows as they are, or good ones for this state, our own address first; external
+/// ones may stand where they please.
+fn rows(input: &mut Input, made_for: Option<&State>, has_externals: bool) -> Vec<u8> {
     let Some(state) = made_for else {
         let count = input.number16() % (MOST_ROW_OCTETS + 1);
         return input.octets(usize::from(count));
@@ -272,7 +303,10 @@ fn rows(input: &mut Input, made_for: Option<&State>) -> Vec<u8> {
                     // Runs of equal gateways come up.
                     _ => address_on(state.net, host & 3),
                 },
-                distance: u32::from(input.octet()),
+                distance: match has_externals {
+                    true => host >> 31 << 8 | u32::from(input.octet()),
+                    false => u32::from(input.octet()),
+                },
             }
         })
         .collect();
@@ -313,22 +347,28 @@ pub fn input_of(call: &HostCall) -> Option<Vec<u8>> {
     input.extend(call.as_number.to_be_bytes());
     input.extend(call.address.to_be_bytes());
     input.extend(call.net.to_be_bytes());
-    let mut block = lent.block.clone();
-    block.resize(STATE_BLOCK, 0);
-    input.extend(block);
-    let changes: Vec<(usize, u32)> = host::numbers_of(&lent.table)
-        .into_iter()
-        .enumerate()
-        .filter(|(_, number)| *number != 0)
-        .take(usize::from(MOST_CHANGES))
-        .collect();
-    input.push(changes.len() as u8);
-    for (place, number) in changes {
-        input.extend((place as u16).to_be_bytes());
-        input.extend(number.to_be_bytes());
+    if takes(*kind, Part::Block) {
+        let mut block = lent.block.clone();
+        block.resize(STATE_BLOCK, 0);
+        input.extend(block);
     }
-    input.extend((call.rows.len() as u16).to_be_bytes());
-    input.extend(&call.rows);
+    if takes(*kind, Part::Table) {
+        let changes: Vec<(usize, u32)> = host::numbers_of(&lent.table)
+            .into_iter()
+            .enumerate()
+            .filter(|(_, number)| *number != 0)
+            .take(usize::from(MOST_CHANGES))
+            .collect();
+        input.push(changes.len() as u8);
+        for (place, number) in changes {
+            input.extend((place as u16).to_be_bytes());
+            input.extend(number.to_be_bytes());
+        }
+    }
+    if takes(*kind, Part::Rows) {
+        input.extend((call.rows.len() as u16).to_be_bytes());
+        input.extend(&call.rows);
+    }
     input.extend(&call.octets);
     (call_of(&input) == *call).then_some(input)
 }
@@ -342,27 +382,27 @@ fn choice(octets: &[u8], is_used: bool, right: usize, others: &[usize]) -> Optio
     Some(place as u8 + 1)
 }
 
-/// Inputs for a fuzzer to start from, by name: calls of a list that are carried out, one of each
-/// kind and of each kind of message, as short as they come.
+/// Inputs for a fuzzer to start from, by name: of a list's calls, one for each answer of each kind
+/// of call, and for each kind of message that is carried out, as short as they come.
 pub fn seeds(seed: u64, calls: usize) -> BTreeMap<String, Vec<u8>> {
     let mut seeds: BTreeMap<String, Vec<u8>> = BTreeMap::new();
-    for case in Hosts::new(seed)
-        .take(calls)
-        .filter(|case| case.answer() == 0)
-    {
-        let name = match (case.call.kind, case.call.octets.as_slice()) {
-            (CallKind::Message, [_, message_type, code, ..]) => {
-                format!("message-{message_type}-{code}")
-            }
-            (kind, _) => format!("{kind:?}").to_lowercase(),
-        };
+    for case in Hosts::new(seed).take(calls) {
         let Some(input) = input_of(&case.call) else {
             continue;
         };
-        match seeds.get(&name) {
-            Some(shorter) if shorter.len() <= input.len() => {}
-            _ => {
-                seeds.insert(name, input);
+        let kind = format!("{:?}", case.call.kind).to_lowercase();
+        let mut names = vec![format!("{kind}-{}", case.answer())];
+        if let (CallKind::Message, 0, [_, message_type, code, ..]) =
+            (case.call.kind, case.answer(), case.call.octets.as_slice())
+        {
+            names.push(format!("{kind}-of-{message_type}-{code}"));
+        }
+        for name in names {
+            match seeds.get(&name) {
+                Some(shorter) if shorter.len() <= input.len() => {}
+                _ => {
+                    seeds.insert(name, input.clone());
+                }
             }
         }
     }

@@ -18,4 +18,6 @@ host-sheet =
       packed = refl;
       results = refl;
       effects = refl;
+      readings = refl;
+      writings = refl;
     }

@@ -5,4 +5,6 @@ pub mod Line
 pub mod Numbers
 pub mod Results
 pub mod Effects
+pub mod Readings
+pub mod Writings
 pub mod Sheet

@@ -1,6 +1,6 @@
--- The C layer's sheet: 02's state block, numbers, results and effects as literal cases, and the claim about them. The
--- lines are written from 01 and 02 alone, and the checksums in them were worked out apart from our definitions: so a
--- rule that is wrong in definition and code together shows here.
+-- The C layer's sheet: 02's state block, numbers, results and effects, reading alone and writing as literal cases, and
+-- the claim about them. The lines are written from 01 and 02 alone, and the checksums in them were worked out apart
+-- from our definitions: so a rule that is wrong in definition and code together shows here.
 use mathlib.Core.Path.{_≡_}
 use mathlib.Core.List.{map}
 use Rattle.host_state_block.specs.Block.{blockOf, stateIn}
@@ -11,6 +11,10 @@ use Rattle.host_sheet.specs.Line.{computed, written}
 use Rattle.host_sheet.specs.Numbers.{lengths, forms, tables, others}
 use Rattle.host_sheet.specs.Results.{packedComputed, packedWritten, results}
 use Rattle.host_sheet.specs.Effects.{effects}
+use Rattle.host_sheet.specs.Readings.{readings}
+use Rattle.host_sheet.specs.Readings as Readings
+use Rattle.host_sheet.specs.Writings.{writings}
+use Rattle.host_sheet.specs.Writings as Writings
 
 pub record HostSheet : Type 0 where
   -- the block of a state, and the state in a block
@@ -32,3 +36,6 @@ pub record HostSheet : Type 0 where
   pub results : map computed results ≡ map written results
   -- what is left in block and table
   pub effects : map computed effects ≡ map written effects
+  -- reading alone, and writing
+  pub readings : map Readings.computed readings ≡ map Readings.written readings
+  pub writings : map Writings.computed writings ≡ map Writings.written writings

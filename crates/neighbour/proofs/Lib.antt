@@ -2,3 +2,4 @@ pub mod Laws
 pub mod Table
 pub mod Counting
 pub mod Sheet
+pub mod Counts

@@ -1,6 +1,7 @@
 -- One neighbour's record, and the few ways in which a new one is made of an old one.
 use Prim.Native.Nat.{ℕ, _+_, _*_, _%_}
-use mathlib.Core.Bool.{Bool, true, false}
+use mathlib.Core.Bool.{Bool, true, false, cond}
+use lib.Dec.{ltb}
 use Rattle.neighbour.specs.declared.Phase.{Phase}
 use Rattle.neighbour.specs.declared.Phase.the-variants.{Idle, Acquisition, Down, Up, Cease}
 use Rattle.neighbour.specs.declared.Mode.{Mode}
@@ -22,6 +23,10 @@ P4 = 3600
 
 abbrev pub P5 : ℕ
 P5 = 120
+
+-- 02, L5: "two counts of ticks since each, holding at 120"
+abbrev pub holdsAt : ℕ
+holdsAt = 120
 
 -- of five cells, the one that stands under a phase: 01's columns Idle, Acquisition, Down, Up, Cease
 unfoldable pub under : {A : Type 0} → Phase → A → A → A → A → A → A
@@ -83,10 +88,12 @@ withNumbers n s r =
       register = n .register;
       heard = n .heard;
       cause = n .cause;
+      sincehello = n .sincehello;
+      sincepoll = n .sincepoll;
     }
 
 -- the same record but for its state and what goes with a state: M, T1, T2, t1, t2, t3, register, heard and cause. S
--- and R stay.
+-- and R stay, and the ticks counted.
 abbrev pub withState : Neighbour → Phase → Mode → ℕ → ℕ → ℕ → ℕ → ℕ → ℕ → ℕ → ℕ → Neighbour
 withState n phase mode period1 period2 t1 t2 t3 register heard cause =
     record {
@@ -102,6 +109,8 @@ withState n phase mode period1 period2 t1 t2 t3 register heard cause =
       register = register;
       heard = heard;
       cause = cause;
+      sincehello = n .sincehello;
+      sincepoll = n .sincepoll;
     }
 
 -- the same record with other timers t1, t2, t3
@@ -111,6 +120,26 @@ withTimers n t1 t2 t3 = withState n (n .phase) (n .mode) (n .period1) (n .period
 -- the same record with another state, register and heard bit
 unfoldable pub withReach : Neighbour → Phase → ℕ → ℕ → Neighbour
 withReach n phase register heard = withState n phase (n .mode) (n .period1) (n .period2) (n .t1) (n .t2) (n .t3) register heard (n .cause)
+
+-- the same record with other counts of ticks, since the last Hello and since the last Poll
+abbrev pub withCounts : Neighbour → ℕ → ℕ → Neighbour
+withCounts n hello poll =
+    record {
+      s = n .s;
+      r = n .r;
+      period1 = n .period1;
+      period2 = n .period2;
+      t1 = n .t1;
+      t2 = n .t2;
+      t3 = n .t3;
+      phase = n .phase;
+      mode = n .mode;
+      register = n .register;
+      heard = n .heard;
+      cause = n .cause;
+      sincehello = hello;
+      sincepoll = poll;
+    }
 
 -- 01: "Entering Idle zeroes all but address and AS."
 unfoldable pub idle : Neighbour
@@ -128,6 +157,8 @@ idle =
       register = 0;
       heard = 0;
       cause = 0;
+      sincehello = 0;
+      sincepoll = 0;
     }
 
 -- 01: "Leaving Idle sets S to 0, and R to 0 by Start or to the Request's number."
@@ -139,9 +170,11 @@ leftIdle r = withNumbers idle 0 r
 unfoldable pub waiting : Neighbour → Phase → ℕ → Neighbour
 waiting n phase cause = withState n phase Unset 0 0 P3 0 P5 0 0 cause
 
--- 01: "A and B: T1, T2, M set, register and heard 0, t1 = T1, t3 = P5"; "Leaving Up zeroes t2"
+-- 01: "A and B: T1, T2, M set, register and heard 0, t1 = T1, t3 = P5"; "Leaving Up zeroes t2"; 02, L5: the counts are
+-- "set to 120 whenever the neighbour initialises (A or B)"
 unfoldable pub initialised : Neighbour → ℕ → ℕ → Mode → Neighbour
-initialised n period1 period2 mode = withState n Down mode period1 period2 period1 0 P5 0 0 0
+initialised n period1 period2 mode =
+    withCounts (withState n Down mode period1 period2 period1 0 P5 0 0 0) holdsAt holdsAt
 
 -- 01: "It sets heard to 1 and t3 to P4."
 unfoldable pub heardFrom : Neighbour → Neighbour
@@ -162,3 +195,11 @@ leaveUp n = withReach (withTimers n (n .t1) 0 (n .t3)) Down (n .register) (n .he
 -- 01: "S goes up by one, 65,535 to 0, just before each Poll only." "Poll, t2 = T2"
 unfoldable pub polled : Neighbour → Neighbour
 polled n = withNumbers (withTimers n (n .t1) (n .period2) (n .t3)) ((n .s + 1) % 65536) (n .r)
+
+-- 02, L5: "adds one to each below 120"
+unfoldable pub oneMore : ℕ → ℕ
+oneMore count = cond (ltb count holdsAt) (count + 1) count
+
+-- 02, L5: "Every tick carried out outside Idle adds one to each below 120"
+unfoldable pub aged : Neighbour → Neighbour
+aged n = withCounts n (oneMore (n .sincehello)) (oneMore (n .sincepoll))

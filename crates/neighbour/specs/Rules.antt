@@ -13,7 +13,7 @@ use Rattle.neighbour.specs.declared.Mode.the-variants.{Unset, Active, Pa
 use Rattle.neighbour.specs.declared.Offer.{Offer}
 use Rattle.neighbour.specs.declared.Offer.the-variants.{Acceptable, Unacceptable}
 use Rattle.neighbour.specs.declared.Neighbour.{Neighbour}
-use Rattle.neighbour.specs.Record.{P1, P2, under, isIdle, acquired, withNumbers, heardFrom, enterUp, leaveUp}
+use Rattle.neighbour.specs.Record.{P1, P2, under, isIdle, acquired, withNumbers, withCounts, heardFrom, enterUp, leaveUp}
 
 -- a kind is told by its type and code
 abbrev pub same : Kind → Kind → Bool
@@ -49,6 +49,18 @@ indicates Passive kind status = (oneOf kind (K.Hello ∷ K.Poll ∷ []) && eqb s
 -- 01: "An indication is noted when the state before was Down or Up". No kind that indicates leaves that state.
 unfoldable pub noted : Neighbour → Message → Neighbour
 noted n m = cond (acquired (n .phase) && indicates (n .mode) (kindOf m) (statusOf m)) (heardFrom n) n
+
+-- 02, L5: "a Hello less than 30 ticks, or a Poll less than 120 ticks, after the last one carried out"; "in Down and Up only"
+unfoldable pub tooQuick : Neighbour → Message → Bool
+tooQuick n m =
+    acquired (n .phase)
+    && ((same (kindOf m) K.Hello && ltb (n .sincehello) P1) || (same (kindOf m) K.Poll && ltb (n .sincepoll) P2))
+
+-- 02, L5: "a carried-out Hello or Poll in Down or Up zeroes its own"
+unfoldable pub recounted : Neighbour → Message → Neighbour
+recounted n m =
+    cond (acquired (n .phase))
+    (withCounts n (cond (same (kindOf m) K.Hello) 0 (n .sincehello)) (cond (same (kindOf m) K.Poll) 0 (n .sincepoll))) n
 
 abbrev pub larger : ℕ → ℕ → ℕ
 larger a b = cond (leb a b) b a

@@ -1,7 +1,7 @@
 // One neighbour: its record, the settings, and the rules of 01's "One neighbour" that need no event.
 ghost use mathlib.Core.Path.{_≡_};
-ghost use Rattle.neighbour.specs.Record.{isIdle, acquired, withTimers, withReach, idle, leftIdle, waiting, initialised, shifted, polled};
-ghost use Rattle.neighbour.specs.Rules.{isCommand, mustCarryS, inSequence, commanded, indicates, noted, larger, unacceptable, modeOf, offerOf, onesOf, goesUp, goesDown, judged};
+ghost use Rattle.neighbour.specs.Record.{isIdle, acquired, withTimers, withReach, idle, leftIdle, waiting, initialised, shifted, polled, oneMore, aged};
+ghost use Rattle.neighbour.specs.Rules.{isCommand, mustCarryS, inSequence, commanded, indicates, noted, tooQuick, recounted, larger, unacceptable, modeOf, offerOf, onesOf, goesUp, goesDown, judged};
 use message::Kind;
 use message::Message;
 
@@ -15,6 +15,9 @@ pub const P3: u16 = 30;
 pub const P4: u16 = 3600;
 
 pub const P5: u16 = 120;
+
+// Where the counts of ticks since a Hello and since a Poll hold.
+pub const HOLDS_AT: u8 = 120;
 
 // RFC 904's states (01: state), in 01's order.
 pub enum Phase {
@@ -59,6 +62,9 @@ pub struct Neighbour {
     pub heard: u8,
     // The status of the Cease that we sent, for repeats.
     pub cause: u8,
+    // Ticks since the last Hello and since the last Poll carried out in this acquisition, held at 120.
+    pub sincehello: u8,
+    pub sincepoll: u8,
 }
 
 // What a Request or a Confirm offers: T1, T2 and M, or nothing that we take.
@@ -114,6 +120,8 @@ pub fn to_idle() -> Neighbour
         register: 0,
         heard: 0,
         cause: 0,
+        sincehello: 0,
+        sincepoll: 0,
     }
 }
 
@@ -160,6 +168,8 @@ pub fn initialise(n: Neighbour, period1: u16, period2: u16, mode: Mode) -> Neigh
         register: 0,
         heard: 0,
         cause: 0,
+        sincehello: HOLDS_AT,
+        sincepoll: HOLDS_AT,
         ..n
     }
 }
@@ -189,6 +199,26 @@ pub fn count_poll(n: Neighbour) -> Neighbour
     let mut m = n;
     m.s = (((n.s as u32) + 1) % 65536) as u16;
     m.t2 = n.period2;
+    m
+}
+
+// A tick more, up to 120.
+fn one_more(count: u8) -> u8
+    ensures { λ r. ⌜ r ≡ oneMore count ⌝ }
+{
+    if count < HOLDS_AT {
+        return count + 1;
+    }
+    count
+}
+
+// A tick outside Idle, as far as it concerns the two counts.
+pub fn age(n: Neighbour) -> Neighbour
+    ensures { λ r. ⌜ r ≡ aged n ⌝ }
+{
+    let mut m = n;
+    m.sincehello = one_more(n.sincehello);
+    m.sincepoll = one_more(n.sincepoll);
     m
 }
 
@@ -258,6 +288,63 @@ pub fn set_r(n: Neighbour, m: Message) -> Neighbour
     let mut next = n;
     next.r = message::sequence_of(m);
     next
+}
+
+// Too-quick neighbours.
+
+// Whether a Hello or a Poll comes too soon after the last one carried out, in Down and Up alone.
+pub fn is_too_quick(n: Neighbour, m: Message) -> bool
+    ensures { λ r. ⌜ r ≡ tooQuick n m ⌝ }
+{
+    let phase = n.phase;
+    if !is_acquired(phase) {
+        return false;
+    }
+    if let Message::Hello {
+        asn: _,
+        sequence: _,
+        status: _,
+    } = m {
+        return (n.sincehello as u16) < P1;
+    }
+    if let Message::Poll {
+        asn: _,
+        sequence: _,
+        status: _,
+        net: _,
+    } = m {
+        return (n.sincepoll as u16) < P2;
+    }
+    false
+}
+
+// A Hello or a Poll carried out in Down or Up: its own count starts anew.
+pub fn recount(n: Neighbour, m: Message) -> Neighbour
+    ensures { λ r. ⌜ r ≡ recounted n m ⌝ }
+{
+    let phase = n.phase;
+    if !is_acquired(phase) {
+        return n;
+    }
+    let mut next = n;
+    if let Message::Hello {
+        asn: _,
+        sequence: _,
+        status: _,
+    } = m {
+        next.sincehello = 0;
+        return next;
+    }
+    if let Message::Poll {
+        asn: _,
+        sequence: _,
+        status: _,
+        net: _,
+    } = m {
+        next.sincepoll = 0;
+        return next;
+    }
+    n
 }
 
 // Reachability.

@@ -12,22 +12,30 @@ use Rattle.neighbour.specs.declared.Mode.{Mode}
 use Rattle.neighbour.specs.declared.Mode.the-variants.{Unset, Active, Passive}
 use Rattle.neighbour.specs.declared.Neighbour.{Neighbour}
 use Rattle.neighbour.specs.Record.{under, isIdle, acquired, idle}
-use Rattle.neighbour_wellformed.specs.Formed.{isUnset, within, allZero, idleFormed, timersBelow, timersRun, t2Formed, registerFormed, agreed, intervalsFormed, causeFormed, wellFormed}
-use Rattle.neighbour_wellformed.proofs.Formed.{at, Fine, Pieces, pieces, whole, below-numbers, run-numbers, fine-of, moded, below-ok, run-ok, register-ok, interval-ok, t2-elsewhere, idle-ok}
+use Rattle.neighbour_wellformed.specs.Formed.{isUnset, within, allZero, idleFormed, timersBelow, timersRun, t2Formed, registerFormed, agreed, intervalsFormed, causeFormed, countsFormed, wellFormed}
+use Rattle.neighbour_wellformed.proofs.Formed.{at, Fine, Pieces, pieces, whole, below-numbers, run-numbers, fine-of, moded, below-ok, run-ok, register-ok, interval-ok, counts-numbers, counts-ok, t2-elsewhere, idle-ok}
 
--- one test of both timers
-pub timers-both : (t1 t3 : ℕ) → (within 1 122 t1 && within 1 3600 t3) ≡ true → (1 ≤ t1) × (t1 ≤ 122) × (1 ≤ t3) × (t3 ≤ 3600)
-timers-both t1 t3 h =
-    let a = and-left (within 1 122 t1) (within 1 3600 t3) h in
-    let b = and-right (within 1 122 t1) (within 1 3600 t3) h in (
+-- one test of both timers and both counts
+abbrev pub timed : ℕ → ℕ → ℕ → ℕ → Bool
+timed t1 t3 hello poll = within 1 122 t1 && within 1 3600 t3 && (leb hello 120 && leb poll 120)
+
+pub timers-both : (t1 t3 hello poll : ℕ) → timed t1 t3 hello poll ≡ true
+    → (1 ≤ t1) × (t1 ≤ 122) × (1 ≤ t3) × (t3 ≤ 3600) × (hello ≤ 120) × (poll ≤ 120)
+timers-both t1 t3 hello poll h =
+    let t = and-left (within 1 122 t1 && within 1 3600 t3) (leb hello 120 && leb poll 120) h in
+    let k = and-right (within 1 122 t1 && within 1 3600 t3) (leb hello 120 && leb poll 120) h in
+    let a = and-left (within 1 122 t1) (within 1 3600 t3) t in
+    let b = and-right (within 1 122 t1) (within 1 3600 t3) t in (
       leb-true 1 t1 (and-left (leb 1 t1) (leb t1 122) a),
       leb-true t1 122 (and-right (leb 1 t1) (leb t1 122) a),
       leb-true 1 t3 (and-left (leb 1 t3) (leb t3 3600) b),
       leb-true t3 3600 (and-right (leb 1 t3) (leb t3 3600) b),
+      leb-true hello 120 (and-left (leb hello 120) (leb poll 120) k),
+      leb-true poll 120 (and-right (leb hello 120) (leb poll 120) k),
     )
 
-pub timers-all : (t1 t3 : ℕ) → 1 ≤ t1 → t1 ≤ 122 → 1 ≤ t3 → t3 ≤ 3600 → (within 1 122 t1 && within 1 3600 t3) ≡ true
-timers-all t1 t3 a b c d = rw (le-leb _ _ a, le-leb _ _ b, le-leb _ _ c, le-leb _ _ d)
+pub timers-all : (t1 t3 hello poll : ℕ) → 1 ≤ t1 → t1 ≤ 122 → 1 ≤ t3 → t3 ≤ 3600 → hello ≤ 120 → poll ≤ 120 → timed t1 t3 hello poll ≡ true
+timers-all t1 t3 hello poll a b c d e f = rw (le-leb _ _ a, le-leb _ _ b, le-leb _ _ c, le-leb _ _ d, le-leb _ _ e, le-leb _ _ f)
 
 -- false of what can't be true
 refused : (b : Bool) → (b ≡ true → ⊥) → false ≡ b
@@ -77,9 +85,10 @@ module _ (n : Neighbour) where
           registers = register-ok n (f .register-high) (f .heard-high) a;
           intervals = interval-ok n a f m;
           causes = reached-cause (n .phase) a (f .causeless);
+          counts = counts-ok n (f .hello-high) (f .poll-high);
         })
 
-    pub reached-last : t2Formed n ≡ true → n .t2 ≤ 482 → (within 1 122 (n .t1) && within 1 3600 (n .t3)) ≡ true
+    pub reached-last : t2Formed n ≡ true → n .t2 ≤ 482 → timed (n .t1) (n .t3) (n .sincehello) (n .sincepoll) ≡ true
         → 32 ≤ n .period1 → n .period1 ≤ 122 → 122 ≤ n .period2 → n .period2 ≤ 482
         → isUnset (n .mode) ≡ false → n .register ≤ 15 → n .heard ≤ 1 → eqb (n .cause) 0 ≡ wellFormed n
     reached-last t u w b c d e m g h = go (eqb (n .cause) 0) refl
@@ -87,7 +96,7 @@ module _ (n : Neighbour) where
         go : (k : Bool) → eqb (n .cause) 0 ≡ k → k ≡ wellFormed n
         go true q =
             let z = eqb-true (n .cause) 0 q in
-            let v = timers-both (n .t1) (n .t3) w in
+            let v = timers-both (n .t1) (n .t3) (n .sincehello) (n .sincepoll) w in
             sym (reached-ok (omega arith) t u m)
         go false q = reached-refused (λ f _. eqb-false (n .cause) 0 q (f .causeless))
 
@@ -103,6 +112,8 @@ pub record Still (n : Neighbour) : Type 0 where
   pub period2-none : n .period2 ≡ 0
   pub register-none : n .register ≡ 0
   pub heard-none : n .heard ≡ 0
+  pub hello-high : n .sincehello ≤ 120
+  pub poll-high : n .sincepoll ≤ 120
 
 not-up : (p : Phase) → acquired p ≡ false → p ≡ Up → ⊥
 not-up p a e = false≢true (sym a ∙ ap acquired e)
@@ -142,6 +153,7 @@ module _ (n : Neighbour) where
         let r = run-numbers n i (p .run) in
         let g = none-registered a (p .registers) in
         let v = none-agreed a (p .intervals) in
+        let c = counts-numbers n (p .counts) in
         let t : n .t2 ≡ 0 = t2-elsewhere n (n .phase) (not-up (n .phase) a) h in
         omega arith
 
@@ -159,16 +171,17 @@ module _ (n : Neighbour) where
           registers = rw (a, s .register-none, s .heard-none);
           intervals = rw (a, s .period1-none, s .period2-none, m);
           causes = c;
+          counts = counts-ok n (s .hello-high) (s .poll-high);
         })
 
-    pub waiting-last : causeFormed n ≡ true → (within 1 122 (n .t1) && within 1 3600 (n .t3)) ≡ true → n .t2 ≡ 0 → n .period1 ≡ 0 → n .period2 ≡ 0
+    pub waiting-last : causeFormed n ≡ true → timed (n .t1) (n .t3) (n .sincehello) (n .sincepoll) ≡ true → n .t2 ≡ 0 → n .period1 ≡ 0 → n .period2 ≡ 0
         → isUnset (n .mode) ≡ true → n .register ≡ 0 → eqb (n .heard) 0 ≡ wellFormed n
     waiting-last c w t x y m r = go (eqb (n .heard) 0) refl
       where
         go : (k : Bool) → eqb (n .heard) 0 ≡ k → k ≡ wellFormed n
         go true q =
             let z = eqb-true (n .heard) 0 q in
-            let v = timers-both (n .t1) (n .t3) w in
+            let v = timers-both (n .t1) (n .t3) (n .sincehello) (n .sincepoll) w in
             sym (waiting-ok (omega arith) m c)
         go false q = waiting-refused (λ s _. eqb-false (n .heard) 0 q (s .heard-none))
 
@@ -241,6 +254,8 @@ module _ (n : Neighbour) (i : isIdle (n .phase) ≡ true) where
       let register : n .register ≡ 0 = eqb-true _ _ (search (and-left, and-right) depth 14) in
       let heard : n .heard ≡ 0 = eqb-true _ _ (search (and-left, and-right) depth 14) in
       let cause : n .cause ≡ 0 = eqb-true _ _ (search (and-left, and-right) depth 14) in
+      let sincehello : n .sincehello ≡ 0 = eqb-true _ _ (search (and-left, and-right) depth 14) in
+      let sincepoll : n .sincepoll ≡ 0 = eqb-true _ _ (search (and-left, and-right) depth 14) in
       λ k. record {
         s = s k;
         r = r k;
@@ -254,10 +269,12 @@ module _ (n : Neighbour) (i : isIdle (n .phase) ≡ true) where
         register = register k;
         heard = heard k;
         cause = cause k;
+        sincehello = sincehello k;
+        sincepoll = sincepoll k;
       }
 
 pub idle-formed : wellFormed idle ≡ true
-unfolding wellFormed idle idleFormed allZero timersBelow timersRun t2Formed registerFormed intervalsFormed causeFormed under
+unfolding wellFormed idle idleFormed allZero timersBelow timersRun t2Formed registerFormed intervalsFormed causeFormed countsFormed under
 idle-formed = refl
 
 some-formed : (n : Neighbour) → isIdle (n .phase) ≡ true → allZero n ≡ false → wellFormed n ≡ false

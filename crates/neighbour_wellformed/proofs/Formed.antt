@@ -4,7 +4,7 @@ use native.Mathlib.Omega.{arith}
 use mathlib.Core.Path.{_≡_, refl}
 use mathlib.Core.Bool.{Bool, true, false, not, _&&_, _||_}
 use lib.Dec.{ltb, leb, eqb}
-use borrow.Author.Tests.{le-leb, leb-true, eqb-true, not-true}
+use borrow.Author.Tests.{le-leb, leb-true, ltb-true, eqb-true, not-true}
 use Rattle.checks.proofs.Laws.{and-left, and-right, cond-elim}
 use Rattle.neighbour.specs.declared.Phase.{Phase}
 use Rattle.neighbour.specs.declared.Phase.the-variants.{Idle, Acquisition, Down, Up, Cease}
@@ -14,9 +14,9 @@ use Rattle.neighbour.specs.declared.Settings.{Settings}
 use Rattle.neighbour.specs.declared.Neighbour.{Neighbour}
 use Rattle.neighbour.specs.declared.Offer.{Offer}
 use Rattle.neighbour.specs.declared.Offer.the-variants.{Acceptable, Unacceptable}
-use Rattle.neighbour.specs.Record.{under, isIdle, acquired, idle, waiting, initialised, withState, withNumbers, withTimers, withReach, heardFrom}
+use Rattle.neighbour.specs.Record.{under, isIdle, acquired, idle, waiting, initialised, withState, withNumbers, withTimers, withReach, withCounts, heardFrom, oneMore}
 use Rattle.neighbour.specs.Rules.{larger, unacceptable, period1Of, period2Of, modeOf, offerOf}
-use Rattle.neighbour_wellformed.specs.Formed.{isUnset, within, allZero, idleFormed, timersBelow, timersRun, t2Formed, registerFormed, agreed, intervalsFormed, causeFormed, wellFormed}
+use Rattle.neighbour_wellformed.specs.Formed.{isUnset, within, allZero, idleFormed, timersBelow, timersRun, t2Formed, registerFormed, agreed, intervalsFormed, causeFormed, countsFormed, wellFormed}
 use Rattle.neighbour.proofs.Laws.{larger-fits, hello-fits, poll-fits}
 
 or-true : (a : Bool) → (a || true) ≡ true
@@ -41,6 +41,8 @@ pub record Fine (n : Neighbour) : Type 0 where
   pub period2-low : 122 ≤ n .period2
   pub period2-high : n .period2 ≤ 482
   pub causeless : n .cause ≡ 0
+  pub hello-high : n .sincehello ≤ 120
+  pub poll-high : n .sincepoll ≤ 120
 
 -- a record's well-formedness, sentence by sentence
 pub record Pieces (n : Neighbour) : Type 0 where
@@ -51,6 +53,7 @@ pub record Pieces (n : Neighbour) : Type 0 where
   pub registers : registerFormed n ≡ true
   pub intervals : intervalsFormed n ≡ true
   pub causes : causeFormed n ≡ true
+  pub counts : countsFormed n ≡ true
 
 module _ (n : Neighbour) where
   pub pieces : wellFormed n ≡ true → Pieces n
@@ -62,7 +65,9 @@ module _ (n : Neighbour) where
       let d = t2Formed n in
       let e = registerFormed n in
       let f = intervalsFormed n in
-      let h6 = and-left (a && b && c && d && e && f) (causeFormed n) h in
+      let g = causeFormed n in
+      let h7 = and-left (a && b && c && d && e && f && g) (countsFormed n) h in
+      let h6 = and-left (a && b && c && d && e && f) g h7 in
       let h5 = and-left (a && b && c && d && e) f h6 in
       let h4 = and-left (a && b && c && d) e h5 in
       let h3 = and-left (a && b && c) d h4 in
@@ -74,12 +79,13 @@ module _ (n : Neighbour) where
         t2s = and-right (a && b && c) d h4;
         registers = and-right (a && b && c && d) e h5;
         intervals = and-right (a && b && c && d && e) f h6;
-        causes = and-right (a && b && c && d && e && f) (causeFormed n) h;
+        causes = and-right (a && b && c && d && e && f) g h7;
+        counts = and-right (a && b && c && d && e && f && g) (countsFormed n) h;
       }
 
   pub whole : Pieces n → wellFormed n ≡ true
   unfolding wellFormed
-  whole p = rw (p .idles, p .below, p .run, p .t2s, p .registers, p .intervals, p .causes)
+  whole p = rw (p .idles, p .below, p .run, p .t2s, p .registers, p .intervals, p .causes, p .counts)
 
   -- "t1, t2, t3 at most 122, 482, 3,600"
   pub below-numbers : timersBelow n ≡ true → (n .t1 ≤ 122) × (n .t2 ≤ 482) × (n .t3 ≤ 3600)
@@ -122,6 +128,13 @@ module _ (n : Neighbour) where
         and-right (a && b) m k,
       )
 
+  pub counts-numbers : countsFormed n ≡ true → (n .sincehello ≤ 120) × (n .sincepoll ≤ 120)
+  unfolding countsFormed
+  counts-numbers h =
+      let a = leb (n .sincehello) 120 in
+      let b = leb (n .sincepoll) 120 in
+      (leb-true (n .sincehello) 120 (and-left a b h), leb-true (n .sincepoll) 120 (and-right a b h))
+
   pub fine-of : isIdle (n .phase) ≡ false → acquired (n .phase) ≡ true → n .cause ≡ 0 → wellFormed n ≡ true → Fine n
   fine-of i a z h =
       let p = pieces h in
@@ -129,6 +142,7 @@ module _ (n : Neighbour) where
       let r = run-numbers i (p .run) in
       let g = register-numbers (p .registers) in
       let v = interval-numbers a (p .intervals) in
+      let c = counts-numbers (p .counts) in
       omega arith
 
   pub moded : acquired (n .phase) ≡ true → wellFormed n ≡ true → isUnset (n .mode) ≡ false
@@ -151,6 +165,10 @@ module _ (n : Neighbour) where
   unfolding intervalsFormed agreed
   interval-ok e f m = rw (e, le-leb _ _ (f .period1-low), le-leb _ _ (f .period1-high), le-leb _ _ (f .period2-low), le-leb _ _ (f .period2-high), m)
 
+  pub counts-ok : n .sincehello ≤ 120 → n .sincepoll ≤ 120 → countsFormed n ≡ true
+  unfolding countsFormed
+  counts-ok a b = rw (le-leb _ _ a, le-leb _ _ b)
+
   pub down-ok : n .phase ≡ Down → Fine n → n .t2 ≡ 0 → isUnset (n .mode) ≡ false → wellFormed n ≡ true
   unfolding idleFormed t2Formed causeFormed under
   down-ok e f z m =
@@ -162,6 +180,7 @@ module _ (n : Neighbour) where
         registers = register-ok (f .register-high) (f .heard-high) (rw e);
         intervals = interval-ok (rw e) f m;
         causes = rw (e, f .causeless);
+        counts = counts-ok (f .hello-high) (f .poll-high);
       })
 
   pub up-ok : n .phase ≡ Up → Fine n → 1 ≤ n .t2 → n .t2 ≤ 482 → isUnset (n .mode) ≡ false → wellFormed n ≡ true
@@ -175,6 +194,7 @@ module _ (n : Neighbour) where
         registers = register-ok (f .register-high) (f .heard-high) (rw e);
         intervals = interval-ok (rw e) f m;
         causes = rw (e, f .causeless);
+        counts = counts-ok (f .hello-high) (f .poll-high);
       })
 
 -- what is known of a record in a phase that is written out
@@ -205,7 +225,7 @@ module _ (n : Neighbour) where
 
   -- S and R are any numbers outside Idle
   pub numbers-ok : (s r : ℕ) (p : Phase) → isIdle p ≡ false → wellFormed (at n p) ≡ true → wellFormed (withNumbers (at n p) s r) ≡ true
-  unfolding withNumbers wellFormed idleFormed timersBelow timersRun t2Formed registerFormed agreed intervalsFormed causeFormed under
+  unfolding withNumbers wellFormed idleFormed timersBelow timersRun t2Formed registerFormed agreed intervalsFormed causeFormed countsFormed under
   numbers-ok s r Idle i h = let z : _≡_ {A = ℕ} 0 1 = cc in absurd (omega arith)
   numbers-ok s r Acquisition i h = h
   numbers-ok s r Down i h = h
@@ -215,7 +235,7 @@ module _ (n : Neighbour) where
   -- t1 and t3 may run outside Idle
   pub timers-ok : (t1 t3 : ℕ) (p : Phase) → isIdle p ≡ false → 1 ≤ t1 → t1 ≤ 122 → 1 ≤ t3 → t3 ≤ 3600
       → wellFormed (at n p) ≡ true → wellFormed (withTimers (at n p) t1 (n .t2) t3) ≡ true
-  unfolding withTimers idleFormed t2Formed registerFormed agreed intervalsFormed causeFormed
+  unfolding withTimers idleFormed t2Formed registerFormed agreed intervalsFormed causeFormed countsFormed
   timers-ok t1 t3 p i u v w x h =
       let q = pieces (at n p) h in
       whole (withTimers (at n p) t1 (n .t2) t3) (record {
@@ -226,7 +246,28 @@ module _ (n : Neighbour) where
         registers = q .registers;
         intervals = q .intervals;
         causes = q .causes;
+        counts = q .counts;
       })
+
+  -- and the counts up to 120
+  pub counted-ok : (hello poll : ℕ) (p : Phase) → isIdle p ≡ false → hello ≤ 120 → poll ≤ 120
+      → wellFormed (at n p) ≡ true → wellFormed (withCounts (at n p) hello poll) ≡ true
+  unfolding idleFormed timersBelow timersRun t2Formed registerFormed agreed intervalsFormed causeFormed
+  counted-ok hello poll p i u v h =
+      let q = pieces (at n p) h in
+      whole (withCounts (at n p) hello poll) (record {
+        idles = rw i;
+        below = q .below;
+        run = q .run;
+        t2s = q .t2s;
+        registers = q .registers;
+        intervals = q .intervals;
+        causes = q .causes;
+        counts = counts-ok (withCounts (at n p) hello poll) u v;
+      })
+
+  pub counts-bounds : wellFormed n ≡ true → (n .sincehello ≤ 120) × (n .sincepoll ≤ 120)
+  counts-bounds h = counts-numbers n (pieces n h .counts)
 
   pub timer-bounds : (p : Phase) → isIdle p ≡ false → wellFormed (at n p) ≡ true → (1 ≤ n .t1) × (n .t1 ≤ 122) × (1 ≤ n .t3) × (n .t3 ≤ 3600)
   timer-bounds p i h =
@@ -246,20 +287,25 @@ module _ (n : Neighbour) where
 
   -- entering Acquisition or Cease, from a record that is well formed: what outlives the change is as it was
   pub acquisition-ok : wellFormed n ≡ true → wellFormed (waiting n Acquisition 0) ≡ true
-  unfolding waiting wellFormed idleFormed timersBelow timersRun t2Formed registerFormed agreed intervalsFormed causeFormed under
-  acquisition-ok h = refl
+  unfolding waiting wellFormed idleFormed timersBelow timersRun t2Formed registerFormed agreed intervalsFormed causeFormed countsFormed under
+  acquisition-ok h = pieces n h .counts
 
   pub cease-5-ok : wellFormed n ≡ true → wellFormed (waiting n Cease 5) ≡ true
-  unfolding waiting wellFormed idleFormed timersBelow timersRun t2Formed registerFormed agreed intervalsFormed causeFormed under
-  cease-5-ok h = refl
+  unfolding waiting wellFormed idleFormed timersBelow timersRun t2Formed registerFormed agreed intervalsFormed causeFormed countsFormed under
+  cease-5-ok h = pieces n h .counts
 
   pub cease-6-ok : wellFormed n ≡ true → wellFormed (waiting n Cease 6) ≡ true
-  unfolding waiting wellFormed idleFormed timersBelow timersRun t2Formed registerFormed agreed intervalsFormed causeFormed under
-  cease-6-ok h = refl
+  unfolding waiting wellFormed idleFormed timersBelow timersRun t2Formed registerFormed agreed intervalsFormed causeFormed countsFormed under
+  cease-6-ok h = pieces n h .counts
 
 pub idle-ok : wellFormed idle ≡ true
-unfolding idle wellFormed idleFormed allZero timersBelow timersRun t2Formed registerFormed agreed intervalsFormed causeFormed under
+unfolding idle wellFormed idleFormed allZero timersBelow timersRun t2Formed registerFormed agreed intervalsFormed causeFormed countsFormed under
 idle-ok = refl
+
+-- a tick more stays below the bound
+pub one-more-high : (count : ℕ) → count ≤ 120 → oneMore count ≤ 120
+unfolding oneMore
+one-more-high count h = cond-elim (λ (k : ℕ). k ≤ 120) (ltb count 120) (count + 1) count (λ e. omega (arith, ltb-true count 120 e)) (λ _. h)
 
 abbrev Set : Mode → Type 0
 Set m = isUnset m ≡ false
@@ -315,7 +361,11 @@ idle-only n h =
     let j = eqb (n .register) 0 in
     let k = eqb (n .heard) 0 in
     let l = eqb (n .cause) 0 in
-    let hk = and-left (a && b && c && d && e && f && g && i && j && k) l (pieces (at n Idle) h .idles) in
+    let m = eqb (n .sincehello) 0 in
+    let o = eqb (n .sincepoll) 0 in
+    let hm = and-left (a && b && c && d && e && f && g && i && j && k && l && m) o (pieces (at n Idle) h .idles) in
+    let hl = and-left (a && b && c && d && e && f && g && i && j && k && l) m hm in
+    let hk = and-left (a && b && c && d && e && f && g && i && j && k) l hl in
     let hj = and-left (a && b && c && d && e && f && g && i && j) k hk in
     let hi = and-left (a && b && c && d && e && f && g && i) j hj in
     let hg = and-left (a && b && c && d && e && f && g) i hi in
@@ -335,5 +385,7 @@ idle-only n h =
       unset (n .mode) (and-right (a && b && c && d && e && f && g) i hi),
       eqb-true (n .register) 0 (and-right (a && b && c && d && e && f && g && i) j hj),
       eqb-true (n .heard) 0 (and-right (a && b && c && d && e && f && g && i && j) k hk),
-      eqb-true (n .cause) 0 (and-right (a && b && c && d && e && f && g && i && j && k) l (pieces (at n Idle) h .idles)),
+      eqb-true (n .cause) 0 (and-right (a && b && c && d && e && f && g && i && j && k) l hl),
+      eqb-true (n .sincehello) 0 (and-right (a && b && c && d && e && f && g && i && j && k && l) m hm),
+      eqb-true (n .sincepoll) 0 (and-right (a && b && c && d && e && f && g && i && j && k && l && m) o (pieces (at n Idle) h .idles)),
     )

@@ -20,6 +20,7 @@ unfoldable pub allZero : Neighbour → Bool
 allZero n =
     eqb (n .s) 0 && eqb (n .r) 0 && eqb (n .period1) 0 && eqb (n .period2) 0 && eqb (n .t1) 0 && eqb (n .t2) 0 && eqb (n .t3) 0
     && isUnset (n .mode) && eqb (n .register) 0 && eqb (n .heard) 0 && eqb (n .cause) 0
+    && eqb (n .sincehello) 0 && eqb (n .sincepoll) 0
 
 -- 01: "in Idle only address and AS may be non-zero"
 unfoldable pub idleFormed : Neighbour → Bool
@@ -57,7 +58,12 @@ causeFormed n =
     under (n .phase) (eqb (n .cause) 0) (eqb (n .cause) 0) (eqb (n .cause) 0) (eqb (n .cause) 0)
     (eqb (n .cause) 5 || eqb (n .cause) 6)
 
+-- 02, L5: "Well formed asks both to be at most 120, and 0 in Idle", where `idleFormed` asks it
+unfoldable pub countsFormed : Neighbour → Bool
+countsFormed n = leb (n .sincehello) 120 && leb (n .sincepoll) 120
+
 -- "Sequence numbers are any 16 bits." The row count, the address and the AS are judged where they stand.
 unfoldable pub wellFormed : Neighbour → Bool
 wellFormed n =
     idleFormed n && timersBelow n && timersRun n && t2Formed n && registerFormed n && intervalsFormed n && causeFormed n
+    && countsFormed n

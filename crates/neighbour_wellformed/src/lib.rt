@@ -2,10 +2,11 @@
 ghost use Prim.Native.Nat.{_≤_};
 ghost use mathlib.Core.Path.{_≡_};
 ghost use mathlib.Core.Bool.{true, false, _&&_, _||_};
-ghost use lib.Dec.{eqb};
+ghost use lib.Dec.{leb, eqb};
 ghost use Rattle.neighbour.specs.declared.Phase.the-variants.{Acquisition, Down, Up, Cease};
 ghost use Rattle.neighbour.specs.Record.{isIdle, acquired};
 ghost use Rattle.neighbour_wellformed.specs.Formed.{isUnset, within, allZero, t2Formed, causeFormed, wellFormed};
+use neighbour::HOLDS_AT;
 use neighbour::Mode;
 use neighbour::Neighbour;
 use neighbour::Phase;
@@ -54,12 +55,18 @@ fn is_zero(n: Neighbour) -> bool
     if n.heard != 0 {
         return false;
     }
-    n.cause == 0
+    if n.cause != 0 {
+        return false;
+    }
+    if n.sincehello != 0 {
+        return false;
+    }
+    n.sincepoll == 0
 }
 
-// t1 and t3 outside Idle.
-fn are_timers_formed(t1: u16, t3: u16) -> bool
-    ensures { λ r. ⌜ r ≡ (within 1 122 t1 && within 1 3600 t3) ⌝ }
+// t1, t3 and the two counts outside Idle.
+fn are_timers_formed(t1: u16, t3: u16, hello: u8, poll: u8) -> bool
+    ensures { λ r. ⌜ r ≡ (within 1 122 t1 && within 1 3600 t3 && (leb hello 120 && leb poll 120)) ⌝ }
 {
     if t1 < 1 {
         return false;
@@ -70,7 +77,13 @@ fn are_timers_formed(t1: u16, t3: u16) -> bool
     if t3 < 1 {
         return false;
     }
-    t3 <= 3600
+    if 3600 < t3 {
+        return false;
+    }
+    if HOLDS_AT < hello {
+        return false;
+    }
+    poll <= HOLDS_AT
 }
 
 // The tests that Down and Up have in common, behind those of t2.
@@ -78,7 +91,7 @@ fn is_reached_formed(n: Neighbour) -> bool
     requires { ⌜ (acquired (n .phase) ≡ true) × (t2Formed n ≡ true) × (n .t2 ≤ 482) ⌝ }
     ensures { λ r. ⌜ r ≡ wellFormed n ⌝ }
 {
-    if !are_timers_formed(n.t1, n.t3) {
+    if !are_timers_formed(n.t1, n.t3, n.sincehello, n.sincepoll) {
         return false;
     }
     if n.period1 < 32 {
@@ -135,7 +148,7 @@ fn is_waiting_formed(n: Neighbour) -> bool
     requires { ⌜ (isIdle (n .phase) ≡ false) × (acquired (n .phase) ≡ false) × (causeFormed n ≡ true) ⌝ }
     ensures { λ r. ⌜ r ≡ wellFormed n ⌝ }
 {
-    if !are_timers_formed(n.t1, n.t3) {
+    if !are_timers_formed(n.t1, n.t3, n.sincehello, n.sincepoll) {
         return false;
     }
     if n.t2 != 0 {

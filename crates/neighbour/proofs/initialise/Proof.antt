@@ -1,4 +1,4 @@
-use Rattle.neighbour.specs.Record.{initialised}
+use Rattle.neighbour.specs.Record.{initialised, withCounts}
 use mathlib.Core.Path.{refl}
 use Rattle.neighbour.proofs.initialise.Statement.{statement}
 use Rattle.neighbour.proofs.initialise.Tie as tie

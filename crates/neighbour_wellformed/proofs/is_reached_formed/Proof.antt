@@ -11,7 +11,7 @@ are-timers-formed-requires : tie.Need-are-timers-formed-requires
 are-timers-formed-requires c κs = search needs
 
 returns : tie.Need-returns
-returns c = reached-refused _ (c .before .before .pre .0) (λ f m. false≢true (sym (not-true _ (c .if1 .taken)) ∙ c .before .are-timers-formed .ensures ∙ timers-all _ _ (f .t1-low) (f .t1-high) (f .t3-low) (f .t3-high)))
+returns c = reached-refused _ (c .before .before .pre .0) (λ f m. false≢true (sym (not-true _ (c .if1 .taken)) ∙ c .before .are-timers-formed .ensures ∙ timers-all _ _ _ _ (f .t1-low) (f .t1-high) (f .t3-low) (f .t3-high) (f .hello-high) (f .poll-high)))
 
 returns-2 : tie.Need-returns-2
 returns-2 c = reached-refused _ (c .before .before .before .before .pre .0) (λ f m. omega arith)

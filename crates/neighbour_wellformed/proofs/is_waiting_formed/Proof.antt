@@ -10,7 +10,7 @@ are-timers-formed-requires : tie.Need-are-timers-formed-requires
 are-timers-formed-requires c κs = search needs
 
 returns : tie.Need-returns
-returns c = waiting-refused _ (c .before .before .pre .0) (c .before .before .pre .1) (λ s m. false≢true (sym (not-true _ (c .if1 .taken)) ∙ c .before .are-timers-formed .ensures ∙ timers-all _ _ (s .t1-low) (s .t1-high) (s .t3-low) (s .t3-high)))
+returns c = waiting-refused _ (c .before .before .pre .0) (c .before .before .pre .1) (λ s m. false≢true (sym (not-true _ (c .if1 .taken)) ∙ c .before .are-timers-formed .ensures ∙ timers-all _ _ _ _ (s .t1-low) (s .t1-high) (s .t3-low) (s .t3-high) (s .hello-high) (s .poll-high)))
 
 returns-2 : tie.Need-returns-2
 returns-2 c = waiting-refused _ (c .before .before .before .before .pre .0) (c .before .before .before .before .pre .1) (λ s m. c .if2 .taken (s .t2-none))

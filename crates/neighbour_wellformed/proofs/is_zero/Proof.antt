@@ -50,7 +50,15 @@ unfolding allZero
 returns-10 c = simp (eq-eqb _ _ (c .before .before .before .before .before .before .before .before .before .before .before .before .before .before .before .before .before .before .if1 .left), eq-eqb _ _ (c .before .before .before .before .before .before .before .before .before .before .before .before .before .before .before .before .if2 .left), eq-eqb _ _ (c .before .before .before .before .before .before .before .before .before .before .before .before .before .before .if3 .left), eq-eqb _ _ (c .before .before .before .before .before .before .before .before .before .before .before .before .if4 .left), eq-eqb _ _ (c .before .before .before .before .before .before .before .before .before .before .if5 .left), eq-eqb _ _ (c .before .before .before .before .before .before .before .before .if6 .left), eq-eqb _ _ (c .before .before .before .before .before .before .if7 .left), sym (c .before .before .before .before .before .is-unset .ensures) ∙ not-false _ (c .before .before .before .before .if8 .left), eq-eqb _ _ (c .before .before .if9 .left), ne-eqb _ _ (c .if10 .taken))
 
 returns-11 : tie.Need-returns-11
-returns-11 c = zero-last _ (c .before .before .before .before .before .before .before .before .before .before .before .before .before .before .before .before .before .before .before .if1 .left) (c .before .before .before .before .before .before .before .before .before .before .before .before .before .before .before .before .before .if2 .left) (c .before .before .before .before .before .before .before .before .before .before .before .before .before .before .before .if3 .left) (c .before .before .before .before .before .before .before .before .before .before .before .before .before .if4 .left) (c .before .before .before .before .before .before .before .before .before .before .before .if5 .left) (c .before .before .before .before .before .before .before .before .before .if6 .left) (c .before .before .before .before .before .before .before .if7 .left) (sym (c .before .before .before .before .before .before .is-unset .ensures) ∙ not-false _ (c .before .before .before .before .before .if8 .left)) (c .before .before .before .if9 .left) (c .before .if10 .left)
+unfolding allZero
+returns-11 c = simp (eq-eqb _ _ (c .before .before .before .before .before .before .before .before .before .before .before .before .before .before .before .before .before .before .before .before .if1 .left), eq-eqb _ _ (c .before .before .before .before .before .before .before .before .before .before .before .before .before .before .before .before .before .before .if2 .left), eq-eqb _ _ (c .before .before .before .before .before .before .before .before .before .before .before .before .before .before .before .before .if3 .left), eq-eqb _ _ (c .before .before .before .before .before .before .before .before .before .before .before .before .before .before .if4 .left), eq-eqb _ _ (c .before .before .before .before .before .before .before .before .before .before .before .before .if5 .left), eq-eqb _ _ (c .before .before .before .before .before .before .before .before .before .before .if6 .left), eq-eqb _ _ (c .before .before .before .before .before .before .before .before .if7 .left), sym (c .before .before .before .before .before .before .before .is-unset .ensures) ∙ not-false _ (c .before .before .before .before .before .before .if8 .left), eq-eqb _ _ (c .before .before .before .before .if9 .left), eq-eqb _ _ (c .before .before .if10 .left), ne-eqb _ _ (c .if11 .taken))
+
+returns-12 : tie.Need-returns-12
+unfolding allZero
+returns-12 c = simp (eq-eqb _ _ (c .before .before .before .before .before .before .before .before .before .before .before .before .before .before .before .before .before .before .before .before .before .before .if1 .left), eq-eqb _ _ (c .before .before .before .before .before .before .before .before .before .before .before .before .before .before .before .before .before .before .before .before .if2 .left), eq-eqb _ _ (c .before .before .before .before .before .before .before .before .before .before .before .before .before .before .before .before .before .before .if3 .left), eq-eqb _ _ (c .before .before .before .before .before .before .before .before .before .before .before .before .before .before .before .before .if4 .left), eq-eqb _ _ (c .before .before .before .before .before .before .before .before .before .before .before .before .before .before .if5 .left), eq-eqb _ _ (c .before .before .before .before .before .before .before .before .before .before .before .before .if6 .left), eq-eqb _ _ (c .before .before .before .before .before .before .before .before .before .before .if7 .left), sym (c .before .before .before .before .before .before .before .before .before .is-unset .ensures) ∙ not-false _ (c .before .before .before .before .before .before .before .before .if8 .left), eq-eqb _ _ (c .before .before .before .before .before .before .if9 .left), eq-eqb _ _ (c .before .before .before .before .if10 .left), eq-eqb _ _ (c .before .before .if11 .left), ne-eqb _ _ (c .if12 .taken))
+
+returns-13 : tie.Need-returns-13
+returns-13 c = zero-last _ (c .before .before .before .before .before .before .before .before .before .before .before .before .before .before .before .before .before .before .before .before .before .before .before .if1 .left) (c .before .before .before .before .before .before .before .before .before .before .before .before .before .before .before .before .before .before .before .before .before .if2 .left) (c .before .before .before .before .before .before .before .before .before .before .before .before .before .before .before .before .before .before .before .if3 .left) (c .before .before .before .before .before .before .before .before .before .before .before .before .before .before .before .before .before .if4 .left) (c .before .before .before .before .before .before .before .before .before .before .before .before .before .before .before .if5 .left) (c .before .before .before .before .before .before .before .before .before .before .before .before .before .if6 .left) (c .before .before .before .before .before .before .before .before .before .before .before .if7 .left) (sym (c .before .before .before .before .before .before .before .before .before .before .is-unset .ensures) ∙ not-false _ (c .before .before .before .before .before .before .before .before .before .if8 .left)) (c .before .before .before .before .before .before .before .if9 .left) (c .before .before .before .before .before .if10 .left) (c .before .before .before .if11 .left) (c .before .if12 .left)
 
 pub is-zero-spec : {M : Type 1} → statement M
 is-zero-spec =
@@ -67,4 +75,6 @@ is-zero-spec =
     returns-8
     returns-9
     returns-10
-    returns-11)
+    returns-11
+    returns-12
+    returns-13)

@@ -16,8 +16,8 @@ use Rattle.neighbour.specs.declared.Offer.{Offer}
 use Rattle.neighbour.specs.declared.Offer.the-variants.{Acceptable, Unacceptable}
 use Rattle.neighbour.specs.declared.Settings.{Settings}
 use Rattle.neighbour.specs.declared.Neighbour.{Neighbour}
-use Rattle.neighbour.specs.Record.{under, isIdle, shifted}
-use Rattle.neighbour.specs.Rules.{judged, offerOf, commanded, noted}
+use Rattle.neighbour.specs.Record.{under, isIdle, shifted, aged}
+use Rattle.neighbour.specs.Rules.{judged, offerOf, commanded, noted, recounted}
 use Rattle.neighbour_messages.specs.declared.Head.{Head}
 use Rattle.neighbour_wellformed.proofs.Formed.{at}
 use Rattle.neighbour_machine.specs.declared.Event.{Event}
@@ -26,7 +26,7 @@ use Rattle.neighbour_machine.specs.declared.Reply.{Reply}
 use Rattle.neighbour_machine.specs.declared.Reply.the-variants.{Nothing, One, Two}
 use Rattle.neighbour_machine.specs.declared.After.{After}
 use Rattle.neighbour_machine.specs.Table.{followed, quiet, answers, says, helloIf, doesA, doesB, ceases, repeatsCease, acquires, stray, onRequest, settles, onConfirm, onRefuse, onCease, onCeaseAck, onHello, onIHeardYou, answersPoll, onPoll, onUpdate, onStart, onStop}
-use Rattle.neighbour_machine.specs.Tick.{expired, repeats, listens, polls, pollsOnEntry, takesT2, pollsInUp, tickOn, onTick}
+use Rattle.neighbour_machine.specs.Tick.{expired, repeats, listens, polls, pollsOnEntry, takesT2, pollsInUp, tickOn, tickOutside, onTick}
 use Rattle.neighbour_machine.specs.Step.{onMessage, stepOf}
 use Rattle.neighbour_machine.specs.Laws.{short, ourUpdate, maySend, StepSends, NoThird}
 
@@ -218,15 +218,17 @@ module _ (g : Settings) where
       each (n .phase) _ _ _ _ _ (quiet-sends n) (repeats-sends n _ refl) (entry-sends _ (listens-roomy n)) (up-sends _ (listens-roomy n))
       (repeats-sends n _ refl)
 
+  outside-sends : (n : Neighbour) → Sends (tickOutside g n)
+  unfolding tickOutside expired
+  outside-sends n = cond-elim Sends (eqb (n .t3 - 1) 0) _ _ (λ _. stop-sends n) (λ _. runs-sends _)
+
   tick-sends : (n : Neighbour) → Sends (onTick g n)
-  unfolding onTick expired
-  tick-sends n =
-      cond-elim Sends (isIdle (n .phase)) _ _ (λ _. quiet-sends n)
-      (λ _. cond-elim Sends (eqb (n .t3 - 1) 0) _ _ (λ _. stop-sends n) (λ _. runs-sends _))
+  unfolding onTick
+  tick-sends n = cond-elim Sends (isIdle (n .phase)) _ _ (λ _. quiet-sends n) (λ _. outside-sends (aged n))
 
   event-sends : (asn : ℕ) (n : Neighbour) (event : Event) (head : Head) → Sends (stepOf g asn n event head)
   unfolding stepOf
-  event-sends asn n (Received m) head = message-sends asn (noted (commanded n m) m) m head
+  event-sends asn n (Received m) head = message-sends asn (recounted (noted (commanded n m) m) m) m head
   event-sends asn n Start head = start-sends n
   event-sends asn n Stop head = stop-sends n
   event-sends asn n Tick head = tick-sends n

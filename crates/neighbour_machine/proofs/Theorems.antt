@@ -17,18 +17,18 @@ use Rattle.neighbour.specs.declared.Mode.the-variants.{Unset, Active, Passive}
 use Rattle.neighbour.specs.declared.Settings.{Settings}
 use Rattle.neighbour.specs.declared.Neighbour.{Neighbour}
 use Rattle.neighbour_messages.specs.declared.Head.{Head}
-use Rattle.neighbour.specs.Record.{under, isIdle, acquired, idle, leftIdle, waiting, initialised, withNumbers, withTimers, withReach, heardFrom, shifted, enterUp, leaveUp, polled, isUp}
-use Rattle.neighbour.specs.Rules.{isCommand, commanded, indicates, noted, offerOf, goesUp, goesDown, onesOf, judged}
+use Rattle.neighbour.specs.Record.{under, isIdle, acquired, idle, leftIdle, waiting, initialised, withNumbers, withTimers, withReach, withCounts, heardFrom, shifted, enterUp, leaveUp, polled, oneMore, aged, isUp}
+use Rattle.neighbour.specs.Rules.{same, isCommand, commanded, indicates, noted, recounted, offerOf, goesUp, goesDown, onesOf, judged}
 use Rattle.neighbour_messages.specs.Sent.{helloMessage, pollMessage}
 use Rattle.neighbour_wellformed.specs.Formed.{isUnset, wellFormed}
-use Rattle.neighbour_wellformed.proofs.Formed.{at, Fine, offer-elim, idle-ok, idle-only, acquisition-ok, cease-5-ok, cease-6-ok, initialised-ok, numbers-ok, heard-ok, timers-ok, timer-bounds, fine-down, fine-up, t2-down, t2-up, t2-elsewhere, down-ok, up-ok, moded}
+use Rattle.neighbour_wellformed.proofs.Formed.{at, Fine, offer-elim, idle-ok, idle-only, acquisition-ok, cease-5-ok, cease-6-ok, initialised-ok, numbers-ok, counted-ok, counts-bounds, one-more-high, heard-ok, timers-ok, timer-bounds, fine-down, fine-up, t2-down, t2-up, t2-elsewhere, down-ok, up-ok, moded}
 use Rattle.neighbour_machine.specs.declared.Event.{Event}
 use Rattle.neighbour_machine.specs.declared.Event.the-variants.{Received, Start, Stop, Tick}
 use Rattle.neighbour_machine.specs.declared.Reply.{Reply}
 use Rattle.neighbour_machine.specs.declared.Reply.the-variants.{Nothing, One, Two}
 use Rattle.neighbour_machine.specs.declared.After.{After}
 use Rattle.neighbour_machine.specs.Table.{followed, quiet, answers, says, helloIf, doesA, doesB, ceases, repeatsCease, acquires, stray, onRequest, settles, onConfirm, onRefuse, onCease, onCeaseAck, onHello, onIHeardYou, answersPoll, onPoll, onUpdate, onStart, onStop}
-use Rattle.neighbour_machine.specs.Tick.{expired, repeats, listens, polls, pollsOnEntry, takesT2, pollsInUp, tickOn, onTick}
+use Rattle.neighbour_machine.specs.Tick.{expired, repeats, listens, polls, pollsOnEntry, takesT2, pollsInUp, tickOn, tickOutside, onTick}
 use Rattle.neighbour_machine.specs.Step.{onMessage, stepOf}
 use Rattle.neighbour_machine.specs.Laws.{isPoll, sendsPoll, brought, isTick, Lawful, StepLawful, IdleIsZero, T2OnlyInUp, ErrorIgnored, UpdateStaysUp}
 
@@ -187,15 +187,32 @@ module _ (g : Settings) where
   message-lawful asn n p (M.Update a q s net) head i f = update-row n p i f
   message-lawful asn n p (M.Error a q s r x y z) head i f = stays n false p i f Nothing refl
 
-  -- an indication changes neither the phase nor S nor R
+  -- a count that starts anew changes neither the phase nor S nor R
+  recounted-lawful : (asn : ℕ) (n : Neighbour) (p : Phase) (m : Message) (head : Head) → isIdle p ≡ false → wellFormed (at n p) ≡ true
+      → Lawful p (n .s) (n .r) false (onMessage g asn (recounted (at n p) m) m head)
+  unfolding recounted
+  recounted-lawful asn n p m head i f =
+      let b = counts-bounds (at n p) f in
+      let hello = cond (same (kindOf m) K.Hello) 0 (n .sincehello) in
+      let poll = cond (same (kindOf m) K.Poll) 0 (n .sincepoll) in
+      cond-elim (λ k. Lawful p (n .s) (n .r) false (onMessage g asn k m head)) (acquired p) (withCounts (at n p) hello poll) (at n p)
+      (λ _. message-lawful asn (withCounts n hello poll) p m head i
+      (counted-ok n hello poll p i (zero-or (same (kindOf m) K.Hello) (n .sincehello) (b .0)) (zero-or (same (kindOf m) K.Poll) (n .sincepoll) (b .1)) f))
+      (λ _. message-lawful asn n p m head i f)
+    where
+      zero-or : (z : Bool) (count : ℕ) → count ≤ 120 → cond z 0 count ≤ 120
+      zero-or true count h = omega arith
+      zero-or false count h = h
+
+  -- nor does an indication
   noted-lawful : (asn : ℕ) (n : Neighbour) (p : Phase) (m : Message) (head : Head) → isIdle p ≡ false → wellFormed (at n p) ≡ true
-      → Lawful p (n .s) (n .r) false (onMessage g asn (noted (at n p) m) m head)
+      → Lawful p (n .s) (n .r) false (onMessage g asn (recounted (noted (at n p) m) m) m head)
   unfolding noted heardFrom withReach withTimers
   noted-lawful asn n p m head i f =
-      cond-elim (λ k. Lawful p (n .s) (n .r) false (onMessage g asn k m head))
+      cond-elim (λ k. Lawful p (n .s) (n .r) false (onMessage g asn (recounted k m) m head))
       (acquired p && indicates (n .mode) (kindOf m) (statusOf m)) (heardFrom (at n p)) (at n p)
-      (λ e. message-lawful asn (heardFrom (at n p)) p m head i (heard-ok n p (and-left (acquired p) _ e) f))
-      (λ _. message-lawful asn n p m head i f)
+      (λ e. recounted-lawful asn (heardFrom (at n p)) p m head i (heard-ok n p (and-left (acquired p) _ e) f))
+      (λ _. recounted-lawful asn n p m head i f)
 
   -- a command sets R, and a message that is no command leaves it
   received-lawful : (asn : ℕ) (n : Neighbour) (p : Phase) (m : Message) (head : Head) → isIdle p ≡ false → wellFormed (at n p) ≡ true
@@ -205,13 +222,13 @@ module _ (g : Settings) where
     where
       go : (b : Bool)
           → Lawful p (n .s) (cond b (sequenceOf m) (n .r)) false
-          (onMessage g asn (noted (cond b (withNumbers (at n p) (n .s) (sequenceOf m)) (at n p)) m) m head)
+          (onMessage g asn (recounted (noted (cond b (withNumbers (at n p) (n .s) (sequenceOf m)) (at n p)) m) m) m head)
       go true = noted-lawful asn (withNumbers n (n .s) (sequenceOf m)) p m head i (numbers-ok n (n .s) (sequenceOf m) p i f)
       go false = noted-lawful asn n p m head i f
 
   -- the idle record
   idle-received : (asn : ℕ) (m : Message) (head : Head) → Lawful Idle 0 (brought (Received m) 0) false (stepOf g asn idle (Received m) head)
-  unfolding stepOf noted commanded idle onMessage onRequest onConfirm onRefuse onCease onCeaseAck onHello onIHeardYou onPoll onUpdate stray quiet answers under
+  unfolding stepOf recounted noted commanded idle onMessage onRequest onConfirm onRefuse onCease onCeaseAck onHello onIHeardYou onPoll onUpdate stray quiet answers under
   idle-received asn (M.Request a q s h o) head =
       offer-elim g asn s h o (λ k. Lawful Idle 0 q false (onRequest g idle q k)) (leaves-idle q) (gone Idle 0 q false (One _))
   idle-received asn (M.Confirm a q s h o) head = gone Idle 0 0 false Nothing
@@ -374,17 +391,26 @@ module _ (g : Settings) where
       (λ e. stays-up (withTimers (at n Up) (n .t1 - 1) (n .t2) (n .t3)) (ticked-fine (at n Up) f (eqb-false (n .t1 - 1) 0 e)) (t .0) (t .1) u Nothing refl (λ _. refl))
   runs-lawful n Cease i h = repeats-lawful n Cease _ refl i h
 
-  tick-lawful : (n : Neighbour) (p : Phase) → isIdle p ≡ false → wellFormed (at n p) ≡ true → Lawful p (n .s) (n .r) true (onTick g (at n p))
-  unfolding onTick expired withTimers
-  tick-lawful n p i h =
+  outside-lawful : (n : Neighbour) (p : Phase) → isIdle p ≡ false → wellFormed (at n p) ≡ true → Lawful p (n .s) (n .r) true (tickOutside g (at n p))
+  unfolding tickOutside expired withTimers
+  outside-lawful n p i h =
       let t = timer-bounds n p i h in
-      rw i
-      (cond-elim (Lawful p (n .s) (n .r) true) (eqb (n .t3 - 1) 0) _ _
+      cond-elim (Lawful p (n .s) (n .r) true) (eqb (n .t3 - 1) 0) _ _
       (λ _. stop-lawful n true p i h)
       (λ e.
       let k = eqb-false (n .t3 - 1) 0 e in
       runs-lawful (withTimers n (n .t1) (n .t2) (n .t3 - 1)) p i
-      (timers-ok n (n .t1) (n .t3 - 1) p i (t .0) (t .1) (omega (arith, k)) (omega arith) h)))
+      (timers-ok n (n .t1) (n .t3 - 1) p i (t .0) (t .1) (omega (arith, k)) (omega arith) h))
+
+  tick-lawful : (n : Neighbour) (p : Phase) → isIdle p ≡ false → wellFormed (at n p) ≡ true → Lawful p (n .s) (n .r) true (onTick g (at n p))
+  unfolding onTick aged
+  tick-lawful n p i h =
+      let b = counts-bounds (at n p) h in
+      let hello = oneMore (n .sincehello) in
+      let poll = oneMore (n .sincepoll) in
+      rw i
+      (outside-lawful (withCounts n hello poll) p i
+      (counted-ok n hello poll p i (one-more-high (n .sincehello) (b .0)) (one-more-high (n .sincepoll) (b .1)) h))
 
   -- every event outside Idle
   event-lawful : (asn : ℕ) (n : Neighbour) (p : Phase) (event : Event) (head : Head) → isIdle p ≡ false → wellFormed (at n p) ≡ true
@@ -423,19 +449,23 @@ error-silent Unset status = refl
 error-silent Active status = refl
 error-silent Passive status = refl
 
+same-either : (b : Bool) (n : Neighbour) → cond b n n ≡ n
+same-either true n = refl
+same-either false n = refl
+
 pub error-ignored : ErrorIgnored
-unfolding stepOf onMessage commanded noted quiet
+unfolding stepOf onMessage commanded noted recounted quiet
 error-ignored g asn n a sequence status reason first second third head =
-    rw (and-false (not (isIdle (n .phase))), error-silent (n .mode) status, and-false (acquired (n .phase)))
+    rw (and-false (not (isIdle (n .phase))), error-silent (n .mode) status, and-false (acquired (n .phase))) (ap quiet (same-either (acquired (n .phase)) n))
 
 pub update-stays-up : UpdateStaysUp
-unfolding stepOf onMessage commanded noted heardFrom withReach withTimers onUpdate quiet under
+unfolding stepOf onMessage commanded noted recounted heardFrom withReach withTimers onUpdate quiet under
 update-stays-up g asn n a sequence status net head e =
     rw (and-false (not (isIdle (n .phase)))) (go (n .phase) e (indicates (n .mode) K.Update status))
   where
     go : (p : Phase) → p ≡ Up → (b : Bool)
-        → ((onUpdate g (cond (acquired p && b) (heardFrom (at n p)) (at n p))) .neighbour .phase ≡ Up)
-        × ((onUpdate g (cond (acquired p && b) (heardFrom (at n p)) (at n p))) .reply ≡ Nothing)
+        → ((onUpdate g (recounted (cond (acquired p && b) (heardFrom (at n p)) (at n p)) (M.Update a sequence status net))) .neighbour .phase ≡ Up)
+        × ((onUpdate g (recounted (cond (acquired p && b) (heardFrom (at n p)) (at n p)) (M.Update a sequence status net))) .reply ≡ Nothing)
     go Up e true = (refl, refl)
     go Up e false = (refl, refl)
     go Idle e b = never (sym (ap isUp e))

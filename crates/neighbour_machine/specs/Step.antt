@@ -5,7 +5,7 @@ use Rattle.message.specs.declared.Message.the-variants as M
 use Rattle.neighbour.specs.declared.Settings.{Settings}
 use Rattle.neighbour.specs.declared.Neighbour.{Neighbour}
 use Rattle.neighbour_messages.specs.declared.Head.{Head}
-use Rattle.neighbour.specs.Rules.{offerOf, commanded, noted}
+use Rattle.neighbour.specs.Rules.{offerOf, commanded, noted, recounted}
 use Rattle.neighbour_machine.specs.declared.Event.{Event}
 use Rattle.neighbour_machine.specs.declared.Event.the-variants.{Received, Start, Stop, Tick}
 use Rattle.neighbour_machine.specs.declared.After.{After}
@@ -26,9 +26,10 @@ onMessage g asn n (M.Update a sequence status net) head = onUpdate g n
 -- 01: "An Error received changes nothing."
 onMessage g asn n (M.Error a sequence status reason first second third) head = quiet n
 
--- 01: "An event is a message, Start, Stop or a tick". A command sets R first, an indication is noted, then the row is carried out.
+-- 01: "An event is a message, Start, Stop or a tick". A command sets R first, an indication is noted, a Hello or a Poll
+-- starts its count anew, then the row is carried out.
 unfoldable pub stepOf : Settings → ℕ → Neighbour → Event → Head → After
-stepOf g asn n (Received m) head = onMessage g asn (noted (commanded n m) m) m head
+stepOf g asn n (Received m) head = onMessage g asn (recounted (noted (commanded n m) m) m) m head
 stepOf g asn n Start head = onStart g n
 stepOf g asn n Stop head = onStop g n
 stepOf g asn n Tick head = onTick g n

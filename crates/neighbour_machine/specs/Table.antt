@@ -1,5 +1,5 @@
 -- 01's table of "One neighbour": a definition for each row, its cells in the order Idle, Acquisition, Down, Up, Cease.
--- A row is given the record once R is set by a command and an indication is noted.
+-- A row is given the record once R is set by a command, an indication is noted, and a Hello's or a Poll's count zeroed.
 use Prim.Native.Nat.{ℕ}
 use mathlib.Core.Bool.{cond}
 use lib.Dec.{eqb}

@@ -5,7 +5,7 @@ use lib.Dec.{eqb}
 use Rattle.message.specs.declared.Message.{Message}
 use Rattle.neighbour.specs.declared.Settings.{Settings}
 use Rattle.neighbour.specs.declared.Neighbour.{Neighbour}
-use Rattle.neighbour.specs.Record.{P3, under, isIdle, withTimers, shifted, polled}
+use Rattle.neighbour.specs.Record.{P3, under, isIdle, withTimers, shifted, polled, aged}
 use Rattle.neighbour.specs.Rules.{judged}
 use Rattle.neighbour_messages.specs.Sent.{requestMessage, ceaseMessage, pollMessage}
 use Rattle.neighbour_machine.specs.declared.After.{After}
@@ -55,8 +55,11 @@ tickOn g n =
     (pollsInUp g (listens g n))
     (repeats n (ceaseMessage g n))
 
--- 01: "Tick: Idle does nothing. Else take 1 from t3; at 0 it is Stop and the tick ends."
+-- 01: "Else take 1 from t3; at 0 it is Stop and the tick ends."
+unfoldable pub tickOutside : Settings → Neighbour → After
+tickOutside g n = cond (eqb (n .t3 - 1) 0) (expired g n) (tickOn g (withTimers n (n .t1) (n .t2) (n .t3 - 1)))
+
+-- 01: "Tick: Idle does nothing."; 02, L5: "Every tick carried out outside Idle adds one to each", so also the one on
+-- which t3 ends; where it ends in Idle, Idle zeroes them
 unfoldable pub onTick : Settings → Neighbour → After
-onTick g n =
-    cond (isIdle (n .phase)) (quiet n)
-    (cond (eqb (n .t3 - 1) 0) (expired g n) (tickOn g (withTimers n (n .t1) (n .t2) (n .t3 - 1))))
+onTick g n = cond (isIdle (n .phase)) (quiet n) (tickOutside g (aged n))

@@ -14,7 +14,7 @@ pub fn step(settings: Settings, asn: u16, n: Neighbour, event: Event, head: Head
     match event {
         Event::Received(m) => {
             let noted = neighbour::note(neighbour::set_r(n, m), m);
-            neighbour_transitions::on_message(settings, asn, noted, m, head)
+            neighbour_transitions::on_message(settings, asn, neighbour::recount(noted, m), m, head)
         }
         Event::Start => neighbour_transitions::on_start(settings, n),
         Event::Stop => neighbour_transitions::on_stop(settings, n),

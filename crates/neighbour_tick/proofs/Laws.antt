@@ -10,11 +10,11 @@ use Rattle.neighbour.specs.declared.Settings.{Settings}
 use Rattle.neighbour.specs.declared.Neighbour.{Neighbour}
 use Rattle.neighbour.specs.declared.Phase.{Phase}
 use Rattle.neighbour.specs.declared.Phase.the-variants.{Up}
-use Rattle.neighbour.specs.Record.{under, isIdle, withTimers, shifted}
+use Rattle.neighbour.specs.Record.{under, isIdle, withTimers, shifted, aged}
 use Rattle.neighbour.specs.Rules.{judged}
 use Rattle.neighbour_machine.specs.declared.After.{After}
 use Rattle.neighbour_machine.specs.Table.{quiet, answers, helloIf}
-use Rattle.neighbour_machine.specs.Tick.{expired, repeats, listens, polls, takesT2, pollsInUp, tickOn, onTick}
+use Rattle.neighbour_machine.specs.Tick.{expired, repeats, listens, polls, takesT2, pollsInUp, tickOn, tickOutside, onTick}
 
 -- a timer at 1 or less reaches 0
 pub reaches : (t : ℕ) → t ≤ 1 → eqb (t - 1) 0 ≡ true
@@ -45,14 +45,17 @@ module _ (n : Neighbour) where
     unfolding onTick
     ticks-idle e = rw e
 
-    module _ (e : isIdle (n .phase) ≡ false) where
-      pub ticks-last : n .t3 ≤ 1 → expired g n ≡ onTick g n
-      unfolding onTick
-      ticks-last h = rw (e, reaches (n .t3) h)
+    pub ticks-outside : isIdle (n .phase) ≡ false → tickOutside g (aged n) ≡ onTick g n
+    unfolding onTick
+    ticks-outside e = rw e
 
-      pub ticks-on : 1 < n .t3 → tickOn g (withTimers n (n .t1) (n .t2) (n .t3 - 1)) ≡ onTick g n
-      unfolding onTick
-      ticks-on h = rw (e, goes-on (n .t3) h)
+    pub ticks-last : n .t3 ≤ 1 → expired g n ≡ tickOutside g n
+    unfolding tickOutside
+    ticks-last h = rw (reaches (n .t3) h)
+
+    pub ticks-on : 1 < n .t3 → tickOn g (withTimers n (n .t1) (n .t2) (n .t3 - 1)) ≡ tickOutside g n
+    unfolding tickOutside
+    ticks-on h = rw (goes-on (n .t3) h)
 
 module _ (g : Settings) (x : After) where
   pub takes-last : x .neighbour .t2 ≤ 1 → polls g x ≡ takesT2 g x
@@ -74,14 +77,20 @@ in-up : (p : Phase) → p ≡ Up → (a b c d e : After) → d ≡ under p a b c
 unfolding under
 in-up p e a b c d f = rw e
 
-pub only-counts : (n : Neighbour) (g : Settings) → n .phase ≡ Up → 1 < n .t1 → 1 < n .t2 → 1 < n .t3
-    → quiet (withTimers n (n .t1 - 1) (n .t2 - 1) (n .t3 - 1)) ≡ onTick g n
+counts-outside : (n : Neighbour) (g : Settings) → n .phase ≡ Up → 1 < n .t1 → 1 < n .t2 → 1 < n .t3
+    → quiet (withTimers n (n .t1 - 1) (n .t2 - 1) (n .t3 - 1)) ≡ tickOutside g n
 unfolding tickOn pollsInUp quiet withTimers
-only-counts n g up one two three =
+counts-outside n g up one two three =
     let m = withTimers n (n .t1) (n .t2) (n .t3 - 1) in
     let x = quiet (withTimers n (n .t1 - 1) (n .t2) (n .t3 - 1)) in
     takes-one g x two
     ∙ in-up (n .phase) up _ _ _ _ _
     ∙ ap (pollsInUp g) (listens-later m g one)
     ∙ in-up (n .phase) up _ _ _ _ _
-    ∙ ticks-on n g (not-idle (n .phase) up) three
+    ∙ ticks-on n g three
+
+pub only-counts : (n : Neighbour) (g : Settings) → n .phase ≡ Up → 1 < n .t1 → 1 < n .t2 → 1 < n .t3
+    → quiet (withTimers (aged n) (n .t1 - 1) (n .t2 - 1) (n .t3 - 1)) ≡ onTick g n
+unfolding aged
+only-counts n g up one two three =
+    counts-outside (aged n) g up one two three ∙ ticks-outside n g (not-idle (n .phase) up)

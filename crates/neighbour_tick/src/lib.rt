@@ -3,7 +3,7 @@ ghost use mathlib.Core.Path.{_≡_};
 ghost use mathlib.Core.Bool.{true};
 ghost use Prim.Native.Nat.{_<_};
 ghost use Rattle.neighbour_machine.specs.Table.{quiet};
-ghost use Rattle.neighbour_machine.specs.Tick.{expired, repeats, listens, polls, pollsOnEntry, takesT2, pollsInUp, tickOn, onTick};
+ghost use Rattle.neighbour_machine.specs.Tick.{expired, repeats, listens, polls, pollsOnEntry, takesT2, pollsInUp, tickOn, tickOutside, onTick};
 use message::Message;
 use neighbour::Neighbour;
 use neighbour::P3;
@@ -121,6 +121,18 @@ fn run(settings: Settings, n: Neighbour) -> After
     }
 }
 
+// A tick outside Idle, once the counts have gone up.
+fn tick_outside(settings: Settings, n: Neighbour) -> After
+    ensures { λ r. ⌜ r ≡ tickOutside settings n ⌝ }
+{
+    if n.t3 <= 1 {
+        return expire(settings, n);
+    }
+    let mut next = n;
+    next.t3 = n.t3 - 1;
+    run(settings, next)
+}
+
 pub fn on_tick(settings: Settings, n: Neighbour) -> After
     ensures { λ r. ⌜ r ≡ onTick settings n ⌝ }
 {
@@ -128,12 +140,7 @@ pub fn on_tick(settings: Settings, n: Neighbour) -> After
     if neighbour::is_idle(phase) {
         return neighbour_transitions::keep(n);
     }
-    if n.t3 <= 1 {
-        return expire(settings, n);
-    }
-    let mut next = n;
-    next.t3 = n.t3 - 1;
-    run(settings, next)
+    tick_outside(settings, neighbour::age(n))
 }
 
 // Whether all three timers run on after the next tick.
@@ -169,7 +176,7 @@ pub fn count_down(n: Neighbour) -> Neighbour
     ensures { λ r. ⌜ ((settings : Settings) → quiet r ≡ onTick settings n) ⌝ }
     ensures { λ r. ⌜ r .phase ≡ Phase.Up ⌝ }
 {
-    let mut left = n;
+    let mut left = neighbour::age(n);
     left.t1 = n.t1 - 1;
     left.t2 = n.t2 - 1;
     left.t3 = n.t3 - 1;

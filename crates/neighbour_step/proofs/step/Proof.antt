@@ -12,6 +12,9 @@ set-r-requires c κs = search needs
 note-requires : tie.Need-note-requires
 note-requires c κs = search needs
 
+recount-requires : tie.Need-recount-requires
+recount-requires c κs = search needs
+
 on-message-requires : tie.Need-on-message-requires
 on-message-requires c κs = search needs
 
@@ -35,7 +38,7 @@ on-tick-requires c κs = search needs
 
 returns : tie.Need-returns
 unfolding stepOf
-returns c = rw (c .before .before .before .before .event .given .1) (rw (c .before .note .ensures, c .before .before .set-r .ensures) at (c .on-message .ensures))
+returns c = rw (c .before .before .before .before .before .event .given .1) (rw (c .before .recount .ensures, c .before .before .note .ensures, c .before .before .before .set-r .ensures) at (c .on-message .ensures))
 
 returns-2 : tie.Need-returns-2
 unfolding stepOf
@@ -56,6 +59,7 @@ step-spec =
     enum-known-event
     set-r-requires
     note-requires
+    recount-requires
     on-message-requires
     enum-told
     on-start-requires

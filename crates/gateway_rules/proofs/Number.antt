@@ -3,7 +3,7 @@ use Prim.Native.Nat.{ℕ}
 use native.Mathlib.Omega.{arith}
 use borrow.Author.Tests.{eqb-true, eqb-false}
 use mathlib.Core.Path.{_≡_, refl, sym, _∙_, ap}
-use mathlib.Core.Bool.{Bool, true, false, cond, _&&_, false≢true}
+use mathlib.Core.Bool.{Bool, true, false, cond, not, _&&_, false≢true}
 use mathlib.Core.List.{List}
 use lib.Dec.{eqb}
 use Rattle.checks.specs.Checks.{check, ifOk}
@@ -24,13 +24,14 @@ use Rattle.neighbour.specs.declared.Phase.{Phase}
 use Rattle.neighbour.specs.declared.Settings.{Settings}
 use Rattle.neighbour.specs.declared.Neighbour.{Neighbour}
 use Rattle.neighbour.specs.Record.{isUp}
-use Rattle.neighbour.specs.Rules.{same, inSequence}
-use Rattle.gateway_rules.specs.Number.{sequenceFits, bringsRows, bodyNumber, messageNumber}
+use Rattle.neighbour.specs.Rules.{same, inSequence, tooQuick}
+use Rattle.gateway_rules.specs.Number.{sequenceFits, spacingFits, bringsRows, bodyNumber, messageNumber}
 use lib.ListN.{length}
 
--- 13 to 15, of a message that was read
+-- 13, 21, 14 and 15, of a message that was read
 unfoldable pub meaningNumber : ℕ → Settings → Neighbour → List ℕ → Message → ℕ
-meaningNumber room g n o m = check (inSequence n m) 13 (cond (same (kindOf m) K.Update && isUp (n .phase)) (bodyNumber room (g .net) o) 0)
+meaningNumber room g n o m =
+    check (inSequence n m) 13 (check (not (tooQuick n m)) 21 (cond (same (kindOf m) K.Update && isUp (n .phase)) (bodyNumber room (g .net) o) 0))
 
 -- 10 to 12 before them
 unfoldable pub kindNumber : ℕ → Settings → Neighbour → List ℕ → Decoded → ℕ
@@ -62,14 +63,14 @@ three-then true true true rest = refl
 
 module _ (room : ℕ) (g : Settings) (n : Neighbour) (o : List ℕ) where
   kind-then : (k : Known)
-      → check (isKnown k) 10 (check (statusFits k o) 11 (check (lengthFits k o) 12 (check (sequenceFits n k o) 13 (cond (bringsRows (n .phase) k) (bodyNumber room (g .net) o) 0))))
+      → check (isKnown k) 10 (check (statusFits k o) 11 (check (lengthFits k o) 12 (check (sequenceFits n k o) 13 (check (spacingFits n k o) 21 (cond (bringsRows (n .phase) k) (bodyNumber room (g .net) o) 0)))))
       ≡ kindNumber room g n o (decodeAs k o)
-  unfolding check isKnown statusFits lengthFits sequenceFits bringsRows decodeAs kindNumber meaningNumber
+  unfolding check isKnown statusFits lengthFits sequenceFits spacingFits bringsRows decodeAs kindNumber meaningNumber
   kind-then Unknown = refl
   kind-then (Is kind) = go (statusAllowed kind (statusAt o)) (lengthAllowed kind (length o))
     where
       go : (s l : Bool)
-          → cond s (cond l (cond (inSequence n (meaningOf kind o)) (cond (same kind K.Update && isUp (n .phase)) (bodyNumber room (g .net) o) 0) 13) 12) 11
+          → cond s (cond l (cond (inSequence n (meaningOf kind o)) (cond (not (tooQuick n (meaningOf kind o))) (cond (same kind K.Update && isUp (n .phase)) (bodyNumber room (g .net) o) 0) 21) 13) 12) 11
           ≡ kindNumber room g n o (cond s (cond l (D.Good (meaningOf kind o)) D.BadLength) D.BadStatus)
       go false l = refl
       go true false = refl
@@ -111,6 +112,7 @@ pub record NumberPassed (room : ℕ) (g : Settings) (asn : ℕ) (n : Neighbour) 
   pub message : Message
   pub read : decodeOf o ≡ D.Good message
   pub sequence : inSequence n message ≡ true
+  pub spacing : not (tooQuick n message) ≡ true
   pub brings : bringsRows (n .phase) (kindIn o) ≡ (same (kindOf message) K.Update && isUp (n .phase))
   pub body : (same (kindOf message) K.Update && isUp (n .phase)) ≡ true → updateOf room (g .net) o ≡ accepted (rowsRead (updateOf room (g .net) o))
 
@@ -135,14 +137,16 @@ module _ (room : ℕ) (g : Settings) (asn : ℕ) (n : Neighbour) (o : List ℕ) 
   unfolding kindNumber meaningNumber decodeOf
   kind-passed h f (D.Good m) e z =
       let p = check-passed (inSequence n m) 13 _ refl z in
+      let q = check-passed (not (tooQuick n m)) 21 _ refl (p .1) in
       record {
         header = h;
         from = f;
         message = m;
         read = e;
         sequence = p .0;
+        spacing = q .0;
         brings = brings-as (n .phase) o (kindIn o) m e;
-        body = body-passed (same (kindOf m) K.Update && isUp (n .phase)) (p .1);
+        body = body-passed (same (kindOf m) K.Update && isUp (n .phase)) (q .1);
       }
   kind-passed h f D.UnknownKind e z = absurd (omega (arith, z))
   kind-passed h f D.BadStatus e z = absurd (omega (arith, z))

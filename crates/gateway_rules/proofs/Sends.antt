@@ -45,7 +45,8 @@ module _ (g : Settings) where
       (λ _. cond-elim (λ (r : Reply). maySend g r ≡ true) (leb 10 k && leb k 12) _ _ (λ _. error-sends n o 1)
       (λ _. cond-elim (λ (r : Reply). maySend g r ≡ true) (eqb k 14) _ _ (λ _. error-sends n o 2)
       (λ _. cond-elim (λ (r : Reply). maySend g r ≡ true) (eqb k 15) _ _ (λ _. error-sends n o 0)
-      (λ _. refl))))
+      (λ _. cond-elim (λ (r : Reply). maySend g r ≡ true) (eqb k 21) _ _ (λ _. error-sends n o 4)
+      (λ _. refl)))))
 
   pub stepped-sends : (asn : ℕ) (n : Neighbour) (event : Event) (head : Head) → maySend g ((stepped n (stepOf g asn n event head)) .reply) ≡ true
   unfolding stepped

@@ -1,4 +1,4 @@
--- The number of a message from one neighbour, and the reply by the number: 01's checks 6 to 15 and the column "Reply".
+-- The number of a message from one neighbour, and the reply by the number: 01's checks 6 to 15, 02's 21, and the column "Reply".
 use Prim.Native.Nat.{ℕ}
 use mathlib.Core.Bool.{Bool, false, cond, not, _&&_}
 use mathlib.Core.List.{List}
@@ -17,7 +17,7 @@ use Rattle.neighbour.specs.declared.Phase.{Phase}
 use Rattle.neighbour.specs.declared.Settings.{Settings}
 use Rattle.neighbour.specs.declared.Neighbour.{Neighbour}
 use Rattle.neighbour.specs.Record.{isIdle, acquired, isUp}
-use Rattle.neighbour.specs.Rules.{same, inSequence}
+use Rattle.neighbour.specs.Rules.{same, inSequence, tooQuick}
 use Rattle.neighbour_messages.specs.declared.Head.{Head}
 use Rattle.neighbour_messages.specs.Sent.{refuseMessage, errorMessage}
 use Rattle.neighbour_machine.specs.declared.Reply.{Reply}
@@ -27,6 +27,11 @@ use Rattle.neighbour_machine.specs.declared.Reply.the-variants.{Nothing, One}
 unfoldable pub sequenceFits : Neighbour → Known → List ℕ → Bool
 sequenceFits n Unknown o = false
 sequenceFits n (Is kind) o = inSequence n (meaningOf kind o)
+
+-- 21 (02, L5) "a Hello less than 30 ticks, or a Poll less than 120 ticks, after the last one carried out"
+unfoldable pub spacingFits : Neighbour → Known → List ℕ → Bool
+spacingFits n Unknown o = false
+spacingFits n (Is kind) o = not (tooQuick n (meaningOf kind o))
 
 -- whether the blocks are read: those of an Update that finds its neighbour Up
 unfoldable pub bringsRows : Phase → Known → Bool
@@ -49,8 +54,9 @@ messageNumber room g asn n o =
     (check (statusFits (kindIn o) o) 11
     (check (lengthFits (kindIn o) o) 12
     (check (sequenceFits n (kindIn o) o) 13
+    (check (spacingFits n (kindIn o) o) 21
     (cond (bringsRows (n .phase) (kindIn o)) (bodyNumber room (g .net) o)
-    0))))))))
+    0)))))))))
 
 -- 01: "the first 12 octets, zero-filled"
 unfoldable pub errorHead : List ℕ → Head
@@ -67,11 +73,13 @@ refuseTo g n o =
     cond (isIdle (n .phase) && eqb (getD o 1 0) 3 && eqb (getD o 2 0) 0 && plainStatus (statusAt o) && eqb (length o) 14)
     (One (refuseMessage g (sequenceAt o) 4)) Nothing
 
--- 01's column "Reply": to 9 a Refuse, to 10, 11 and 12 Error 1, to 14 Error 2, to 15 Error 0, else none
+-- 01's column "Reply": to 9 a Refuse, to 10, 11 and 12 Error 1, to 14 Error 2, to 15 Error 0; 02, L5: to 21
+-- Error 4; else none
 unfoldable pub namedReply : Settings → Neighbour → List ℕ → ℕ → Reply
 namedReply g n o answer =
     cond (eqb answer 9) (refuseTo g n o)
     (cond (leb 10 answer && leb answer 12) (errorTo g n o 1)
     (cond (eqb answer 14) (errorTo g n o 2)
     (cond (eqb answer 15) (errorTo g n o 0)
-    Nothing)))
+    (cond (eqb answer 21) (errorTo g n o 4)
+    Nothing))))

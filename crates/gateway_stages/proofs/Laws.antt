@@ -3,7 +3,7 @@ use Prim.Native.Nat.{ℕ, _<_, _≤_}
 use native.Mathlib.Omega.{arith}
 use borrow.Author.Tests.{eq-eqb, ne-eqb, eqb-true, eqb-false, le-leb, lt-leb}
 use mathlib.Core.Path.{_≡_, refl, sym, _∙_, ap}
-use mathlib.Core.Bool.{Bool, true, false, cond, _&&_, false≢true}
+use mathlib.Core.Bool.{Bool, true, false, cond, not, _&&_, false≢true}
 use mathlib.Core.List.{List, [], _∷_}
 use lib.Dec.{eqb}
 use lib.ListN.{length}
@@ -32,7 +32,7 @@ use Rattle.codec.proofs.Laws.{OtherKind}
 use Rattle.neighbour.specs.declared.Settings.{Settings}
 use Rattle.neighbour.specs.declared.Neighbour.{Neighbour}
 use Rattle.neighbour.specs.Record.{isUp}
-use Rattle.neighbour.specs.Rules.{same, inSequence}
+use Rattle.neighbour.specs.Rules.{same, inSequence, tooQuick}
 use Rattle.neighbour_machine.specs.declared.Event.the-variants.{Received}
 use Rattle.neighbour_machine.specs.declared.Reply.{Reply}
 use Rattle.neighbour_machine.specs.declared.Reply.the-variants.{Nothing}
@@ -144,18 +144,22 @@ module _ (g : Settings) (n : Neighbour) (o : List ℕ) (k : ℕ) where
   unfolding namedReply
   reply-15 e = rw e
 
+  pub reply-21 : k ≡ 21 → errorTo g n o 4 ≡ namedReply g n o k
+  unfolding namedReply
+  reply-21 e = rw e
+
   pub reply-kind : 10 ≤ k → k ≤ 12 → errorTo g n o 1 ≡ namedReply g n o k
   unfolding namedReply
   reply-kind low high = rw (ne-eqb k 9 (λ e. absurd (omega (arith, low, e))), le-leb 10 k low, le-leb k 12 high)
 
-  module _ (nine : k ≡ 9 → ⊥) (fourteen : k ≡ 14 → ⊥) (fifteen : k ≡ 15 → ⊥) where
+  module _ (nine : k ≡ 9 → ⊥) (fourteen : k ≡ 14 → ⊥) (fifteen : k ≡ 15 → ⊥) (twenty-one : k ≡ 21 → ⊥) where
     pub reply-low : k < 10 → Nothing ≡ namedReply g n o k
     unfolding namedReply
-    reply-low h = rw (ne-eqb k 9 nine, lt-leb 10 k h, ne-eqb k 14 fourteen, ne-eqb k 15 fifteen)
+    reply-low h = rw (ne-eqb k 9 nine, lt-leb 10 k h, ne-eqb k 14 fourteen, ne-eqb k 15 fifteen, ne-eqb k 21 twenty-one)
 
     pub reply-high : 12 < k → Nothing ≡ namedReply g n o k
     unfolding namedReply
-    reply-high h = rw (ne-eqb k 9 nine, le-leb 10 k (omega (arith, h)), lt-leb k 12 h, ne-eqb k 14 fourteen, ne-eqb k 15 fifteen)
+    reply-high h = rw (ne-eqb k 9 nine, le-leb 10 k (omega (arith, h)), lt-leb k 12 h, ne-eqb k 14 fourteen, ne-eqb k 15 fifteen, ne-eqb k 21 twenty-one)
 
 -- ---- a message that was read
 
@@ -174,7 +178,11 @@ module _ (room : ℕ) (g : Settings) (asn : ℕ) (n : Neighbour) (o : List ℕ) 
   unfolding meaningNumber check
   taken-13 e = refused-as 13 (λ z. absurd (omega (arith, z))) (rw e)
 
-  module _ (s : inSequence n m ≡ true) where
+  pub taken-21 : inSequence n m ≡ true → tooQuick n m ≡ true → refuses n 21 (namedReply g n o 21) ≡ receiveRuling room g asn n o
+  unfolding meaningNumber check
+  taken-21 s e = refused-as 21 (λ z. absurd (omega (arith, z))) (rw (s, e))
+
+  module _ (s : inSequence n m ≡ true) (t : tooQuick n m ≡ false) where
     carried-as : meaningNumber room g n o m ≡ 0 → carriedOut room g n o (stepOf g asn n (Received m) (errorHead o)) ≡ receiveRuling room g asn n o
     unfolding receiveRuling takenStep ifOk
     carried-as e = let f = number-is ∙ e in rw f (rw (r .meaning) refl)
@@ -182,7 +190,7 @@ module _ (room : ℕ) (g : Settings) (asn : ℕ) (n : Neighbour) (o : List ℕ) 
     pub taken-step : (same (kindOf m) K.Update && isUp (n .phase)) ≡ false → stepped n (stepOf g asn n (Received m) (errorHead o)) ≡ receiveRuling room g asn n o
     unfolding meaningNumber check stepped carriedOut changeBy decodeOf
     taken-step b =
-        rw (brings-as (n .phase) o (kindIn o) m (r .meaning), b) at (carried-as (rw (s, b)))
+        rw (brings-as (n .phase) o (kindIn o) m (r .meaning), b) at (carried-as (rw (s, t, b)))
 
     pub taken-update : (same (kindOf m) K.Update && isUp (n .phase)) ≡ true
         → takenUpdate g n o (stepOf g asn n (Received m) (errorHead o)) (updateOf room (g .net) o) ≡ receiveRuling room g asn n o
@@ -190,6 +198,6 @@ module _ (room : ℕ) (g : Settings) (asn : ℕ) (n : Neighbour) (o : List ℕ) 
     taken-update b = go (updateOf room (g .net) o) refl
       where
         go : (u : UpdateRead) → updateOf room (g .net) o ≡ u → takenUpdate g n o (stepOf g asn n (Received m) (errorHead o)) u ≡ receiveRuling room g asn n o
-        go (accepted rows) e = rw (brings-as (n .phase) o (kindIn o) m (r .meaning), b, e) at (carried-as (rw (s, b, e)))
-        go (brokenAt k) e = refused-as 14 (λ z. absurd (omega (arith, z))) (rw (s, b, e))
-        go tooMany e = refused-as 15 (λ z. absurd (omega (arith, z))) (rw (s, b, e))
+        go (accepted rows) e = rw (brings-as (n .phase) o (kindIn o) m (r .meaning), b, e) at (carried-as (rw (s, t, b, e)))
+        go (brokenAt k) e = refused-as 14 (λ z. absurd (omega (arith, z))) (rw (s, t, b, e))
+        go tooMany e = refused-as 15 (λ z. absurd (omega (arith, z))) (rw (s, t, b, e))

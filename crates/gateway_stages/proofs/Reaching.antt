@@ -1,12 +1,13 @@
 -- Laws of a Hello or an I-H-U in Up: what they leave is the machine's step, and the rows stay. Assumes nothing.
-use Prim.Native.Nat.{ℕ}
-use borrow.Author.Tests.{eq-eqb}
+use Prim.Native.Nat.{ℕ, _≤_}
+use borrow.Author.Tests.{eq-eqb, le-ltb}
 use mathlib.Core.Path.{_≡_, refl, sym, _∙_, ap}
 use mathlib.Core.Bool.{Bool, true, false, cond, not, _&&_, false≢true}
 use mathlib.Core.List.{List, [], _∷_}
 use types.Run.{OneOf, miss}
 use denote.Enum.Declared.{tagOf}
 use Rattle.message.specs.Kinds.{kindOf, sequenceOf, statusOf}
+use Rattle.message.specs.declared.Kind.the-variants as K
 use Rattle.message.specs.declared.Message.{Message}
 use Rattle.message.specs.declared.Message.the-variants.{Request, Confirm, Refuse, Cease, CeaseAck, Hello, IHeardYou, Poll, Update, Error}
 use Rattle.message.proofs.Message.{the-type}
@@ -14,8 +15,8 @@ use Rattle.neighbour.specs.declared.Phase.{Phase}
 use Rattle.neighbour.specs.declared.Phase.the-variants as P
 use Rattle.neighbour.specs.declared.Settings.{Settings}
 use Rattle.neighbour.specs.declared.Neighbour.{Neighbour}
-use Rattle.neighbour.specs.Record.{under, isIdle, acquired, isUp, withNumbers, withReach, heardFrom}
-use Rattle.neighbour.specs.Rules.{isCommand, inSequence, commanded, indicates, noted}
+use Rattle.neighbour.specs.Record.{under, isIdle, acquired, isUp, withNumbers, withReach, withCounts, heardFrom}
+use Rattle.neighbour.specs.Rules.{same, isCommand, inSequence, commanded, indicates, noted, tooQuick, recounted}
 use Rattle.neighbour_messages.specs.Sent.{iHeardYouMessage}
 use Rattle.neighbour_machine.specs.declared.Event.the-variants.{Received}
 use Rattle.neighbour_machine.specs.declared.Reply.{Reply}
@@ -38,9 +39,9 @@ up-is P.Cease e = absurd (false≢true e)
 -- ---- whether a message is one
 
 module _ (n : Neighbour) (m : Message) (up : isUp (n .phase) ≡ true) (a q s : ℕ) where
-  pub reach-hello : m ≡ Hello a q s → Reach n m
+  pub reach-hello : m ≡ Hello a q s → 30 ≤ n .sincehello → Reach n m
   unfolding Reach
-  reach-hello e = rw e (up-is (n .phase) up)
+  reach-hello e f = rw e (up-is (n .phase) up, f)
 
   pub reach-heard : m ≡ IHeardYou a q s → q ≡ n .s → Reach n m
   unfolding Reach
@@ -80,7 +81,7 @@ module _ (g : Settings) (n : Neighbour) where
 
 -- ---- what it leaves
 
--- neither a command nor an indication moves the neighbour
+-- neither a command nor an indication nor a count moves the neighbour
 module _ (n : Neighbour) (m : Message) where
   commanded-phase : (commanded n m) .phase ≡ n .phase
   unfolding commanded withNumbers
@@ -98,6 +99,14 @@ module _ (n : Neighbour) (m : Message) where
       go true = refl
       go false = refl
 
+  recounted-phase : (recounted n m) .phase ≡ n .phase
+  unfolding recounted
+  recounted-phase = go (acquired (n .phase))
+    where
+      go : (b : Bool) → (cond b (withCounts n (cond (same (kindOf m) K.Hello) 0 (n .sincehello)) (cond (same (kindOf m) K.Poll) 0 (n .sincepoll))) n) .phase ≡ n .phase
+      go true = refl
+      go false = refl
+
 in-up : (p : Phase) → p ≡ P.Up → (a b c d e : After) → d ≡ under p a b c d e
 unfolding under
 in-up p e a b c d f = rw e
@@ -108,35 +117,35 @@ keeps n after p q = rw (p, q)
 
 module _ (g : Settings) (n : Neighbour) (room asn : ℕ) (o : List ℕ) where
   after : Message → After
-  after m = record { neighbour = noted (commanded n m) m; reply = says g (noted (commanded n m) m) m }
+  after m = record { neighbour = recounted (noted (commanded n m) m) m; reply = says g (recounted (noted (commanded n m) m) m) m }
 
-  stays : (m : Message) → n .phase ≡ P.Up → (noted (commanded n m) m) .phase ≡ P.Up
-  stays m up = noted-phase (commanded n m) m ∙ commanded-phase n m ∙ up
+  stays : (m : Message) → n .phase ≡ P.Up → (recounted (noted (commanded n m) m) m) .phase ≡ P.Up
+  stays m up = recounted-phase (noted (commanded n m) m) m ∙ noted-phase (commanded n m) m ∙ commanded-phase n m ∙ up
 
   reached : (m : Message) → Reach n m → ReadAs asn o m → keeping (after m) ≡ receiveRuling room g asn n o
-  unfolding Reach after says stepOf onMessage onHello onIHeardYou answers quiet inSequence
+  unfolding Reach after says stepOf onMessage onHello onIHeardYou answers quiet inSequence tooQuick
   reached (Request a q s hello poll) k r = absurd k
   reached (Confirm a q s hello poll) k r = absurd k
   reached (Refuse a q s) k r = absurd k
   reached (Cease a q s) k r = absurd k
   reached (CeaseAck a q s) k r = absurd k
-  reached (Hello a q s) up r =
+  reached (Hello a q s) k r =
       let m = Hello a q s in
-      keeps n (after m) up (stays m up)
-      ∙ ap (stepped n) (in-up ((noted (commanded n m) m) .phase) (stays m up) _ _ _ _ _)
-      ∙ taken-step room g asn n o m r (rw up) refl
+      keeps n (after m) (k .0) (stays m (k .0))
+      ∙ ap (stepped n) (in-up ((recounted (noted (commanded n m) m) m) .phase) (stays m (k .0)) _ _ _ _ _)
+      ∙ taken-step room g asn n o m r (rw (k .0)) (rw (k .0, le-ltb (n .sincehello) 30 (k .1))) refl
   reached (IHeardYou a q s) k r =
       let m = IHeardYou a q s in
       keeps n (after m) (k .0) (stays m (k .0))
-      ∙ ap (stepped n) (in-up ((noted (commanded n m) m) .phase) (stays m (k .0)) _ _ _ _ _)
-      ∙ taken-step room g asn n o m r (rw (k .0, eq-eqb q (n .s) (k .1))) refl
+      ∙ ap (stepped n) (in-up ((recounted (noted (commanded n m) m) m) .phase) (stays m (k .0)) _ _ _ _ _)
+      ∙ taken-step room g asn n o m r (rw (k .0, eq-eqb q (n .s) (k .1))) (rw (k .0)) refl
   reached (Poll a q s net) k r = absurd k
   reached (Update a q s net) k r = absurd k
   reached (Error a q s reason first second third) k r = absurd k
 
 -- the same, by what the code's calls gave
-module _ (g : Settings) (n : Neighbour) (m : Message) (k : Reach n m) (x y : Neighbour) (f : x ≡ commanded n m) (h : y ≡ noted x m) (reply : Reply) where
-  pub left-by : reply ≡ says g y m → (room asn : ℕ) (o : List ℕ) → ReadAs asn o m
-      → keeping (record { neighbour = y; reply = reply }) ≡ receiveRuling room g asn n o
+module _ (g : Settings) (n : Neighbour) (m : Message) (k : Reach n m) (x y z : Neighbour) (f : x ≡ commanded n m) (h : y ≡ noted x m) (l : z ≡ recounted y m) (reply : Reply) where
+  pub left-by : reply ≡ says g z m → (room asn : ℕ) (o : List ℕ) → ReadAs asn o m
+      → keeping (record { neighbour = z; reply = reply }) ≡ receiveRuling room g asn n o
   unfolding after
-  left-by e room asn o r = rw (e, h, f) (reached g n room asn o m k r)
+  left-by e room asn o r = rw (e, l, h, f) (reached g n room asn o m k r)

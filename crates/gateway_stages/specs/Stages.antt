@@ -1,5 +1,5 @@
 -- The stages in which the message call finds a message's number.
-use Prim.Native.Nat.{ℕ}
+use Prim.Native.Nat.{ℕ, _≤_}
 use mathlib.Core.List.{List}
 use mathlib.Core.Path.{_≡_}
 use lib.Dec.{eqb}
@@ -33,14 +33,14 @@ takenUpdate g n o after (accepted rows) =
 takenUpdate g n o after (brokenAt offset) = refuses n (Body.updateNumber (brokenAt offset)) (namedReply g n o (Body.updateNumber (brokenAt offset)))
 takenUpdate g n o after tooMany = refuses n (Body.updateNumber tooMany) (namedReply g n o (Body.updateNumber tooMany))
 
--- a Hello in Up, or an I-H-U there that carries S
+-- a Hello in Up that doesn't come too soon, or an I-H-U there that carries S
 unfoldable pub Reach : Neighbour → Message → Type 0
 Reach n (M.Request a q s hello poll) = ⊥
 Reach n (M.Confirm a q s hello poll) = ⊥
 Reach n (M.Refuse a q s) = ⊥
 Reach n (M.Cease a q s) = ⊥
 Reach n (M.CeaseAck a q s) = ⊥
-Reach n (M.Hello a q s) = n .phase ≡ Up
+Reach n (M.Hello a q s) = (n .phase ≡ Up) × (30 ≤ n .sincehello)
 Reach n (M.IHeardYou a q s) = (n .phase ≡ Up) × (q ≡ n .s)
 Reach n (M.Poll a q s net) = ⊥
 Reach n (M.Update a q s net) = ⊥

@@ -1,4 +1,4 @@
-// What becomes of one neighbour: the machine's step, or for a message from it the checks 6 to 15 stage by stage, then
+// What becomes of one neighbour: the machine's step, or for a message from it the checks 6 to 15 and 21 stage by stage, then
 // the machine's step.
 use gateway_rules::Effect;
 use gateway_rules::Verdict;
@@ -116,6 +116,9 @@ pub fn reply_to(settings: Settings, n: Neighbour, message: &[u8], number: u8) ->
     if number == 15 {
         return error_to(settings, n, message, 0);
     }
+    if number == 21 {
+        return error_to(settings, n, message, 4);
+    }
     if number < 10 {
         return Reply::Nothing;
     }
@@ -199,7 +202,7 @@ fn take_update(
     }
 }
 
-// A message that passed 6 to 12: checks 13 to 15, then the machine.
+// A message that passed 6 to 12: checks 13, 21, 14 and 15, then the machine.
 pub fn take(
     settings: Settings,
     asn: u16,
@@ -214,6 +217,9 @@ pub fn take(
     if !neighbour::in_sequence(n, m) {
         return refuse(settings, n, message, 13);
     }
+    if neighbour::is_too_quick(n, m) {
+        return refuse(settings, n, message, 21);
+    }
     let phase = n.phase;
     if brings_rows(phase, m) {
         return take_update(settings, asn, n, message, m, room);
@@ -221,7 +227,7 @@ pub fn take(
     step_verdict(n, step_for(settings, asn, n, message, m))
 }
 
-// Whether a message is a Hello in Up, or an I-H-U there that carries S.
+// Whether a message is a Hello in Up that doesn't come too soon, or an I-H-U there that carries S.
 pub fn tells_reach(n: Neighbour, m: Message) -> bool
     ensures { λ r. ⌜ (r ≡ true → Reach n m) ⌝ }
 {
@@ -234,7 +240,7 @@ pub fn tells_reach(n: Neighbour, m: Message) -> bool
         sequence: _,
         status: _,
     } = m {
-        return true;
+        return 30 <= n.sincehello;
     }
     if let Message::IHeardYou {
         asn: _,
@@ -251,7 +257,7 @@ pub fn note_reach(settings: Settings, n: Neighbour, m: Message) -> After
     requires { ⌜ Reach n m ⌝ }
     ensures { λ r. ⌜ ((room asn : ℕ) (o : List ℕ) → ReadAs asn o m → keeping r ≡ receiveRuling room settings asn n o) ⌝ }
 {
-    let next = neighbour::note(neighbour::set_r(n, m), m);
+    let next = neighbour::recount(neighbour::note(neighbour::set_r(n, m), m), m);
     if let Message::Hello {
         asn: _,
         sequence: _,

@@ -77,7 +77,7 @@ module _ (g : Settings) (n : Neighbour) (o : List ℕ) where
       go : (b : Bool) → leb k 8 ≡ b → (b || eqb k 13) ≡ true → namedReply g n o k ≡ Nothing
       go true e q =
           let l = leb-true k 8 e in
-          rw (ne-eqb k 9 (λ z. absurd (omega arith)), lt-leb 10 k (omega arith), ne-eqb k 14 (λ z. absurd (omega arith)), ne-eqb k 15 (λ z. absurd (omega arith)))
+          rw (ne-eqb k 9 (λ z. absurd (omega arith)), lt-leb 10 k (omega arith), ne-eqb k 14 (λ z. absurd (omega arith)), ne-eqb k 15 (λ z. absurd (omega arith)), ne-eqb k 21 (λ z. absurd (omega arith)))
       go false e q = rw (eqb-true k 13 q)
 
 -- ---- the calls

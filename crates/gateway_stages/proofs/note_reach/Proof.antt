@@ -12,6 +12,9 @@ set-r-requires c κs = search needs
 note-requires : tie.Need-note-requires
 note-requires c κs = search needs
 
+recount-requires : tie.Need-recount-requires
+recount-requires c κs = search needs
+
 enum-told : tie.Need-enum-told
 enum-told c = search needs
 
@@ -19,10 +22,10 @@ i-heard-you-message-requires : tie.Need-i-heard-you-message-requires
 i-heard-you-message-requires c κs = search needs
 
 returns : tie.Need-returns
-returns c = left-by _ _ _ (c .before .before .before .before .before .pre) _ _ (c .before .before .before .before .set-r .ensures) (c .before .before .before .note .ensures) _ (ap One (c .i-heard-you-message .ensures) ∙ hello-says _ _ _ _ _ _ (c .before .enum-told .given .1))
+returns c = left-by _ _ _ (c .before .before .before .before .before .before .pre) _ _ _ (c .before .before .before .before .before .set-r .ensures) (c .before .before .before .before .note .ensures) (c .before .before .before .recount .ensures) _ (ap One (c .i-heard-you-message .ensures) ∙ hello-says _ _ _ _ _ _ (c .before .enum-told .given .1))
 
 returns-2 : tie.Need-returns-2
-returns-2 c = left-by _ _ _ (c .before .before .before .pre) _ _ (c .before .before .set-r .ensures) (c .before .note .ensures) _ (other-says _ _ (c .before .before .before .args .m) (c .match .keys2))
+returns-2 c = left-by _ _ _ (c .before .before .before .before .pre) _ _ _ (c .before .before .before .set-r .ensures) (c .before .before .note .ensures) (c .before .recount .ensures) _ (other-says _ _ (c .before .before .before .before .args .m) (c .match .keys2))
 
 pub note-reach-spec : {M : Type 1} → statement M
 note-reach-spec =
@@ -30,6 +33,7 @@ note-reach-spec =
     (tie.spec
     set-r-requires
     note-requires
+    recount-requires
     enum-told
     i-heard-you-message-requires
     returns

@@ -1,5 +1,5 @@
 -- `gateway_stages::tells_reach` meets its contract. Assumes nothing.
-use borrow.Author.Tests.{eqb-true, not-false}
+use borrow.Author.Tests.{eqb-true, leb-true, not-false}
 use mathlib.Core.Path.{sym, _∙_}
 use mathlib.Core.Bool.{false≢true}
 use Rattle.gateway_stages.proofs.Reaching.{reach-hello, reach-heard}
@@ -17,7 +17,7 @@ enum-told : tie.Need-enum-told
 enum-told c = search needs
 
 returns-2 : tie.Need-returns-2
-returns-2 c = λ _. reach-hello _ _ (sym (c .before .before .before .is-up .ensures) ∙ not-false (c .before .before .before .is-up .result) (c .before .before .if1 .left)) _ _ _ (c .enum-told .given .1)
+returns-2 c = λ e. reach-hello _ _ (sym (c .before .before .before .before .is-up .ensures) ∙ not-false (c .before .before .before .before .is-up .result) (c .before .before .before .if1 .left)) _ _ _ (c .before .enum-told .given .1) (leb-true _ _ e)
 
 enum-known-m : tie.Need-enum-known-m
 enum-known-m c = search needs

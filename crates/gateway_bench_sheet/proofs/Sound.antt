@@ -23,7 +23,7 @@ use Rattle.neighbour.specs.declared.Mode.{Mode}
 use Rattle.neighbour.specs.declared.Mode.the-variants.{Unset, Active, Passive}
 use Rattle.neighbour.specs.declared.Settings.{Settings}
 use Rattle.neighbour.specs.declared.Neighbour.{Neighbour}
-use Rattle.neighbour.specs.Record.{withNumbers, withState, idle}
+use Rattle.neighbour.specs.Record.{withNumbers, withState, withCounts, idle}
 use Rattle.neighbour_machine.specs.declared.Reply.{Reply}
 use Rattle.neighbour_machine.specs.declared.Reply.the-variants.{Nothing, One, Two}
 use Rattle.gateway_state.specs.declared.Slot.{Slot}
@@ -111,8 +111,10 @@ mode-from Passive = refl
 
 abbrev neighbourFrom : List ℕ → Neighbour
 neighbourFrom l =
-    withState (withNumbers idle (at 0 l) (at 1 l))
-    (phaseFrom (at 7 l)) (modeFrom (at 8 l)) (at 2 l) (at 3 l) (at 4 l) (at 5 l) (at 6 l) (at 9 l) (at 10 l) (at 11 l)
+    withCounts
+    (withState (withNumbers idle (at 0 l) (at 1 l))
+    (phaseFrom (at 7 l)) (modeFrom (at 8 l)) (at 2 l) (at 3 l) (at 4 l) (at 5 l) (at 6 l) (at 9 l) (at 10 l) (at 11 l))
+    (at 12 l) (at 13 l)
 
 neighbour-from : (n : Neighbour) → neighbourFrom (neighbourNumbers n) ≡ n
 unfolding neighbourNumbers withNumbers

@@ -55,13 +55,13 @@ sameMeaning (Refused k) (Refused l) = eqb k l
 unfoldable pub sameReading : Reading → Reading → Bool
 sameReading a b = sameMeaning (a .meaning) (b .meaning) && eqb (a .count) (b .count) && sameNumbers (a .rows) (b .rows)
 
--- a neighbour's record, all twelve fields
+-- a neighbour's record, all fourteen fields
 unfoldable pub neighbourNumbers : Neighbour → List ℕ
 neighbourNumbers n =
     n .s ∷ n .r ∷ n .period1 ∷ n .period2 ∷ n .t1 ∷ n .t2 ∷ n .t3 ∷ phaseNumber (n .phase) ∷ modeNumber (n .mode)
-    ∷ n .register ∷ n .heard ∷ n .cause ∷ []
+    ∷ n .register ∷ n .heard ∷ n .cause ∷ n .sincehello ∷ n .sincepoll ∷ []
 
--- the same in all twelve fields
+-- the same in all fourteen fields
 unfoldable pub sameNeighbour : Neighbour → Neighbour → Bool
 sameNeighbour m n = sameNumbers (neighbourNumbers m) (neighbourNumbers n)
 

@@ -6,12 +6,12 @@ use mathlib.Core.List.{List, [], _∷_}
 use Rattle.checks.specs.Lists.{every}
 use Rattle.message.specs.declared.Message.the-variants.{Request, Confirm, Refuse, Hello, Poll, Update, Error}
 use Rattle.neighbour.specs.declared.Phase.{Phase}
-use Rattle.neighbour.specs.declared.Phase.the-variants.{Idle, Acquisition, Down, Up}
+use Rattle.neighbour.specs.declared.Phase.the-variants.{Idle, Acquisition, Down, Up, Cease}
 use Rattle.neighbour.specs.declared.Mode.{Mode}
 use Rattle.neighbour.specs.declared.Mode.the-variants.{Unset, Active, Passive}
 use Rattle.neighbour.specs.declared.Settings.{Settings}
 use Rattle.neighbour.specs.declared.Neighbour.{Neighbour}
-use Rattle.neighbour.specs.Record.{withNumbers, withState, idle}
+use Rattle.neighbour.specs.Record.{withNumbers, withState, withCounts, idle}
 use Rattle.neighbour_machine.specs.declared.Event.the-variants.{Received, Tick}
 use Rattle.neighbour_machine.specs.declared.Reply.the-variants.{Nothing, One, Two}
 use Rattle.gateway_state.specs.declared.Slot.{Slot}
@@ -43,9 +43,18 @@ nine = record { asn = 9; own = ours; capability = 0; net = common }
 unfoldable pub seven : Settings
 seven = record { asn = 7; own = theirs; capability = 0; net = common }
 
+-- 02, L5: ticks since a Hello and since a Poll, "holding at 120", "zeroed in Idle"
+unfoldable pub settled : Phase → ℕ
+settled Idle = 0
+settled Acquisition = 120
+settled Down = 120
+settled Up = 120
+settled Cease = 120
+
 -- a neighbour's record without a cause: state, M, S, R, T1, T2, t1, t2, t3, register, heard
 unfoldable pub neighbourAs : Phase → Mode → ℕ → ℕ → ℕ → ℕ → ℕ → ℕ → ℕ → ℕ → ℕ → Neighbour
-neighbourAs phase mode s r hello poll t1 t2 t3 register heard = withState (withNumbers idle s r) phase mode hello poll t1 t2 t3 register heard 0
+neighbourAs phase mode s r hello poll t1 t2 t3 register heard =
+    withCounts (withState (withNumbers idle s r) phase mode hello poll t1 t2 t3 register heard 0) (settled phase) (settled phase)
 
 -- a neighbour in Idle: all zero
 unfoldable pub resting : Neighbour

@@ -15,6 +15,7 @@ check-sheet =
       settings = refl;
       kinds = refl;
       sequences = refl;
+      spacings = refl;
       bodies = refl;
       writings = refl;
       listings = refl;

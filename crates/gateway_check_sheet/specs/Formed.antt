@@ -5,7 +5,7 @@ use Rattle.neighbour.specs.declared.Phase.the-variants.{Idle, Acquisition, Down
 use Rattle.neighbour.specs.declared.Mode.the-variants.{Unset, Active, Passive}
 use Rattle.gateway_state.specs.declared.Slot.{Slot}
 use Rattle.gateway_state.specs.declared.State.{State}
-use Rattle.gateway_check_sheet.specs.Given.{ip, common, ours, theirs, others, set, nine, made, resting, asking, falling, reporting, slot, vacant, state, withoutNeighbours, nothing, inSlotTwo, full}
+use Rattle.gateway_check_sheet.specs.Given.{ip, common, ours, theirs, others, set, nine, made, since, resting, asking, falling, reporting, slot, vacant, state, withoutNeighbours, nothing, inSlotTwo, full}
 use Rattle.gateway_check_sheet.specs.Line.{Line, remove}
 
 -- To remove address 0, which no used slot has, answers 1 where the state is not well formed, else 5.
@@ -98,6 +98,8 @@ forms =
     unformed (beside (slot 0 0 (made Idle 0 0 0 0 Unset 0 0 0 1 0 0) 0)) ∷
     unformed (beside (slot 0 0 (made Idle 0 0 0 0 Unset 0 0 0 0 1 0) 0)) ∷
     unformed (beside (slot 0 0 (made Idle 0 0 0 0 Unset 0 0 0 0 0 1) 0)) ∷
+    unformed (beside (slot 0 0 (since 1 0 resting) 0)) ∷
+    unformed (beside (slot 0 0 (since 0 1 resting) 0)) ∷
     unformed (beside (slot 0 0 resting 1)) ∷
     unformed (beside (slot 0 0 (made Acquisition 0 0 0 0 Unset 0 0 0 0 0 0) 0)) ∷
     unformed (beside (slot 0 0 (made Down 0 0 0 0 Unset 0 0 0 0 0 0) 0)) ∷
@@ -125,6 +127,9 @@ forms =
     unformed (inSlotTwo (made Idle 0 0 0 0 Unset 30 0 120 0 0 0) 0) ∷
     unformed (inSlotTwo (made Idle 65535 0 0 0 Unset 0 0 0 0 0 0) 0) ∷
     unformed (inSlotTwo (made Idle 0 65535 0 0 Unset 0 0 0 0 0 0) 0) ∷
+    unformed (inSlotTwo (since 1 0 resting) 0) ∷
+    unformed (inSlotTwo (since 0 1 resting) 0) ∷
+    unformed (inSlotTwo (since 120 120 resting) 0) ∷
     -- Idle: "row count .. 0 unless Up"
     unformed (inSlotTwo (made Idle 0 0 0 0 Unset 0 0 0 0 0 0) 1) ∷
     -- Acquisition: "Sequence numbers are any 16 bits"
@@ -157,6 +162,14 @@ forms =
     unformed (inSlotTwo (made Acquisition 3 5 0 0 Unset 20 0 100 0 0 1) 0) ∷
     unformed (inSlotTwo (made Acquisition 3 5 0 0 Unset 20 0 100 0 0 5) 0) ∷
     unformed (inSlotTwo (made Acquisition 3 5 0 0 Unset 20 0 100 0 0 6) 0) ∷
+    -- Acquisition: 02, L5: "both to be at most 120"
+    formed (inSlotTwo (since 0 0 (made Acquisition 3 5 0 0 Unset 20 0 100 0 0 0)) 0) ∷
+    formed (inSlotTwo (since 120 0 (made Acquisition 3 5 0 0 Unset 20 0 100 0 0 0)) 0) ∷
+    formed (inSlotTwo (since 0 120 (made Acquisition 3 5 0 0 Unset 20 0 100 0 0 0)) 0) ∷
+    unformed (inSlotTwo (since 121 0 (made Acquisition 3 5 0 0 Unset 20 0 100 0 0 0)) 0) ∷
+    unformed (inSlotTwo (since 0 121 (made Acquisition 3 5 0 0 Unset 20 0 100 0 0 0)) 0) ∷
+    unformed (inSlotTwo (since 255 120 (made Acquisition 3 5 0 0 Unset 20 0 100 0 0 0)) 0) ∷
+    unformed (inSlotTwo (since 120 255 (made Acquisition 3 5 0 0 Unset 20 0 100 0 0 0)) 0) ∷
     -- Acquisition: "row count .. 0 unless Up"
     unformed (inSlotTwo (made Acquisition 3 5 0 0 Unset 20 0 100 0 0 0) 1) ∷
     -- Down: "Sequence numbers are any 16 bits"
@@ -205,6 +218,14 @@ forms =
     unformed (inSlotTwo (made Down 3 5 32 122 Passive 20 0 100 4 0 1) 0) ∷
     unformed (inSlotTwo (made Down 3 5 32 122 Passive 20 0 100 4 0 5) 0) ∷
     unformed (inSlotTwo (made Down 3 5 32 122 Passive 20 0 100 4 0 6) 0) ∷
+    -- Down: 02, L5: "both to be at most 120"
+    formed (inSlotTwo (since 0 0 (made Down 3 5 32 122 Passive 20 0 100 4 0 0)) 0) ∷
+    formed (inSlotTwo (since 120 0 (made Down 3 5 32 122 Passive 20 0 100 4 0 0)) 0) ∷
+    formed (inSlotTwo (since 0 120 (made Down 3 5 32 122 Passive 20 0 100 4 0 0)) 0) ∷
+    unformed (inSlotTwo (since 121 0 (made Down 3 5 32 122 Passive 20 0 100 4 0 0)) 0) ∷
+    unformed (inSlotTwo (since 0 121 (made Down 3 5 32 122 Passive 20 0 100 4 0 0)) 0) ∷
+    unformed (inSlotTwo (since 255 120 (made Down 3 5 32 122 Passive 20 0 100 4 0 0)) 0) ∷
+    unformed (inSlotTwo (since 120 255 (made Down 3 5 32 122 Passive 20 0 100 4 0 0)) 0) ∷
     -- Down: "row count .. 0 unless Up"
     unformed (inSlotTwo (made Down 3 5 32 122 Passive 20 0 100 4 0 0) 1) ∷
     -- Up: "Sequence numbers are any 16 bits"
@@ -254,6 +275,14 @@ forms =
     unformed (inSlotTwo (made Up 3 5 32 122 Active 20 60 100 7 0 1) 0) ∷
     unformed (inSlotTwo (made Up 3 5 32 122 Active 20 60 100 7 0 5) 0) ∷
     unformed (inSlotTwo (made Up 3 5 32 122 Active 20 60 100 7 0 6) 0) ∷
+    -- Up: 02, L5: "both to be at most 120"
+    formed (inSlotTwo (since 0 0 (made Up 3 5 32 122 Active 20 60 100 7 0 0)) 0) ∷
+    formed (inSlotTwo (since 120 0 (made Up 3 5 32 122 Active 20 60 100 7 0 0)) 0) ∷
+    formed (inSlotTwo (since 0 120 (made Up 3 5 32 122 Active 20 60 100 7 0 0)) 0) ∷
+    unformed (inSlotTwo (since 121 0 (made Up 3 5 32 122 Active 20 60 100 7 0 0)) 0) ∷
+    unformed (inSlotTwo (since 0 121 (made Up 3 5 32 122 Active 20 60 100 7 0 0)) 0) ∷
+    unformed (inSlotTwo (since 255 120 (made Up 3 5 32 122 Active 20 60 100 7 0 0)) 0) ∷
+    unformed (inSlotTwo (since 120 255 (made Up 3 5 32 122 Active 20 60 100 7 0 0)) 0) ∷
     -- Up: "row count at most 128"
     formed (inSlotTwo (made Up 3 5 32 122 Active 20 60 100 7 0 0) 0) ∷
     formed (inSlotTwo (made Up 3 5 32 122 Active 20 60 100 7 0 0) 1) ∷
@@ -291,6 +320,14 @@ forms =
     formed (inSlotTwo (made Cease 3 5 0 0 Unset 20 0 100 0 0 5) 0) ∷
     formed (inSlotTwo (made Cease 3 5 0 0 Unset 20 0 100 0 0 6) 0) ∷
     unformed (inSlotTwo (made Cease 3 5 0 0 Unset 20 0 100 0 0 7) 0) ∷
+    -- Cease: 02, L5: "both to be at most 120"
+    formed (inSlotTwo (since 0 0 (made Cease 3 5 0 0 Unset 20 0 100 0 0 6)) 0) ∷
+    formed (inSlotTwo (since 120 0 (made Cease 3 5 0 0 Unset 20 0 100 0 0 6)) 0) ∷
+    formed (inSlotTwo (since 0 120 (made Cease 3 5 0 0 Unset 20 0 100 0 0 6)) 0) ∷
+    unformed (inSlotTwo (since 121 0 (made Cease 3 5 0 0 Unset 20 0 100 0 0 6)) 0) ∷
+    unformed (inSlotTwo (since 0 121 (made Cease 3 5 0 0 Unset 20 0 100 0 0 6)) 0) ∷
+    unformed (inSlotTwo (since 255 120 (made Cease 3 5 0 0 Unset 20 0 100 0 0 6)) 0) ∷
+    unformed (inSlotTwo (since 120 255 (made Cease 3 5 0 0 Unset 20 0 100 0 0 6)) 0) ∷
     -- Cease: "row count .. 0 unless Up"
     unformed (inSlotTwo (made Cease 3 5 0 0 Unset 20 0 100 0 0 6) 1) ∷
     []

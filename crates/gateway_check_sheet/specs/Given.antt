@@ -11,7 +11,7 @@ use Rattle.neighbour.specs.declared.Mode.{Mode}
 use Rattle.neighbour.specs.declared.Mode.the-variants.{Unset, Active, Passive}
 use Rattle.neighbour.specs.declared.Settings.{Settings}
 use Rattle.neighbour.specs.declared.Neighbour.{Neighbour}
-use Rattle.neighbour.specs.Record.{withNumbers, withState, idle}
+use Rattle.neighbour.specs.Record.{withNumbers, withState, withCounts, idle}
 use Rattle.gateway_state.specs.declared.Slot.{Slot}
 use Rattle.gateway_state.specs.declared.State.{State}
 
@@ -58,10 +58,22 @@ set asn own capability net = record { asn = asn; own = own; capability = capabil
 unfoldable pub nine : Settings
 nine = set 9 ours 0 common
 
+-- ticks since a Hello and since a Poll, as A and B leave them: 120 outside Idle
+unfoldable pub settled : Phase → ℕ
+settled Idle = 0
+settled Acquisition = 120
+settled Down = 120
+settled Up = 120
+settled Cease = 120
+
 -- state, S, R, T1, T2, M, t1, t2, t3, register, heard, cause
 unfoldable pub made : Phase → ℕ → ℕ → ℕ → ℕ → Mode → ℕ → ℕ → ℕ → ℕ → ℕ → ℕ → Neighbour
 made phase s r hello poll mode t1 t2 t3 register heard cause =
-    withState (withNumbers idle s r) phase mode hello poll t1 t2 t3 register heard cause
+    withCounts (withState (withNumbers idle s r) phase mode hello poll t1 t2 t3 register heard cause) (settled phase) (settled phase)
+
+-- the same with these counts
+unfoldable pub since : ℕ → ℕ → Neighbour → Neighbour
+since hello poll n = withCounts n hello poll
 
 -- a record in each state; S is 3 and R is 5 outside Idle
 unfoldable pub resting : Neighbour

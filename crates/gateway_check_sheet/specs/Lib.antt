@@ -13,4 +13,5 @@ pub mod Writings
 pub mod Listings
 pub mod Effects
 pub mod Indications
+pub mod Spacings
 pub mod Sheet

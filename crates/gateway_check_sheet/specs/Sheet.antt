@@ -12,6 +12,7 @@ use Rattle.gateway_check_sheet.specs.Homes.{homes}
 use Rattle.gateway_check_sheet.specs.Settings.{settingLines}
 use Rattle.gateway_check_sheet.specs.Kinds.{kinds}
 use Rattle.gateway_check_sheet.specs.Sequences.{sequences}
+use Rattle.gateway_check_sheet.specs.Spacings.{spacings}
 use Rattle.gateway_check_sheet.specs.Bodies.{bodies}
 use Rattle.gateway_check_sheet.specs.Writings.{writings}
 use Rattle.gateway_check_sheet.specs.Listings.{listings}
@@ -38,6 +39,8 @@ pub record CheckSheet : Type 0 where
   pub kinds : map computed kinds ≡ map written kinds
   -- 13: "response out of sequence"
   pub sequences : map computed sequences ≡ map written sequences
+  -- 21: a Hello or a Poll that comes too soon
+  pub spacings : map Indications.computed spacings ≡ map Indications.written spacings
   -- 14 and 15: an Update's body
   pub bodies : map computed bodies ≡ map written bodies
   -- 16 from the writer

@@ -13,14 +13,14 @@ use Rattle.neighbour.specs.declared.Settings.{Settings}
 use Rattle.neighbour.specs.declared.Neighbour.{Neighbour}
 use Rattle.neighbour.specs.declared.Offer.{Offer}
 use Rattle.neighbour.specs.declared.Offer.the-variants.{Acceptable, Unacceptable}
-use Rattle.neighbour.specs.Record.{under, idle, isIdle, leftIdle, withNumbers, withTimers, withReach, waiting, initialised, shifted, leaveUp, polled, isUp}
-use Rattle.neighbour.specs.Rules.{offerOf, commanded, noted, onesOf, goesDown, judged}
+use Rattle.neighbour.specs.Record.{under, idle, isIdle, leftIdle, withNumbers, withTimers, withReach, waiting, initialised, shifted, leaveUp, polled, aged, isUp}
+use Rattle.neighbour.specs.Rules.{offerOf, commanded, noted, recounted, onesOf, goesDown, judged}
 use Rattle.neighbour.proofs.Laws.{at-up}
 use Rattle.neighbour_messages.specs.declared.Head.{Head}
 use Rattle.neighbour_machine.specs.declared.Event.the-variants.{Received, Start, Stop, Tick}
 use Rattle.neighbour_machine.specs.declared.After.{After}
 use Rattle.neighbour_machine.specs.Table.{quiet, answers, says, helloIf, doesA, ceases, repeatsCease, acquires, onRequest, onCease, onStart, onStop}
-use Rattle.neighbour_machine.specs.Tick.{expired, listens, polls, takesT2, pollsInUp, tickOn, onTick}
+use Rattle.neighbour_machine.specs.Tick.{expired, listens, polls, takesT2, pollsInUp, tickOn, tickOutside, onTick}
 use Rattle.neighbour_machine.specs.Step.{onMessage, stepOf}
 
 -- the neighbour after it is not Up
@@ -80,27 +80,27 @@ requested g n q Unacceptable = under-elim NotUp (n .phase) _ _ _ _ _ (λ e. ap i
 pub reacquired : (g : Settings) (asn : ℕ) (n : Neighbour) (head : Head) (a q s hello poll : ℕ) → NotUp (stepOf g asn n (Received (M.Request a q s hello poll)) head)
 unfolding stepOf onMessage
 reacquired g asn n head a q s hello poll =
-    requested g (noted (commanded n (M.Request a q s hello poll)) (M.Request a q s hello poll)) q (offerOf g asn s hello poll)
+    requested g (recounted (noted (commanded n (M.Request a q s hello poll)) (M.Request a q s hello poll)) (M.Request a q s hello poll)) q (offerOf g asn s hello poll)
 
 -- ---- the clock
 
--- a second less on t3
+-- a tick's beginning outside Idle: the counts go up, a second less on t3
 abbrev pub later : Neighbour → Neighbour
-later n = withTimers n (n .t1) (n .t2) (n .t3 - 1)
+later n = withTimers (aged n) (n .t1) (n .t2) (n .t3 - 1)
 
 -- one tick in Up: t3 ran out, or what follows
 tick-up : (P : After → Type 0) (g : Settings) (asn : ℕ) (n : Neighbour) (head : Head) → n .phase ≡ Up
-    → P (onStop g n) → P (pollsInUp g (listens g (later n))) → P (stepOf g asn n Tick head)
-unfolding stepOf onTick expired tickOn withTimers
+    → P (onStop g (aged n)) → P (pollsInUp g (listens g (later n))) → P (stepOf g asn n Tick head)
+unfolding stepOf onTick tickOutside aged expired tickOn withTimers
 tick-up P g asn n head e p q =
     cond-elim P (isIdle (n .phase)) _ _ (λ i. absurd (false≢true (sym (ap isIdle e) ∙ i)))
     (λ _. cond-elim P (eqb (n .t3 - 1) 0) _ _ (λ _. p) (λ _. up-under P (n .phase) _ _ _ _ _ e q))
 
 pub timed-out : (g : Settings) (asn : ℕ) (n : Neighbour) (head : Head) → n .phase ≡ Up → n .t3 ≡ 1 → NotUp (stepOf g asn n Tick head)
-unfolding stepOf onTick expired
+unfolding stepOf onTick tickOutside aged expired
 timed-out g asn n head e t =
     cond-elim NotUp (isIdle (n .phase)) _ _ (λ i. absurd (false≢true (sym (ap isIdle e) ∙ i)))
-    (λ _. cond-elim NotUp (eqb (n .t3 - 1) 0) _ _ (λ _. stop-up g n e) (λ f. absurd (true≢false (sym (ap (λ (k : ℕ). eqb (k - 1) 0) t) ∙ f))))
+    (λ _. cond-elim NotUp (eqb (n .t3 - 1) 0) _ _ (λ _. stop-up g (aged n) e) (λ f. absurd (true≢false (sym (ap (λ (k : ℕ). eqb (k - 1) 0) t) ∙ f))))
 
 -- what a tick that is not Up leaves is not polled
 left-up : (g : Settings) (x : After) → NotUp x → NotUp (pollsInUp g x)
@@ -117,7 +117,7 @@ judged-up P n e p q = up-under P (n .phase) _ _ _ _ _ e (cond-elim P (goesDown (
 -- t1 ran out and the register says Down
 quieted : (g : Settings) (n : Neighbour) → n .phase ≡ Up → n .t1 ≡ 1 → goesDown (n .mode) (onesOf ((n .register * 2 + n .heard) % 16)) ≡ true
     → NotUp (listens g (later n))
-unfolding listens quiet shifted leaveUp withTimers withReach
+unfolding listens quiet shifted leaveUp aged withTimers withReach
 quieted g n e t d =
     cond-elim NotUp (eqb (n .t1 - 1) 0) _ _
     (λ _. hello-not-up _ g _ (judged-up (λ k. isUp (k .phase) ≡ false) (shifted (later n)) e (λ _. refl) (λ f. absurd (true≢false (sym d ∙ f)))))
@@ -125,7 +125,8 @@ quieted g n e t d =
 
 pub silenced : (g : Settings) (asn : ℕ) (n : Neighbour) (head : Head) → n .phase ≡ Up → n .t1 ≡ 1
     → goesDown (n .mode) (onesOf ((n .register * 2 + n .heard) % 16)) ≡ true → NotUp (stepOf g asn n Tick head)
-silenced g asn n head e t d = tick-up NotUp g asn n head e (stop-up g n e) (left-up g (listens g (later n)) (quieted g n e t d))
+unfolding aged
+silenced g asn n head e t d = tick-up NotUp g asn n head e (stop-up g (aged n) e) (left-up g (listens g (later n)) (quieted g n e t d))
 
 -- ---- the number after 65,535
 
@@ -181,7 +182,7 @@ listens-wraps g n e s t =
 
 pub wrapped : (g : Settings) (asn : ℕ) (n : Neighbour) (head : Head) → n .phase ≡ Up → n .s ≡ 65535 → n .t2 ≡ 1
     → isUp ((stepOf g asn n Tick head) .neighbour .phase) ≡ true → (stepOf g asn n Tick head) .neighbour .s ≡ 0
-unfolding withTimers
+unfolding withTimers aged
 wrapped g asn n head e s t =
     tick-up (λ x. isUp (x .neighbour .phase) ≡ true → x .neighbour .s ≡ 0) g asn n head e
-    (λ u. absurd (false≢true (sym (stop-up g n e) ∙ u))) (listens-wraps g (later n) e s t)
+    (λ u. absurd (false≢true (sym (stop-up g (aged n) e) ∙ u))) (listens-wraps g (later n) e s t)

@@ -3,23 +3,24 @@ use Prim.Native.Nat.{ℕ, _+_, _*_, _%_}
 use mathlib.Core.Path.{_≡_, refl}
 use mathlib.Core.Bool.{Bool, true, false, _&&_}
 use mathlib.Core.List.{List, [], _∷_, _++_}
-use lib.Dec.{eqb}
+use lib.Dec.{ltb, eqb}
 use lib.ListN.{length}
 use Rattle.neighbour.specs.declared.Phase.the-variants.{Up}
 use Rattle.neighbour.specs.declared.Mode.the-variants.{Passive}
 use Rattle.neighbour.specs.declared.Neighbour.{Neighbour}
-use Rattle.neighbour.specs.Record.{isUp, withNumbers, withTimers, withReach, initialised}
+use Rattle.neighbour.specs.Record.{isUp, acquired, withNumbers, withTimers, withReach, initialised}
 use Rattle.neighbour.specs.Rules.{onesOf, goesDown}
 use Rattle.checks.specs.Lists.{every}
 use Rattle.gateway_state.specs.Formed.{stateFormed}
 use Rattle.codec_writing.specs.Octets.{messageOctets}
-use Rattle.message.specs.declared.Message.the-variants.{Update}
+use Rattle.message.specs.declared.Message.the-variants.{Hello, Update}
 use Rattle.model.specs.Model.{Call, tick, receive, peerWith, newPeer, Slot, free, used, Model, slotIn, step, modelFrom, empty}
 use Rattle.model.specs.History.{isUpSlot, accepts}
 use Rattle.model.specs.Theorem.{cell, stateOf, rowsHeld}
-use Rattle.model.specs.Windows.{recordIn, restartsNone, windows, latest}
+use Rattle.model.specs.Windows.{recordIn, brings, restartsNone, windows, latest}
 use Rattle.model.specs.Corollaries.{reports}
-use Rattle.model.specs.Example.{someSettings, lentBuffer, classA, tickSeconds, saysHello, reportingCalls, eight, pollRounds, almostUp, slow, lateFirst}
+use Rattle.model.specs.Quick.{helloComes, isOtherHello, helloEveryTick}
+use Rattle.model.specs.Example.{someSettings, lentBuffer, classA, tickSeconds, saysHello, reportingCalls, eight, pollRounds, almostUp, acquiredCalls, greeted, helloSeconds, slow, lateFirst}
 use Rattle.model.proofs.Unfolded.{opened}
 
 -- ---- what is claimed of a model: single fields, so that others may be added to a record
@@ -71,6 +72,12 @@ pub record Rests (m : Model) (s register heard t1 t2 t3 : ℕ) : Type 0 where
 unfoldable pub entered : List Call
 entered = almostUp ++ (tick 1 lentBuffer ∷ [])
 
+-- the first is in Down or Up with AS 7, and the next Hello or Poll comes too soon
+unfoldable pub greetedFacts : Model → Bool
+greetedFacts m =
+    eqb ((cell (slotIn m 0)) .asn) 7
+    && (acquired ((recordIn m 0) .phase) && (ltb ((recordIn m 0) .sincehello) 30 && ltb ((recordIn m 0) .sincepoll) 120))
+
 pub record Computed : Type 0 where
   pub all-up : eightFacts (modelFrom (empty someSettings) eight) ≡ true
   pub silent : silentFacts (modelFrom (empty someSettings) (eight ++ tickSeconds 1 609)) ≡ true
@@ -91,9 +98,17 @@ pub record Computed : Type 0 where
   pub last : latest (modelFrom (empty someSettings) entered) 0 [] (slow 1 129) ≡ classA 11 1
   pub lost : isUpSlot (slotIn (modelFrom (empty someSettings) (entered ++ slow 2 2)) 0) ≡ false
   pub taken : accepts (modelFrom (empty someSettings) entered) 0 (receive 1 (messageOctets (Update 7 1 129 2148073472) (classA 10 1)) [] lentBuffer) ≡ true
+  -- the quick one
+  pub acquired-passive : (recordIn (modelFrom (empty someSettings) acquiredCalls) 0) .mode ≡ Passive
+  pub comes : helloComes (modelFrom (empty someSettings) acquiredCalls) 0 (saysHello 1) ≡ true
+  pub zero : (step (saysHello 1) (modelFrom (empty someSettings) acquiredCalls)) .said .answer ≡ 0
+  pub every-tick : helloEveryTick (modelFrom (empty someSettings) (acquiredCalls ++ (saysHello 1 ∷ []))) 0 false (helloSeconds 1 64) ≡ true
+  pub both-heard : windows (modelFrom (empty someSettings) (acquiredCalls ++ (saysHello 1 ∷ []))) 0 true (helloSeconds 1 64) ≡ true ∷ true ∷ []
+  pub other : brings isOtherHello (modelFrom (empty someSettings) acquiredCalls) 0 (receive 1 (messageOctets (Hello 7 0 2) []) [] lentBuffer) ≡ true
+  pub greeted-so : greetedFacts (modelFrom (empty someSettings) greeted) ≡ true
 
 pub computed : Computed
-unfolding opened entered isFull allReport fallsSilent eightFacts silentFacts atRest alone
+unfolding opened entered isFull allReport fallsSilent eightFacts silentFacts atRest alone greetedFacts
 computed =
     record {
       all-up = refl;
@@ -111,4 +126,11 @@ computed =
       last = refl;
       lost = refl;
       taken = refl;
+      acquired-passive = refl;
+      comes = refl;
+      zero = refl;
+      every-tick = refl;
+      both-heard = refl;
+      other = refl;
+      greeted-so = refl;
     }

@@ -44,7 +44,7 @@ use Rattle.model.proofs.Closing.{up-stopped, up-started, timed-out, sil
 use Rattle.model.proofs.Found.{used-slot, event-slot, message-slot, message-says, event-phase, cease-move, request-move, update-answer, update-rows}
 
 -- what holds of every good model's state and table holds of every sensible one
-from-model : (P : Gateway → Type 0) → ((m : Model) → Good m → P (represent m)) → (b : Gateway) → Sensible b → P b
+pub from-model : (P : Gateway → Type 0) → ((m : Model) → Good m → P (represent m)) → (b : Gateway) → Sensible b → P b
 from-model P h b s = subst P (model-back b s) (h (modelOf b) (good-back b s))
 
 -- ---- slots of the gateway and of the model
@@ -212,10 +212,10 @@ module _ (m : Model) (ok : Good m) (j : ℕ) (j8 : j < 8) where
     abbrev before : Stored.Slot
     before = slotOn (represent m) j
 
-    abbrev mine : Peer
+    abbrev pub mine : Peer
     mine = peerFrom before (rowsHeld (slotIn m j))
 
-    here : slotIn m j ≡ used mine
+    pub here : slotIn m j ≡ used mine
     here =
         used-slot (slotIn m j) (λ e. u (ap (λ (x : Stored.Slot). x .address) (slot-is m ok j) ∙ e))
         ∙ ap (λ (x : Stored.Slot). used (peerFrom x (rowsHeld (slotIn m j)))) (sym (slot-is m ok j))

@@ -3,14 +3,14 @@ use Prim.Native.Nat.{ℕ, zero, suc, _+_, _*_, _%_, _<_}
 use native.Mathlib.Nat.{zero-add}
 use native.Mathlib.Omega.{arith}
 use mathlib.Core.Path.{_≡_, refl, sym, _∙_, ap, subst}
-use mathlib.Core.Bool.{true, false, _&&_}
+use mathlib.Core.Bool.{true, false, _&&_, true≢false}
 use mathlib.Core.List.{List, [], _∷_, _++_, append-assoc}
-use lib.Dec.{leb, eqb}
+use lib.Dec.{ltb, leb, eqb}
 use lib.ListN.{length, length-set}
-use borrow.Author.Tests.{eqb-true}
+use borrow.Author.Tests.{eqb-true, ltb-true}
 use Rattle.checks.specs.Checks.{check}
 use Rattle.checks.proofs.Laws.{and-left, and-right}
-use Rattle.neighbour.specs.Record.{isUp, withNumbers, withTimers, withReach}
+use Rattle.neighbour.specs.Record.{isUp, acquired, withNumbers, withTimers, withReach}
 use Rattle.checks.specs.Lists.{every, join}
 use Rattle.octets_checksum.specs.Checksum as Checksum
 use Rattle.nets.specs.Classes as Classes
@@ -19,7 +19,7 @@ use Rattle.nets.specs.Rows.{Row}
 use Rattle.update_rows.specs.Storing as Storing
 use Rattle.message.specs.Kinds as Kinds
 use Rattle.message.specs.declared.Message.{Message}
-use Rattle.message.specs.declared.Message.the-variants.{Request, Cease, Update}
+use Rattle.message.specs.declared.Message.the-variants.{Request, Cease, Hello, Poll, Update}
 use Rattle.message_reading.specs.Reading as Wire
 use Rattle.message_reading.specs.Reading.{headerAnswer, asnAt, decodeOf}
 use Rattle.message_writing.specs.Writing as Writing
@@ -43,18 +43,18 @@ use Rattle.gateway_slots.specs.Calls as Slots
 use Rattle.gateway_rules.specs.Home as Home
 use Rattle.gateway_rules.specs.Home.{goodHome}
 use Rattle.model.specs.Model.{Call, tick, Slot, free, used, Model, slotIn, put, step, model, modelFrom, empty}
-use Rattle.model.specs.Theorem.{Gateway, gatewayStep, run, cell, stateOf, rowsHeld, rowsAt, Sensible}
+use Rattle.model.specs.Theorem.{Gateway, outcomeOf, listsNothing, gatewayStep, run, cell, stateOf, rowsHeld, rowsAt, Sensible}
 use Rattle.model.specs.Corollaries.{Taken, slotOn, isUpOn, reports, BothReport, Says, SaysRows}
 use Rattle.model.specs.History.{isUpSlot}
 use Rattle.model.specs.Windows.{recordIn, windows, anyOf, firstFour, oneInFour}
-use Rattle.model.specs.Example.{someSettings, lentBuffer, classA, tickSeconds, saysHello, reportingCalls, eight, pollRounds, lastNumber, almostUp, slow, late, lateFirst, overdue, EightMet, TimeOutMet, FullMet, LastNumberMet, QuietMet, IndicationMet}
+use Rattle.model.specs.Example.{someSettings, lentBuffer, classA, tickSeconds, saysHello, reportingCalls, eight, pollRounds, lastNumber, almostUp, acquiredCalls, greeted, slow, late, lateFirst, overdue, EightMet, TimeOutMet, FullMet, LastNumberMet, QuietMet, IndicationMet, EverySecondMet, UnheardMet, TooQuickMet}
 use Rattle.model.proofs.Represent.{sound, Good, sound-at}
-use Rattle.model.proofs.Simulation.{represent}
+use Rattle.model.proofs.Simulation.{represent, simulates}
 use Rattle.model.proofs.History.{model-append, step-settings}
 use Rattle.model.proofs.Theorem.{step-is, rows-read, run-is, run-state, model-good, last}
 use Rattle.model.proofs.Corollaries.{slot-is, good-sensible}
 use Rattle.model.proofs.Quiet.{slot-run, up-run}
-use Rattle.model.proofs.Computed.{isFull, allReport, fallsSilent, eightFacts, silentFacts, atRest, alone, Rests, entered, computed}
+use Rattle.model.proofs.Computed.{isFull, allReport, fallsSilent, eightFacts, silentFacts, atRest, alone, Rests, entered, greetedFacts, computed}
 
 some-taken : Taken someSettings
 unfolding someSettings Slots.freshOf Slots.freshAnswer Outcomes.silentOf check Formed.goodSettings Classes.goodNet Classes.onNet Classes.netWidth Classes.hostSpan
@@ -188,6 +188,8 @@ pub record ReadBack : Type 0 where
   pub full-body : Body.updateOf 128 2148073472 (messageOctets (Update 7 1 1 2148073472) (classA 0 128)) ≡ Body.accepted (classA 0 128)
   pub full : length (classA 0 128) ≡ 128
   pub marked-update : Reads (messageOctets (Update 7 1 129 2148073472) (classA 10 1)) (Update 7 1 129 2148073472)
+  pub hello : Reads (messageOctets (Hello 7 0 1) []) (Hello 7 0 1)
+  pub poll : Reads (messageOctets (Poll 7 0 1 2148073472) []) (Poll 7 0 1 2148073472)
 
 read-back : ReadBack
 unfolding check Wire.headerAnswer Wire.meaningOf Wire.decodeAs Wire.decodeOf Wire.decodedNumber Writing.headOf Octets.plainOctets Blocks.sideRows Blocks.joined Blocks.runs Blocks.each Blocks.addressOctets Blocks.netOctets Blocks.hostOctets Blocks.netsOctets Blocks.groupOctets Blocks.groupsOctets Blocks.blockOctets Blocks.sideOctets Blocks.blocksWritten Blocks.internalBlocks Blocks.externalBlocks Kinds.kindAt Kinds.plainStatus Kinds.refusalStatus Kinds.markedStatus Checksum.onesAdd Checksum.onesSum Checksum.checksumOf Checksum.sealed Checksum.wordTotal Checksum.folded Octets.messageOctets Classes.netWidth Classes.hostSpan Classes.goodNet Classes.onNet Body.extended Body.many Body.leftJustified Body.rowOfWidth Body.netRow Body.groupRows Body.hostWidth Body.gatewayOf Body.blockRows Body.groupAt Body.blockAt Body.sidesAt Body.groupsHold Body.blocksHold Body.sidesHold Body.readAs Body.bothSides Body.nothingLeft Body.bodyOf Body.further Body.netAt Body.walkedBlocks Body.readWithin Body.updateOf Body.updateNumber Body.rowsRead classA someSettings join
@@ -201,6 +203,8 @@ read-back =
       full-body = refl;
       full = refl;
       marked-update = record { header = refl; from = refl; meaning = refl };
+      hello = record { header = refl; from = refl; meaning = refl };
+      poll = record { header = refl; from = refl; meaning = refl };
     }
 
 -- the record in the first slot of a run
@@ -460,3 +464,76 @@ quiet-met =
 pub indication-met : IndicationMet
 unfolding model entered
 indication-met = record { taken = computed .taken; says = read-back .marked-update .meaning; passive = run-passive }
+
+-- ---- a quick neighbour
+
+acquired-passive : (slotOn (run someSettings acquiredCalls) 0) .neighbour .mode ≡ Passive
+unfolding model
+acquired-passive = ap (λ (n : Neighbour). n .mode) (first-record acquiredCalls) ∙ computed .acquired-passive
+
+-- the gateway's answer to a Hello is the model's
+hello-zero : (outcomeOf (saysHello 1) (run someSettings acquiredCalls)) .answer ≡ 0
+unfolding model saysHello listsNothing
+hello-zero =
+    ap (λ (b : Gateway). (outcomeOf (saysHello 1) b) .answer) (run-is someSettings some-taken acquiredCalls)
+    ∙ simulates (model someSettings acquiredCalls) (model-good someSettings some-taken acquiredCalls) (saysHello 1) (λ f. absurd (true≢false f)) .answer
+    ∙ computed .zero
+
+pub every-second-met : EverySecondMet
+unfolding model
+every-second-met =
+    record {
+      first = record { passive = acquired-passive; comes = computed .comes; answer = hello-zero };
+      every = computed .every-tick;
+      ended = computed .both-heard;
+    }
+
+pub unheard-met : UnheardMet
+unfolding model
+unheard-met = record { passive = acquired-passive; other = computed .other }
+
+module _ (m : Model) (t : greetedFacts m ≡ true) where
+  greeted-asn : (cell (slotIn m 0)) .asn ≡ 7
+  unfolding greetedFacts
+  greeted-asn = eqb-true ((cell (slotIn m 0)) .asn) 7 (and-left _ _ t)
+
+  behind-asn : (acquired ((recordIn m 0) .phase) && (ltb ((recordIn m 0) .sincehello) 30 && ltb ((recordIn m 0) .sincepoll) 120)) ≡ true
+  unfolding greetedFacts
+  behind-asn = and-right (eqb ((cell (slotIn m 0)) .asn) 7) _ t
+
+  greeted-reached : acquired ((recordIn m 0) .phase) ≡ true
+  greeted-reached = and-left _ _ behind-asn
+
+  greeted-soon : (ltb ((recordIn m 0) .sincehello) 30 && ltb ((recordIn m 0) .sincepoll) 120) ≡ true
+  greeted-soon = and-right (acquired ((recordIn m 0) .phase)) _ behind-asn
+
+  hello-soon : (recordIn m 0) .sincehello < 30
+  hello-soon = ltb-true ((recordIn m 0) .sincehello) 30 (and-left _ _ greeted-soon)
+
+  poll-soon : (recordIn m 0) .sincepoll < 120
+  poll-soon = ltb-true ((recordIn m 0) .sincepoll) 120 (and-right (ltb ((recordIn m 0) .sincehello) 30) _ greeted-soon)
+
+greeted-facts : greetedFacts (model someSettings greeted) ≡ true
+unfolding model
+greeted-facts = computed .greeted-so
+
+says-greeted : (o : List ℕ) (x : Message) → Reads o x → Says (run someSettings greeted) 0 o [] lentBuffer x
+says-greeted o x r =
+    record {
+      room = enough;
+      good-home = ap (λ (g : Settings). goodHome g []) (run-settings greeted) ∙ home-empty;
+      header = r .header;
+      from = r .from ∙ sym (ap (λ (s : Stored.Slot). s .asn) (slot-run someSettings some-taken greeted 0) ∙ greeted-asn (model someSettings greeted) greeted-facts);
+      meaning = r .meaning;
+    }
+
+pub too-quick-met : TooQuickMet
+too-quick-met =
+    let is = sym (first-record greeted) in
+    record {
+      reached = ap (λ (n : Neighbour). acquired (n .phase)) (first-record greeted) ∙ greeted-reached _ greeted-facts;
+      hello = says-greeted _ _ (read-back .hello);
+      soon = subst (λ (n : Neighbour). n .sincehello < 30) is (hello-soon _ greeted-facts);
+      poll = says-greeted _ _ (read-back .poll);
+      as-soon = subst (λ (n : Neighbour). n .sincepoll < 120) is (poll-soon _ greeted-facts);
+    }

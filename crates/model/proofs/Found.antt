@@ -2,7 +2,7 @@
 use Prim.Native.Nat.{ℕ, _<_}
 use native.Mathlib.Omega.{arith}
 use mathlib.Core.Path.{_≡_, refl, sym, _∙_, ap}
-use mathlib.Core.Bool.{Bool, true, false, _||_}
+use mathlib.Core.Bool.{Bool, true, false, _&&_, _||_}
 use mathlib.Core.List.{List, []}
 use lib.Dec.{leb, eqb}
 use lib.ListN.{length}
@@ -17,8 +17,8 @@ use Rattle.message_reading.specs.declared.Decoded.the-variants as D
 use Rattle.update_walk.specs.Body.{accepted, updateOf, rowsRead}
 use Rattle.neighbour.specs.declared.Phase.the-variants.{Up}
 use Rattle.neighbour.specs.declared.Settings.{Settings}
-use Rattle.neighbour.specs.Record.{isIdle, isUp}
-use Rattle.neighbour.specs.Rules.{inSequence}
+use Rattle.neighbour.specs.Record.{isIdle, isUp, acquired}
+use Rattle.neighbour.specs.Rules.{inSequence, tooQuick}
 use Rattle.neighbour_machine.specs.Intrinsics.{Intrinsic, asEvent}
 use Rattle.neighbour_machine.specs.declared.Event.the-variants.{Received}
 use Rattle.neighbour_machine.specs.Step.{stepOf}
@@ -49,13 +49,13 @@ module _ (m : Model) (ok : Good m) (j : ℕ) (j8 : j < 8) where
     unfolding sound
     some-address e = eqb-false (peer .address) 0 (not-true (eqb (peer .address) 0) (sym (ap sound here) ∙ sound-at m ok j)) e
 
-    place-here : foundAt m (peer .address) ≡ j
+    pub place-here : foundAt m (peer .address) ≡ j
     unfolding cell
     place-here =
         sym (slot-of m ok (peer .address))
         ∙ slot-unique (stateOf m) (peer .address) j (eight-of m ok) (ok .formed) j8 (ap (λ (s : Stored.Slot). s .address) (at-of m ok j ∙ ap cell here)) some-address
 
-    present-here : isPresent m (peer .address) ≡ true
+    pub present-here : isPresent m (peer .address) ≡ true
     unfolding isPresent
     present-here = rw place-here (lt-ltb j 8 j8)
 
@@ -86,6 +86,11 @@ module _ (m : Model) (ok : Good m) (j : ℕ) (j8 : j < 8) where
 
 -- ---- the move itself
 
+-- a message that is neither Hello nor Poll comes never too soon
+unhurried : (b : Bool) → (b && false) ≡ false
+unhurried true = refl
+unhurried false = refl
+
 pub event-phase : (g : Settings) (event : Intrinsic) (peer : Peer)
     → (cell ((eventMove g event (used peer)) .slot)) .neighbour ≡ (stepOf g (peer .asn) (peer .neighbour) (asEvent event) noOctets) .neighbour
 unfolding eventMove moved cell
@@ -93,14 +98,14 @@ event-phase g event peer = refl
 
 module _ (g : Settings) (peer : Peer) (o : List ℕ) (header : headerAnswer o ≡ 0) (from : asnAt o ≡ (peer .asn)) where
   -- a message that is neither out of sequence nor an Update is carried out
-  plain-zero : (m : Message) → decodeOf o ≡ D.Good m → inSequence (peer .neighbour) m ≡ true → isUpdate m ≡ false → answerTo g (peer .asn) (peer .neighbour) o ≡ 0
+  plain-zero : (m : Message) → decodeOf o ≡ D.Good m → inSequence (peer .neighbour) m ≡ true → tooQuick (peer .neighbour) m ≡ false → isUpdate m ≡ false → answerTo g (peer .asn) (peer .neighbour) o ≡ 0
   unfolding answerTo ifOk check kindAnswer
-  plain-zero m d i u = rw (header, eq-eqb (asnAt o) (peer .asn) from, d, i, u)
+  plain-zero m d i t u = rw (header, eq-eqb (asnAt o) (peer .asn) from, d, i, t, u)
 
-  plain-move : (m : Message) → decodeOf o ≡ D.Good m → inSequence (peer .neighbour) m ≡ true → isUpdate m ≡ false
+  plain-move : (m : Message) → decodeOf o ≡ D.Good m → inSequence (peer .neighbour) m ≡ true → tooQuick (peer .neighbour) m ≡ false → isUpdate m ≡ false
       → (cell ((messageMove g o (used peer)) .slot)) .neighbour ≡ (stepOf g (peer .asn) (peer .neighbour) (Received m) (firstTwelve o)) .neighbour
   unfolding messageMove ifOk afterMessage moved cell
-  plain-move m d i u = rw (plain-zero m d i u, d)
+  plain-move m d i t u = rw (plain-zero m d i t u, d)
 
   sequenced-cease : (a q s : ℕ) → inSequence (peer .neighbour) (M.Cease a q s) ≡ true
   unfolding inSequence
@@ -120,15 +125,15 @@ module _ (g : Settings) (peer : Peer) (o : List ℕ) (header : headerAnswer o �
 
   pub cease-move : (a q s : ℕ) → decodeOf o ≡ D.Good (M.Cease a q s)
       → isUp ((cell ((messageMove g o (used peer)) .slot)) .neighbour .phase) ≡ false
-  unfolding isUpdate
+  unfolding isUpdate tooQuick
   cease-move a q s d =
-      rw (plain-move (M.Cease a q s) d (sequenced-cease a q s) refl) (ceased g (peer .asn) (peer .neighbour) (firstTwelve o) a q s)
+      rw (plain-move (M.Cease a q s) d (sequenced-cease a q s) (unhurried (acquired (peer .neighbour .phase))) refl) (ceased g (peer .asn) (peer .neighbour) (firstTwelve o) a q s)
 
   pub request-move : (a q s hello poll : ℕ) → decodeOf o ≡ D.Good (M.Request a q s hello poll)
       → isUp ((cell ((messageMove g o (used peer)) .slot)) .neighbour .phase) ≡ false
-  unfolding isUpdate
+  unfolding isUpdate tooQuick
   request-move a q s hello poll d =
-      rw (plain-move (M.Request a q s hello poll) d (sequenced-request a q s hello poll) refl) (reacquired g (peer .asn) (peer .neighbour) (firstTwelve o) a q s hello poll)
+      rw (plain-move (M.Request a q s hello poll) d (sequenced-request a q s hello poll) (unhurried (acquired (peer .neighbour .phase))) refl) (reacquired g (peer .asn) (peer .neighbour) (firstTwelve o) a q s hello poll)
 
   -- an Update in Up that carries S, its body good
   module _ (a q s net : ℕ) (d : decodeOf o ≡ D.Good (M.Update a q s net)) (up : peer .neighbour .phase ≡ Up) (number : q ≡ peer .neighbour .s) (new : List Row) (body : updateOf 128 (g .net) o ≡ accepted new) where
@@ -144,8 +149,8 @@ module _ (g : Settings) (peer : Peer) (o : List ℕ) (header : headerAnswer o �
     is-up = ap isUp up
 
     update-zero : answerTo g (peer .asn) (peer .neighbour) o ≡ 0
-    unfolding answerTo ifOk check kindAnswer bodyAnswer isUpdate
-    update-zero = rw (header, eq-eqb (asnAt o) (peer .asn) from, d, sequenced, is-up, body)
+    unfolding answerTo ifOk check kindAnswer bodyAnswer isUpdate tooQuick
+    update-zero = rw (header, eq-eqb (asnAt o) (peer .asn) from, d, sequenced, unhurried (acquired (peer .neighbour .phase)), is-up, body)
 
     pub update-answer : (messageMove g o (used peer)) .answer ≡ 0
     unfolding messageMove ifOk moved

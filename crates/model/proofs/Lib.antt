@@ -15,6 +15,9 @@ pub mod Corollaries
 pub mod Reach
 pub mod Windows
 pub mod Quiet
+pub mod Quick
+pub mod QuickRuns
+pub mod TooQuick
 pub mod Unfolded
 pub mod Computed
 pub mod Example

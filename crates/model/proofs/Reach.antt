@@ -18,8 +18,8 @@ use Rattle.neighbour.specs.declared.Settings.{Settings}
 use Rattle.neighbour.specs.declared.Neighbour.{Neighbour}
 use Rattle.neighbour.specs.declared.Offer.{Offer}
 use Rattle.neighbour.specs.declared.Offer.the-variants.{Acceptable, Unacceptable}
-use Rattle.neighbour.specs.Record.{under, isIdle, isUp, acquired, idle, leftIdle, withNumbers, withTimers, withReach, waiting, initialised, heardFrom, shifted, enterUp, leaveUp, polled}
-use Rattle.neighbour.specs.Rules.{isCommand, commanded, indicates, noted, offerOf, onesOf, goesUp, goesDown, judged}
+use Rattle.neighbour.specs.Record.{under, isIdle, isUp, acquired, idle, leftIdle, withNumbers, withTimers, withReach, waiting, initialised, heardFrom, shifted, enterUp, leaveUp, polled, aged}
+use Rattle.neighbour.specs.Rules.{isCommand, commanded, indicates, noted, recounted, offerOf, onesOf, goesUp, goesDown, judged}
 use Rattle.neighbour.proofs.Laws.{at-up, at-down}
 use Rattle.neighbour_wellformed.specs.Formed.{wellFormed}
 use Rattle.neighbour_wellformed.proofs.Formed.{at, Fine, fine-down, fine-up, timer-bounds}
@@ -28,7 +28,7 @@ use Rattle.neighbour_machine.specs.declared.Event.{Event}
 use Rattle.neighbour_machine.specs.declared.Event.the-variants.{Received, Start, Stop, Tick}
 use Rattle.neighbour_machine.specs.declared.After.{After}
 use Rattle.neighbour_machine.specs.Table.{quiet, answers, says, helloIf, doesA, doesB, ceases, repeatsCease, acquires, stray, onRequest, settles, onConfirm, onRefuse, onCease, onCeaseAck, onHello, onIHeardYou, answersPoll, onPoll, onUpdate, onStart, onStop}
-use Rattle.neighbour_machine.specs.Tick.{expired, repeats, listens, polls, pollsOnEntry, takesT2, pollsInUp, tickOn, onTick}
+use Rattle.neighbour_machine.specs.Tick.{expired, repeats, listens, polls, pollsOnEntry, takesT2, pollsInUp, tickOn, tickOutside, onTick}
 use Rattle.neighbour_machine.specs.Step.{onMessage, stepOf}
 use Rattle.neighbour_machine.specs.Laws.{isDown, isTick}
 use Rattle.neighbour_machine.proofs.Theorems.{step-lawful}
@@ -37,7 +37,7 @@ use Rattle.model.proofs.Closing.{under-elim, up-under, later}
 
 -- ---- well formed
 
-acquired-runs : (p : Phase) → acquired p ≡ true → isIdle p ≡ false
+pub acquired-runs : (p : Phase) → acquired p ≡ true → isIdle p ≡ false
 acquired-runs Idle e = absurd (false≢true e)
 acquired-runs Acquisition e = refl
 acquired-runs Down e = refl
@@ -85,7 +85,7 @@ unfolding initialised
 initialised-waits n hello poll mode = record { blank = λ _ _. refl; young = λ _ _ (e : _≡_ {A = ℕ} 0 1). absurd (omega arith) }
 
 -- a Hello sent changes no record
-hello-same : (mode : Mode) (g : Settings) (x : After) → (helloIf mode g x) .neighbour ≡ x .neighbour
+pub hello-same : (mode : Mode) (g : Settings) (x : After) → (helloIf mode g x) .neighbour ≡ x .neighbour
 unfolding helloIf says
 hello-same Unset g x = refl
 hello-same Active g x = refl
@@ -152,6 +152,15 @@ unfolding noted
 noted-waits n m t w =
     cond-elim Waits (acquired (n .phase) && indicates (n .mode) (kindOf m) (statusOf m)) _ _ (λ e. heard-waits n (t (and-left (acquired (n .phase)) _ e)) w) (λ _. w)
 
+-- the counts are no part of it
+recounted-waits : (n : Neighbour) (m : Message) → Waits n → Waits (recounted n m)
+unfolding recounted
+recounted-waits n m w = cond-elim Waits (acquired (n .phase)) _ _ (λ _. record { blank = w .blank; young = w .young }) (λ _. w)
+
+aged-waits : (n : Neighbour) → Waits n → Waits (aged n)
+unfolding aged
+aged-waits n w = record { blank = w .blank; young = w .young }
+
 commanded-t1 : (n : Neighbour) (m : Message) → (commanded n m) .t1 ≡ n .t1
 unfolding commanded withNumbers
 commanded-t1 n m = cond-elim (λ (k : Neighbour). k .t1 ≡ n .t1) (not (isIdle (n .phase)) && isCommand (kindOf m)) _ _ (λ _. refl) (λ _. refl)
@@ -163,8 +172,9 @@ commanded-phase n m = cond-elim (λ (k : Neighbour). k .phase ≡ n .phase) (not
 message-waits : (g : Settings) (asn : ℕ) (n : Neighbour) (m : Message) (head : Head) → (acquired (n .phase) ≡ true → n .t1 ≤ 122) → Waits n → Waits ((stepOf g asn n (Received m) head) .neighbour)
 unfolding stepOf
 message-waits g asn n m head t w =
-    message-elim Waits g (noted (commanded n m) m)
-    (noted-waits (commanded n m) m (λ a. omega (arith, t (ap acquired (sym (commanded-phase n m)) ∙ a), commanded-t1 n m)) (commanded-waits n m w))
+    message-elim Waits g (recounted (noted (commanded n m) m) m)
+    (recounted-waits (noted (commanded n m) m) m
+    (noted-waits (commanded n m) m (λ a. omega (arith, t (ap acquired (sym (commanded-phase n m)) ∙ a), commanded-t1 n m)) (commanded-waits n m w)))
     idle-waits initialised-waits (λ k cause. waiting-waits k Cease cause refl) asn m head
 
 start-waits : (g : Settings) (n : Neighbour) → Waits n → WaitsAfter (onStart g n)
@@ -250,7 +260,7 @@ not-lowest (suc zero) r l a b c d = two r l b
 not-lowest (suc (suc zero)) r l a b c d = four r l c
 not-lowest (suc (suc (suc k))) r l a b c d = eight r l d
 
-some-ones : (k r : ℕ) → Lowest k r → onesOf r ≡ 0 → ⊥
+pub some-ones : (k r : ℕ) → Lowest k r → onesOf r ≡ 0 → ⊥
 some-ones k r l e = let z = zeros-of r e in not-lowest k r l (z .first) (z .second) (z .third) (z .fourth)
 
 shift-silent : (k r : ℕ) → suc k ≤ 3 → Lowest k r → Lowest (suc k) ((r * 2 + 0) % 16)
@@ -260,7 +270,7 @@ shift-silent (suc zero) r h l = omega (arith, l)
 shift-silent (suc (suc zero)) r h l = omega (arith, l)
 shift-silent (suc (suc (suc k))) r h l = absurd (omega (arith, h))
 
-shift-heard : (r : ℕ) → Lowest 0 ((r * 2 + 1) % 16)
+pub shift-heard : (r : ℕ) → Lowest 0 ((r * 2 + 1) % 16)
 unfolding Lowest
 shift-heard r = omega arith
 
@@ -288,7 +298,7 @@ judged-waits n low z =
     (λ e. elsewhere n (ap isDown e))
 
 listens-waits : (g : Settings) (n : Neighbour) → Waits n → WaitsAfter (listens g (later n))
-unfolding listens quiet withTimers
+unfolding listens quiet aged withTimers
 listens-waits g n w =
     cond-elim WaitsAfter (eqb (n .t1 - 1) 0) _ _
     (λ _. rw (hello-same _ g _) (judged-waits (shifted (later n)) (shifted-low (later n)) (shifted-heard (later n))))
@@ -315,16 +325,16 @@ unfolding repeats answers quiet withTimers
 repeats-waits n m e = cond-elim WaitsAfter (eqb (n .t1 - 1) 0) _ _ (λ _. elsewhere _ e) (λ _. elsewhere _ e)
 
 runs-waits : (g : Settings) (n : Neighbour) → Waits n → WaitsAfter (tickOn g (later n))
-unfolding tickOn quiet withTimers
+unfolding tickOn quiet aged withTimers
 runs-waits g n w =
     under-elim WaitsAfter (n .phase) _ _ _ _ _ (λ e. elsewhere _ (ap isDown e)) (λ e. repeats-waits (later n) _ (ap isDown e))
     (λ _. entry-waits g (listens g (later n)) (listens-waits g n w)) (λ _. t2-waits g (listens g (later n)) (listens-waits g n w))
     (λ e. repeats-waits (later n) _ (ap isDown e))
 
 tick-waits : (g : Settings) (n : Neighbour) → Waits n → WaitsAfter (onTick g n)
-unfolding onTick expired quiet
+unfolding onTick tickOutside aged expired quiet
 tick-waits g n w =
-    cond-elim WaitsAfter (isIdle (n .phase)) _ _ (λ _. w) (λ _. cond-elim WaitsAfter (eqb (n .t3 - 1) 0) _ _ (λ _. stop-waits g n w) (λ _. runs-waits g n w))
+    cond-elim WaitsAfter (isIdle (n .phase)) _ _ (λ _. w) (λ _. cond-elim WaitsAfter (eqb (n .t3 - 1) 0) _ _ (λ _. stop-waits g (aged n) (aged-waits n w)) (λ _. runs-waits g n w))
 
 -- whatever happens
 pub step-waits : (g : Settings) (asn : ℕ) (n : Neighbour) (event : Event) (head : Head) → wellFormed n ≡ true → Waits n → Waits ((stepOf g asn n event head) .neighbour)
@@ -369,7 +379,7 @@ module _ (g : Settings) (asn : ℕ) (n : Neighbour) (head : Head) (silent : ℕ)
 
   -- the tick goes on to t1 and t2
   up-runs : (P : After → Type 0) → P (pollsInUp g (listens g (later n))) → P (stepOf g asn n Tick head)
-  unfolding stepOf onTick tickOn withTimers
+  unfolding stepOf onTick tickOutside aged tickOn withTimers
   up-runs P p =
       cond-elim P (isIdle (n .phase)) _ _ (λ i. absurd (false≢true (sym (ap isIdle (held .up)) ∙ i)))
       (λ _. cond-elim P (eqb (n .t3 - 1) 0) _ _ (λ z. absurd (omega (arith, eqb-true (n .t3 - 1) 0 z, t3-far)))
@@ -396,7 +406,7 @@ module _ (g : Settings) (asn : ℕ) (n : Neighbour) (head : Head) (silent : ℕ)
 
   -- a tick within a window
   pub tick-within : isEvaluation n Tick ≡ false → Held ((stepOf g asn n Tick head) .neighbour) silent heard
-  unfolding listens quiet withTimers
+  unfolding listens quiet aged withTimers
   tick-within e =
       up-runs (λ x. Held (x .neighbour) silent heard)
       (t2-held silent heard (listens g (later n))
@@ -416,7 +426,7 @@ module _ (g : Settings) (asn : ℕ) (n : Neighbour) (head : Head) (silent : ℕ)
   -- a tick that ends one
   ends-window : (k : ℕ) → k ≤ 3 → Lowest k ((n .register * 2 + n .heard) % 16) → 3722 ≤ n .t3 - 1 + 122 * (k + 2)
       → isEvaluation n Tick ≡ true → Held ((stepOf g asn n Tick head) .neighbour) k false
-  unfolding listens quiet withTimers
+  unfolding listens quiet aged withTimers
   ends-window k few l y e =
       up-runs (λ x. Held (x .neighbour) k false)
       (t2-held k false (listens g (later n))
@@ -480,13 +490,21 @@ noted-held n m silent heard t h = go (notes n m) heard h
     go false true k = k
     go false false k = k
 
+recounted-held : (n : Neighbour) (m : Message) (silent : ℕ) (heard : Bool) → Held n silent heard → Held (recounted n m) silent heard
+unfolding recounted
+recounted-held n m silent heard h =
+    cond-elim (λ (k : Neighbour). Held k silent heard) (acquired (n .phase)) _ _
+    (λ _. record { up = h .up; passive = h .passive; few = h .few; lowest = h .lowest; flag = h .flag; young = h .young }) (λ _. h)
+
 pub message-held : (g : Settings) (asn : ℕ) (n : Neighbour) (m : Message) (head : Head) (silent : ℕ) (heard : Bool) → Fine n → Held n silent heard
     → isRestart n (Received m) ≡ false → Held ((stepOf g asn n (Received m) head) .neighbour) silent (heard || isIndication n (Received m))
 unfolding stepOf isIndication isRestart
 message-held g asn n m head silent heard fine h e =
     let c = commanded-held n m silent heard h in
-    let k = noted-held (commanded n m) m silent heard (omega (arith, commanded-t1 n m, fine .t1-high)) (c .0) in
-    rw (up-row g asn (noted (commanded n m) m) m head (k .up) e, ← c .1) k
+    let k =
+    recounted-held (noted (commanded n m) m) m silent _
+    (noted-held (commanded n m) m silent heard (omega (arith, commanded-t1 n m, fine .t1-high)) (c .0)) in
+    rw (up-row g asn (recounted (noted (commanded n m) m) m) m head (k .up) e, ← c .1) k
 
 -- an indication in Up: heard is 1 and t3 starts anew
 module _ (g : Settings) (asn : ℕ) (n : Neighbour) (m : Message) (head : Head) (up : n .phase ≡ Up) (plain : isRestart n (Received m) ≡ false)
@@ -508,9 +526,15 @@ module _ (g : Settings) (asn : ℕ) (n : Neighbour) (m : Message) (head : Head) 
       cond-elim (λ (k : Neighbour). Noted (noted k m)) (not (isIdle (n .phase)) && isCommand (kindOf m)) _ _
       (λ _. noted-is (withNumbers n (n .s) (sequenceOf m)) up e) (λ _. noted-is n up e)
 
+  recounted-noted : (k : Neighbour) → Noted k → Noted (recounted k m)
+  unfolding recounted
+  recounted-noted k h = cond-elim Noted (acquired (k .phase)) _ _ (λ _. h) (λ _. h)
+
   pub indication-noted : Noted ((stepOf g asn n (Received m) head) .neighbour)
   unfolding stepOf isRestart
-  indication-noted = rw (up-row g asn (noted (commanded n m) m) m head (commanded-noted .0) plain) commanded-noted
+  indication-noted =
+      let h = recounted-noted (noted (commanded n m) m) commanded-noted in
+      rw (up-row g asn (recounted (noted (commanded n m) m) m) m head (h .0) plain) h
 
 -- ---- entering Up
 
@@ -544,7 +568,7 @@ entry-polls g x h =
 
 module _ (g : Settings) (n : Neighbour) (fine : Fine n) (w : Waits n) (down : n .phase ≡ Down) where
   judged-enters : Enters (judged (shifted (later n)))
-  unfolding judged shifted enterUp withReach withTimers
+  unfolding judged shifted enterUp withReach aged withTimers
   judged-enters =
       rw (at-down (n .phase) _ _ _ _ _ down)
       (cond-elim Enters (goesUp (n .mode) (onesOf ((n .register * 2 + n .heard) % 16))) _ _
@@ -563,16 +587,16 @@ module _ (g : Settings) (n : Neighbour) (fine : Fine n) (w : Waits n) (down : n 
       (λ _. never _ (ap isUp down)))
 
   listens-enters : EntersAfter (listens g (later n))
-  unfolding listens quiet withTimers
+  unfolding listens quiet aged withTimers
   listens-enters =
       cond-elim EntersAfter (eqb (n .t1 - 1) 0) _ _ (λ _. rw (hello-same _ g _) judged-enters) (λ _. never _ (ap isUp down))
 
-  stop-enters : EntersAfter (onStop g n)
-  unfolding onStop ceases answers waiting quiet
+  stop-enters : EntersAfter (onStop g (aged n))
+  unfolding onStop ceases answers waiting quiet aged
   stop-enters = rw (at-down (n .phase) _ _ _ _ _ down) (never _ refl)
 
   tick-enters : EntersAfter (onTick g n)
-  unfolding onTick expired tickOn withTimers
+  unfolding onTick tickOutside aged expired tickOn withTimers
   tick-enters =
       cond-elim EntersAfter (isIdle (n .phase)) _ _ (λ i. absurd (false≢true (sym (ap isIdle down) ∙ i)))
       (λ _. cond-elim EntersAfter (eqb (n .t3 - 1) 0) _ _ (λ _. stop-enters)

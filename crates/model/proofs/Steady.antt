@@ -1,7 +1,7 @@
 -- No call of a list is answered 1 or 2, and what is refused or lists changes nothing. Assumes nothing.
 use Prim.Native.Nat.{ℕ}
 use mathlib.Core.Path.{_≡_, refl, sym, _∙_, ap}
-use mathlib.Core.Bool.{Bool, true, false, _&&_, _||_, false≢true}
+use mathlib.Core.Bool.{Bool, true, false, not, _&&_, _||_, false≢true}
 use mathlib.Core.List.{List, [], _∷_}
 use lib.Dec.{ltb, leb, eqb}
 use lib.ListN.{length, getD}
@@ -20,7 +20,7 @@ use Rattle.message_reading.specs.declared.Decoded.the-variants as D
 use Rattle.update_walk.specs.Body.{UpdateRead, accepted, brokenAt, tooMany, updateOf}
 use Rattle.neighbour.specs.declared.Settings.{Settings}
 use Rattle.neighbour.specs.declared.Neighbour.{Neighbour}
-use Rattle.neighbour.specs.Rules.{inSequence}
+use Rattle.neighbour.specs.Rules.{inSequence, tooQuick}
 use Rattle.neighbour_machine.specs.Intrinsics.{Intrinsic}
 use Rattle.gateway_state.specs.Formed.{stateFormed}
 use Rattle.gateway_state.specs.Outcomes.{refusedOf}
@@ -71,7 +71,8 @@ body-high tooMany = refl
 kind-high : (g : Settings) (n : Neighbour) (o : List ℕ) (d : Decoded) → High (kindAnswer g n o d)
 unfolding kindAnswer
 kind-high g n o (D.Good m) =
-    check-high (inSequence n m) 13 _ refl (cond-elim High (isUpdate m && isUp (n .phase)) _ 0 (λ _. body-high (updateOf 128 (g .net) o)) (λ _. refl))
+    check-high (inSequence n m) 13 _ refl
+    (check-high (not (tooQuick n m)) 21 _ refl (cond-elim High (isUpdate m && isUp (n .phase)) _ 0 (λ _. body-high (updateOf 128 (g .net) o)) (λ _. refl)))
 kind-high g n o D.UnknownKind = refl
 kind-high g n o D.BadStatus = refl
 kind-high g n o D.BadLength = refl

@@ -234,16 +234,16 @@ held-up free silent heard h = ap isUp (h .up)
 held-up (used peer) silent heard h = ap isUp (h .up)
 
 module _ (m : Model) (ok : Good m) (j : ℕ) (j8 : j < 8) where
-  formed-in : (peer : Peer) → slotIn m j ≡ used peer → wellFormed (peer .neighbour) ≡ true
+  pub formed-in : (peer : Peer) → slotIn m j ≡ used peer → wellFormed (peer .neighbour) ≡ true
   unfolding cell
   formed-in peer here = subst (λ (slot : Slot). wellFormed ((cell slot) .neighbour) ≡ true) here (good-at m ok j .neighbour)
 
   -- what a call brings, by the event that it carries out
-  brings-none : (test : Neighbour → Event → Bool) (call : Call) → eventFor m j call ≡ none → brings test m j call ≡ false
+  pub brings-none : (test : Neighbour → Event → Bool) (call : Call) → eventFor m j call ≡ none → brings test m j call ≡ false
   unfolding brings holdsOf
   brings-none test call e = rw e
 
-  brings-some : (test : Neighbour → Event → Bool) (call : Call) (peer : Peer) (event : Event)
+  pub brings-some : (test : Neighbour → Event → Bool) (call : Call) (peer : Peer) (event : Event)
       → slotIn m j ≡ used peer → eventFor m j call ≡ some event → brings test m j call ≡ test (peer .neighbour) event
   unfolding brings holdsOf recordIn cell
   brings-some test call peer event here e = ap (holdsOf (test (recordIn m j))) e ∙ ap (λ (slot : Slot). test ((cell slot) .neighbour) event) here

@@ -1,6 +1,6 @@
 -- An example, so that no corollary's premise is one that nothing meets: neighbours that come Up, report 128 nets each,
--- fall silent, poll 65,535 times, and are heard of by their Updates alone; and one that no run comes to, its t3 run
--- out.
+-- fall silent, poll 65,535 times, are heard of by their Updates alone, and say Hello every second; and one that no run
+-- comes to, its t3 run out.
 use Prim.Native.Nat.{ℕ, zero, suc, _+_, _*_, _%_, _<_}
 use mathlib.Core.Path.{_≡_}
 use mathlib.Core.Bool.{true, false}
@@ -9,19 +9,20 @@ use lib.Dec.{leb}
 use lib.ListN.{length}
 use Rattle.nets.specs.Rows.{Row}
 use Rattle.update_rows.specs.Storing.{zeros}
-use Rattle.message.specs.declared.Message.the-variants.{Request, Cease, Hello, Update}
+use Rattle.message.specs.declared.Message.the-variants.{Request, Cease, Hello, Poll, Update}
 use Rattle.message_reading.specs.Reading.{decodeOf}
 use Rattle.message_reading.specs.declared.Decoded.the-variants as D
 use Rattle.codec_writing.specs.Octets.{messageOctets}
 use Rattle.neighbour.specs.declared.Mode.the-variants.{Passive}
 use Rattle.neighbour.specs.declared.Settings.{Settings}
-use Rattle.neighbour.specs.Record.{withTimers}
+use Rattle.neighbour.specs.Record.{acquired, withTimers}
 use Rattle.neighbour.specs.Rules.{onesOf, goesDown}
 use Rattle.model.specs.Model.{Call, add, tick, receive, peerWith, Slot, free, used, Model, slotIn, put, model}
 use Rattle.model.specs.History.{accepts, lastAccepted}
 use Rattle.model.specs.Theorem.{Gateway, gatewayStep, run, stateOf, tableOf, Sensible}
-use Rattle.model.specs.Windows.{restartsNone, windows, oneInFour, latest}
+use Rattle.model.specs.Windows.{brings, restartsNone, windows, oneInFour, latest}
 use Rattle.model.specs.Corollaries.{Taken, slotOn, isUpOn, BothReport, Says, SaysRows, EnteredUp}
+use Rattle.model.specs.Quick.{isOtherHello, helloEveryTick, HelloCarriedOut}
 
 -- AS 9 at 128.9.0.1 on 128.9.0.0, passive only
 unfoldable pub someSettings : Settings
@@ -71,6 +72,19 @@ lastNumber = reportingCalls 1 ++ (pollRounds 65534 ++ (saysHello 1 ∷ tickSecon
 -- added, acquired with T1 32, heard once; the next tick enters Up
 unfoldable pub almostUp : List Call
 almostUp = add 1 7 ∷ receive 1 (messageOctets (Request 7 0 0 30 120) []) [] lentBuffer ∷ saysHello 1 ∷ tickSeconds 1 31
+
+-- acquired with T1 32, and nothing else
+unfoldable pub acquiredCalls : List Call
+acquiredCalls = add 1 7 ∷ receive 1 (messageOctets (Request 7 0 0 30 120) []) [] lentBuffer ∷ []
+
+-- then a Hello and a Poll, both carried out
+unfoldable pub greeted : List Call
+greeted = acquiredCalls ++ (saysHello 1 ∷ receive 1 (messageOctets (Poll 7 0 1 2148073472) []) [] lentBuffer ∷ [])
+
+-- n seconds, a Hello of status 1 after each
+unfoldable pub helloSeconds : ℕ → ℕ → List Call
+helloSeconds a zero = []
+helloSeconds a (suc n) = tick a lentBuffer ∷ saysHello a ∷ helloSeconds a n
 
 -- an Update of this status in the first window of 32 seconds, the next one in the fifth; our second Poll went out in
 -- the fourth
@@ -146,3 +160,22 @@ pub record IndicationMet : Type 0 where
       (receive 1 (messageOctets (Update 7 1 129 2148073472) (classA 10 1)) [] lentBuffer) ≡ true
   pub says : decodeOf (messageOctets (Update 7 1 129 2148073472) (classA 10 1)) ≡ D.Good (Update 7 1 129 2148073472)
   pub passive : (slotOn (run someSettings (almostUp ++ (tick 1 lentBuffer ∷ []))) 0) .neighbour .mode ≡ Passive
+
+-- a passive neighbour that says Hello every second through two windows
+pub record EverySecondMet : Type 0 where
+  pub first : HelloCarriedOut someSettings acquiredCalls (saysHello 1) 0
+  pub every : helloEveryTick (model someSettings (acquiredCalls ++ (saysHello 1 ∷ []))) 0 false (helloSeconds 1 64) ≡ true
+  pub ended : windows (model someSettings (acquiredCalls ++ (saysHello 1 ∷ []))) 0 true (helloSeconds 1 64) ≡ true ∷ true ∷ []
+
+-- one whose Hello has status 2
+pub record UnheardMet : Type 0 where
+  pub passive : (slotOn (run someSettings acquiredCalls) 0) .neighbour .mode ≡ Passive
+  pub other : brings isOtherHello (model someSettings acquiredCalls) 0 (receive 1 (messageOctets (Hello 7 0 2) []) [] lentBuffer) ≡ true
+
+-- a second Hello in the same second, and a second Poll
+pub record TooQuickMet : Type 0 where
+  pub reached : acquired ((slotOn (run someSettings greeted) 0) .neighbour .phase) ≡ true
+  pub hello : Says (run someSettings greeted) 0 (messageOctets (Hello 7 0 1) []) [] lentBuffer (Hello 7 0 1)
+  pub soon : (slotOn (run someSettings greeted) 0) .neighbour .sincehello < 30
+  pub poll : Says (run someSettings greeted) 0 (messageOctets (Poll 7 0 1 2148073472) []) [] lentBuffer (Poll 7 0 1 2148073472)
+  pub as-soon : (slotOn (run someSettings greeted) 0) .neighbour .sincepoll < 120

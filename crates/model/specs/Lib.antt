@@ -4,4 +4,5 @@ pub mod History
 pub mod Theorem
 pub mod Windows
 pub mod Corollaries
+pub mod Quick
 pub mod Example

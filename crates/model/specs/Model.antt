@@ -20,7 +20,7 @@ use Rattle.neighbour.specs.declared.Phase.{Phase}
 use Rattle.neighbour.specs.declared.Settings.{Settings}
 use Rattle.neighbour.specs.declared.Neighbour.{Neighbour}
 use Rattle.neighbour.specs.Record.{idle, isIdle, acquired, isUp}
-use Rattle.neighbour.specs.Rules.{same, inSequence}
+use Rattle.neighbour.specs.Rules.{same, inSequence, tooQuick}
 use Rattle.neighbour_messages.specs.declared.Head.{Head}
 use Rattle.neighbour_messages.specs.Sent.{refuseMessage, errorMessage}
 use Rattle.neighbour_machine.specs.declared.Event.the-variants.{Received}
@@ -195,7 +195,7 @@ unfoldable pub eventMove : Settings → Intrinsic → Slot → Move
 eventMove g event free = noMove
 eventMove g event (used p) = moved p (stepOf g (p .asn) (p .neighbour) (asEvent event) noOctets) (p .rows)
 
--- ---- a message: checks 6 to 15
+-- ---- a message: checks 6 to 15 and 21
 
 -- 14 and 15
 unfoldable pub bodyAnswer : UpdateRead → ℕ
@@ -206,9 +206,11 @@ bodyAnswer tooMany = 15
 unfoldable pub isUpdate : Message → Bool
 isUpdate m = same (kindOf m) K.Update
 
--- 10 to 12, then 13 "response out of sequence", then of an Update in Up its body
+-- 10 to 12, then 13 "response out of sequence", then 02's 21 "after 13", then of an Update in Up its body
 unfoldable pub kindAnswer : Settings → Neighbour → List ℕ → Decoded → ℕ
-kindAnswer g n o (D.Good m) = check (inSequence n m) 13 (cond (isUpdate m && isUp (n .phase)) (bodyAnswer (updateOf 128 (g .net) o)) 0)
+kindAnswer g n o (D.Good m) =
+    check (inSequence n m) 13
+    (check (not (tooQuick n m)) 21 (cond (isUpdate m && isUp (n .phase)) (bodyAnswer (updateOf 128 (g .net) o)) 0))
 kindAnswer g n o D.UnknownKind = 10
 kindAnswer g n o D.BadStatus = 11
 kindAnswer g n o D.BadLength = 12
@@ -232,14 +234,15 @@ refuseReply g n o =
     cond (isIdle (n .phase) && eqb (getD o 1 0) 3 && eqb (getD o 2 0) 0 && plainStatus (statusAt o) && eqb (length o) 14)
     (One (refuseMessage g (sequenceAt o) 4)) Nothing
 
--- 01's column "Reply", by the number
+-- 01's column "Reply", by the number; 02: "21, .. reply Error 4"
 unfoldable pub refusalReply : Settings → Neighbour → List ℕ → ℕ → Reply
 refusalReply g n o answer =
     cond (eqb answer 9) (refuseReply g n o)
     (cond (leb 10 answer && leb answer 12) (errorReply g n o 1)
     (cond (eqb answer 14) (errorReply g n o 2)
     (cond (eqb answer 15) (errorReply g n o 0)
-    Nothing)))
+    (cond (eqb answer 21) (errorReply g n o 4)
+    Nothing))))
 
 -- the machine's step for a message that passed; 10 to 12 have refused the others
 unfoldable pub afterMessage : Settings → ℕ → Neighbour → List ℕ → Decoded → After

@@ -1,8 +1,8 @@
 /*
- * A small host. It acquires one neighbour, comes up with it, polls it, takes its Update in, refuses what is wrong,
- * saves its state, loads it again and stops. There is no network here: the neighbour's messages are made by egp_write,
- * and what would go out is printed. A real host has a raw socket of IP protocol 8 behind transmit and deliver, and a
- * clock behind let_pass (docs/HOST.md, "A main loop").
+ * A small host. It acquires one neighbour, comes up with it, polls it, takes its Update in, refuses what is wrong or
+ * too quick, saves its state, loads it again and stops. There is no network here: the neighbour's messages are made by
+ * egp_write, and what would go out is printed. A real host has a raw socket of IP protocol 8 behind transmit and
+ * deliver, and a clock behind let_pass (docs/HOST.md, "A main loop").
  *
  *   host [FILE]     FILE is where the state is saved, host.state by default
  *
@@ -220,7 +220,12 @@ int main(int argc, char **argv)
     print_listing(&g);
     print_routes(&g);
 
-    struct message m = written(EGP_HELLO, EGP_STATUS_UP, 6, NET);
+    /* Its next Poll may come 120 seconds after the last: the Error that tells it so has that one's number. */
+    let_pass(&g, 10);
+    struct message m = written(EGP_POLL, EGP_STATUS_UP, 6, NET);
+    expect(EGP_TOO_QUICK, deliver(&g, PEER, &m, "next Poll"), "a Poll that is too quick");
+
+    m = written(EGP_HELLO, EGP_STATUS_UP, 7, NET);
     expect(EGP_UNKNOWN_NEIGHBOUR, deliver(&g, STRANGER, &m, "Hello"), "a stranger's Hello");
     m.octets[9] ^= 1;
     expect(EGP_BAD_CHECKSUM, deliver(&g, PEER, &m, "damaged Hello"), "damaged Hello");

@@ -19,12 +19,12 @@
 #include <stddef.h>
 #include <stdint.h>
 
-#define EGP_VERSION "1.4"
+#define EGP_VERSION "1.5"
 
 /* Lengths in octets. */
-#define EGP_STATE_SIZE 227     /* the state block, exactly: EGP_OWN_SIZE + EGP_SLOTS * EGP_SLOT_SIZE */
+#define EGP_STATE_SIZE 243     /* the state block, exactly: EGP_OWN_SIZE + EGP_SLOTS * EGP_SLOT_SIZE */
 #define EGP_OWN_SIZE 11        /* its first part, our own settings */
-#define EGP_SLOT_SIZE 27       /* one slot of it */
+#define EGP_SLOT_SIZE 29       /* one slot of it */
 #define EGP_TABLE_SIZE 12288   /* the table, exactly: EGP_SLOTS * EGP_ROWS * EGP_ROW_SIZE; all zero at first */
 #define EGP_ROW_SIZE 12        /* net, gateway, distance, four each */
 #define EGP_REPLY_SIZE 2048    /* a reply buffer, at least */
@@ -42,7 +42,8 @@
 /* The number of an address or net, from its four octets. */
 #define EGP_ADDRESS(a, b, c, d) ((uint32_t)(a) << 24 | (uint32_t)(b) << 16 | (uint32_t)(c) << 8 | (uint32_t)(d))
 
-/* The answers; of one call's checks, 20 is the first and the others go by their numbers. 19 is not used here. */
+/* The answers; of one call's checks, 20 is the first, 21 follows 13, and the others go by their numbers. 19 is not
+   used here. */
 enum egp_answer {
     EGP_OK = 0,                /* carried out, even where nothing changes */
     EGP_BAD_STATE = 1,         /* the state block is not well formed */
@@ -63,7 +64,8 @@ enum egp_answer {
     EGP_BAD_SETTING = 16,      /* settings or a neighbour that may not be; egp_write: a meaning that may not be */
     EGP_NO_FREE_SLOT = 17,     /* there are eight neighbours already */
     EGP_NOT_IDLE = 18,         /* the neighbour to be removed is not in Idle */
-    EGP_BAD_STATE_LENGTH = 20  /* block_len is not EGP_STATE_SIZE: the block of another version, perhaps */
+    EGP_BAD_STATE_LENGTH = 20, /* block_len is not EGP_STATE_SIZE: the block of another version, perhaps */
+    EGP_TOO_QUICK = 21         /* a Hello less than 30 seconds, or a Poll less than 120, after the last one */
 };
 
 /* What a neighbour can be in (octet EGP_SLOT_STATE), and the mode in Down and Up (EGP_SLOT_MODE). */
@@ -108,12 +110,14 @@ enum egp_slot_field {
     EGP_SLOT_TIMER1 = 14, /* t1, t2 and t3: the seconds left */
     EGP_SLOT_TIMER2 = 16,
     EGP_SLOT_TIMER3 = 18,
-    EGP_SLOT_ROWS = 20,     /* how many of its rows are used */
-    EGP_SLOT_STATE = 22,    /* 1 */
-    EGP_SLOT_MODE = 23,     /* 1 */
-    EGP_SLOT_REGISTER = 24, /* 1; the last four evaluations of reachability */
-    EGP_SLOT_HEARD = 25,    /* 1 */
-    EGP_SLOT_CAUSE = 26     /* 1; the status of our Cease */
+    EGP_SLOT_ROWS = 20,        /* how many of its rows are used */
+    EGP_SLOT_STATE = 22,       /* 1 */
+    EGP_SLOT_MODE = 23,        /* 1 */
+    EGP_SLOT_REGISTER = 24,    /* 1; the last four evaluations of reachability */
+    EGP_SLOT_HEARD = 25,       /* 1 */
+    EGP_SLOT_CAUSE = 26,       /* 1; the status of our Cease */
+    EGP_SLOT_SINCE_HELLO = 27, /* 1; ticks since its last Hello in this acquisition, 120 at most */
+    EGP_SLOT_SINCE_POLL = 28   /* 1; and since its last Poll */
 };
 enum egp_meaning_field {
     EGP_MEANING_KIND = 0,   /* 1 */
@@ -190,14 +194,16 @@ uint64_t egp_tick(uint8_t *block, size_t block_len, uint8_t *table, size_t table
  * EGP_REPLY_SIZE; 4 the home list is not whole rows or has more than 128, a net of it is no left-justified net of
  * class A, B or C, a gateway is not on the common net, a distance is above 255, or the first gateway is not our own
  * address; 5 no neighbour has this address; 6 message_len is not 10 to 2,048; 7 version; 8 checksum; 9 AS; 10 type and
- * code; 11 status; 12 the length is wrong for the type; 13 out of sequence; and of an Update in Up, 14 bad body or
- * another net than the common one, 15 more than 128 rows.
+ * code; 11 status; 12 the length is wrong for the type; 13 out of sequence; 21 in Down and Up, a Hello less than 30
+ * ticks after the last one that was carried out in this acquisition, or a Poll less than 120; and of an Update in Up,
+ * 14 bad body or another net than the common one, 15 more than 128 rows.
  * On 0 the neighbour's slot is written; its 128 rows of the table if this was an Update in Up (its rows, then zeros)
  * or the neighbour left Up (zeros); and the reply as by egp_start.
  * Refused, block and table are not touched, but there may be a reply of one message, which the host sends as any other:
  *     9           a Refuse, 10 octets, if the neighbour is in Idle and this is a Request of 14 octets, status 0 to 2
  *     10, 11, 12  an Error of reason 1, 24 octets, in Down and Up, but never to a message of type 8
  *     14, 15      an Error, 24 octets, of reason 2 and of reason 0
+ *     21          an Error, 24 octets, of reason 4
  */
 uint64_t egp_message(uint8_t *block, size_t block_len, uint8_t *table, size_t table_len, uint8_t *reply,
                      size_t reply_len, const uint8_t *home, size_t home_len, uint32_t address, const uint8_t *message,
@@ -282,6 +288,7 @@ static inline const char *egp_answer_text(int answer)
     case EGP_NO_FREE_SLOT: return "no free slot";
     case EGP_NOT_IDLE: return "neighbour not in Idle";
     case EGP_BAD_STATE_LENGTH: return "state block of a wrong length";
+    case EGP_TOO_QUICK: return "Hello or Poll too soon after the last one";
     default: return "no answer of this version";
     }
 }

@@ -5,7 +5,7 @@ use mathlib.Core.List.{List, [], _∷_, _++_}
 use lib.ListN.{take, drop, replicate}
 use Rattle.gateway_check_sheet.specs.Given.{hex, ip, repeated}
 
--- a block as it is lent: its own 11 octets, then 27 for each of the eight slots
+-- a block as it is lent: its own 11 octets, then 29 for each of the eight slots
 unfoldable pub block : String → String → String → String → String → String → String → String → String → List ℕ
 block own a b c d e f g h =
     hex own ++ (hex a ++ (hex b ++ (hex c ++ (hex d ++ (hex e ++ (hex f ++ (hex g ++ hex h)))))))
@@ -16,15 +16,16 @@ own = "00 09 80 09 00 01 00 80 09 00 00"
 
 -- 01: "free slots are all zero"
 unfoldable pub free : String
-free = "00 00 00 00 00 00 00 00 00 00 00 00 00 00 00 00 00 00 00 00 00 00 00 00 00 00 00"
+free = "00 00 00 00 00 00 00 00 00 00 00 00 00 00 00 00 00 00 00 00 00 00 00 00 00 00 00 00 00"
 
 -- 128.9.0.10 of AS 10, Idle
 unfoldable pub tenth : String
-tenth = "80 09 00 0A 00 0A 00 00 00 00 00 00 00 00 00 00 00 00 00 00 00 00 00 00 00 00 00"
+tenth = "80 09 00 0A 00 0A 00 00 00 00 00 00 00 00 00 00 00 00 00 00 00 00 00 00 00 00 00 00 00"
 
--- 128.9.0.5 of AS 7, Up and active with three rows: S 1, R 4, T1 32, T2 122, t1 20, t2 100, t3 50, register 7
+-- 128.9.0.5 of AS 7, Up and active with three rows: S 1, R 4, T1 32, T2 122, t1 20, t2 100, t3 50, register 7, 40
+-- ticks since a Hello, 120 or more since a Poll
 unfoldable pub fifth : String
-fifth = "80 09 00 05 00 07 00 01 00 04 00 20 00 7A 00 14 00 64 00 32 00 03 03 01 07 00 00"
+fifth = "80 09 00 05 00 07 00 01 00 04 00 20 00 7A 00 14 00 64 00 32 00 03 03 01 07 00 00 28 78"
 
 -- a well-formed block with a neighbour in each of the five states, in both modes, and slot 5 free
 unfoldable pub sound : List ℕ
@@ -32,40 +33,45 @@ sound =
     block own
     -- 0: Idle
     tenth
-    -- 1: 128.9.0.11 of AS 11, Acquisition: S 3, R 5, t1 20, t3 100
-    "80 09 00 0B 00 0B 00 03 00 05 00 00 00 00 00 14 00 00 00 64 00 00 01 00 00 00 00"
+    -- 1: 128.9.0.11 of AS 11, Acquisition: S 3, R 5, t1 20, t3 100, counts 9 and 10
+    "80 09 00 0B 00 0B 00 03 00 05 00 00 00 00 00 14 00 00 00 64 00 00 01 00 00 00 00 09 0A"
     -- 2: Up, active
     fifth
-    -- 3: 128.9.0.13 of AS 13, Down and passive: S 258, R 772, T1 122, T2 482, t1 121, t3 3,600, register 15, heard 1
-    "80 09 00 0D 00 0D 01 02 03 04 00 7A 01 E2 00 79 00 00 0E 10 00 00 02 02 0F 01 00"
-    -- 4: 128.9.0.14 of AS 14, Cease: S 65,535, R 65,534, t1 30, t3 120, cause 6
-    "80 09 00 0E 00 0E FF FF FF FE 00 00 00 00 00 1E 00 00 00 78 00 00 04 00 00 00 06"
+    -- 3: 128.9.0.13 of AS 13, Down and passive: S 258, R 772, T1 122, T2 482, t1 121, t3 3,600, register 15, heard 1,
+    -- counts 30 and 119
+    "80 09 00 0D 00 0D 01 02 03 04 00 7A 01 E2 00 79 00 00 0E 10 00 00 02 02 0F 01 00 1E 77"
+    -- 4: 128.9.0.14 of AS 14, Cease: S 65,535, R 65,534, t1 30, t3 120, cause 6, counts 0 and 1
+    "80 09 00 0E 00 0E FF FF FF FE 00 00 00 00 00 1E 00 00 00 78 00 00 04 00 00 00 06 00 01"
     -- 5
     free
-    -- 6: 128.9.0.16 of AS 16, Up and passive with 128 rows: S 6, R 8, T1 62, T2 202, t1 1, t2 482, t3 3,599, register 8
-    "80 09 00 10 00 10 00 06 00 08 00 3E 00 CA 00 01 01 E2 0E 0F 00 80 03 02 08 00 00"
+    -- 6: 128.9.0.16 of AS 16, Up and passive with 128 rows: S 6, R 8, T1 62, T2 202, t1 1, t2 482, t3 3,599,
+    -- register 8, counts 29 and 119
+    "80 09 00 10 00 10 00 06 00 08 00 3E 00 CA 00 01 01 E2 0E 0F 00 80 03 02 08 00 00 1D 77"
     -- 7: 128.9.0.17 of AS 65,535, Idle
-    "80 09 00 11 FF FF 00 00 00 00 00 00 00 00 00 00 00 00 00 00 00 00 00 00 00 00 00"
+    "80 09 00 11 FF FF 00 00 00 00 00 00 00 00 00 00 00 00 00 00 00 00 00 00 00 00 00 00 00"
 
 -- the block with other octets for one slot, whose own begin at this index
 unfoldable pub exchanged : ℕ → String → List ℕ → List ℕ
-exchanged start octets lent = take start lent ++ (hex octets ++ drop (start + 27) lent)
+exchanged start octets lent = take start lent ++ (hex octets ++ drop (start + 29) lent)
 
--- where they begin: 11, and 27 for each slot before it
+-- where they begin: 11, and 29 for each slot before it
 unfoldable pub slot0 : ℕ
 slot0 = 11
 
+unfoldable pub slot1 : ℕ
+slot1 = 40
+
 unfoldable pub slot2 : ℕ
-slot2 = 65
+slot2 = 69
 
 unfoldable pub slot5 : ℕ
-slot5 = 146
+slot5 = 156
 
 unfoldable pub slot6 : ℕ
-slot6 = 173
+slot6 = 185
 
 unfoldable pub slot7 : ℕ
-slot7 = 200
+slot7 = 214
 
 -- the block with another octet at this index
 unfoldable pub changed : ℕ → ℕ → List ℕ → List ℕ
@@ -73,14 +79,17 @@ changed index octet lent = take index lent ++ (octet ∷ drop (index + 1) lent)
 
 -- a neighbour in every slot
 unfoldable pub full : List ℕ
-full = exchanged slot5 "80 09 00 0F 00 0F 00 00 00 00 00 00 00 00 00 00 00 00 00 00 00 00 00 00 00 00 00" sound
+full = exchanged slot5 "80 09 00 0F 00 0F 00 00 00 00 00 00 00 00 00 00 00 00 00 00 00 00 00 00 00 00 00 00 00" sound
 
--- blocks of other lengths: without the last octet, and with one more
+-- blocks of other lengths: without the last octet, and with one more; case U's as it was without counts, 227 octets
 unfoldable pub shorter : List ℕ
-shorter = take 226 sound
+shorter = take 242 sound
 
 unfoldable pub longer : List ℕ
 longer = sound ++ (0 ∷ [])
+
+unfoldable pub older : List ℕ
+older = hex own ++ (hex "80 09 00 05 00 07 00 01 00 04 00 20 00 7A 00 14 00 64 00 32 00 02 03 01 07 00 00" ++ replicate 189 0)
 
 -- a table of so many octets, all 8; a buffer of so many, all 7: so that what is kept shows
 unfoldable pub eights : ℕ → List ℕ
@@ -103,15 +112,18 @@ page = sevens 65536
 unfoldable pub blockOfU : List ℕ
 blockOfU =
     block own
-    "80 09 00 05 00 07 00 01 00 04 00 20 00 7A 00 14 00 64 00 32 00 02 03 01 07 00 00"
+    "80 09 00 05 00 07 00 01 00 04 00 20 00 7A 00 14 00 64 00 32 00 02 03 01 07 00 00 28 78"
     free free free free free free free
 
 unfoldable pub tableOfU : List ℕ
 tableOfU = hex "0A 00 00 00 80 09 00 05 00 00 00 00 C0 05 06 00 80 09 00 05 00 00 00 00" ++ replicate 12264 0
 
--- the addresses in slots 0, 2, 6 and 7, and one that no slot has
+-- the addresses in slots 0, 1, 2, 6 and 7, and one that no slot has
 unfoldable pub inSlot0 : ℕ
 inSlot0 = ip 128 9 0 10
+
+unfoldable pub inSlot1 : ℕ
+inSlot1 = ip 128 9 0 11
 
 unfoldable pub inSlot2 : ℕ
 inSlot2 = ip 128 9 0 5

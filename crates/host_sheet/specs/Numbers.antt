@@ -8,7 +8,7 @@ use Rattle.checks.specs.Lists.{join}
 use Rattle.neighbour_machine.specs.Intrinsics.{Start, Stop, Tick}
 use Rattle.model.specs.Model.{Call, add, remove, happen, receive, listing}
 use Rattle.gateway_check_sheet.specs.Given.{hex, ip, set}
-use Rattle.host_sheet.specs.Given.{sound, full, changed, shorter, longer, eights, sevens, table, room, page, inSlot0, inSlot2, inSlot7, nobody, blockOfU, tableOfU, row, rows}
+use Rattle.host_sheet.specs.Given.{sound, full, changed, shorter, longer, older, eights, sevens, table, room, page, inSlot0, inSlot2, inSlot7, nobody, blockOfU, tableOfU, row, rows}
 use Rattle.host_sheet.specs.Line.{Line, fresh, alone, refused, keeps}
 
 -- a Hello from the neighbour in slot 2, and the same without its last octet, which is 6
@@ -40,40 +40,49 @@ badCalls =
 
 -- 20: another length, all else being good; and where the block would be 1 and the table 2
 unfoldable pub ofLength : Call → List Line
-ofLength call = keeps call shorter table 20 ∷ refused call longer table 20 ∷ refused call [] table 20 ∷ []
+ofLength call =
+    keeps call shorter table 20 ∷ refused call longer table 20 ∷ refused call older table 20 ∷ refused call [] table 20 ∷ []
 
 unfoldable pub beforeOthers : Call → List Line
-beforeOthers call = keeps call (replicate 226 255) (eights 12287) 20 ∷ refused call (replicate 228 255) [] 20 ∷ refused call [] [] 20 ∷ []
+beforeOthers call = keeps call (replicate 242 255) (eights 12287) 20 ∷ refused call (replicate 244 255) [] 20 ∷ refused call [] [] 20 ∷ []
 
 unfoldable pub lengths : List Line
 lengths =
     join (map ofLength goodCalls) ++ (join (map beforeOthers badCalls) ++
     (alone (add (ip 128 9 0 18) 18) shorter 20 shorter ∷
     alone (add (ip 128 9 0 18) 18) longer 20 longer ∷
+    alone (add (ip 128 9 0 18) 18) older 20 older ∷
     alone (add (ip 128 9 0 18) 18) [] 20 [] ∷
-    alone (add 0 0) (replicate 226 255) 20 (replicate 226 255) ∷
+    alone (add 0 0) (replicate 242 255) 20 (replicate 242 255) ∷
     alone (remove inSlot7) shorter 20 shorter ∷
     alone (remove inSlot7) longer 20 longer ∷
+    alone (remove inSlot2) older 20 older ∷
     alone (remove inSlot7) [] 20 [] ∷
-    alone (remove nobody) (replicate 228 255) 20 (replicate 228 255) ∷
+    alone (remove nobody) (replicate 244 255) 20 (replicate 244 255) ∷
     -- fresh: 20 before 16, which an own AS of 0 is
-    fresh (set 9 (ip 128 9 0 1) 0 (ip 128 9 0 0)) (replicate 226 255) 20 (replicate 226 255) ∷
-    fresh (set 9 (ip 128 9 0 1) 0 (ip 128 9 0 0)) (replicate 228 255) 20 (replicate 228 255) ∷
+    fresh (set 9 (ip 128 9 0 1) 0 (ip 128 9 0 0)) (replicate 242 255) 20 (replicate 242 255) ∷
+    fresh (set 9 (ip 128 9 0 1) 0 (ip 128 9 0 0)) (replicate 244 255) 20 (replicate 244 255) ∷
+    fresh (set 9 (ip 128 9 0 1) 0 (ip 128 9 0 0)) older 20 older ∷
     fresh (set 9 (ip 128 9 0 1) 0 (ip 128 9 0 0)) [] 20 [] ∷
-    fresh (set 0 (ip 128 9 0 1) 0 (ip 128 9 0 0)) (replicate 226 255) 20 (replicate 226 255) ∷
+    fresh (set 0 (ip 128 9 0 1) 0 (ip 128 9 0 0)) (replicate 242 255) 20 (replicate 242 255) ∷
     fresh (set 0 (ip 128 9 0 1) 0 (ip 128 9 0 0)) [] 20 [] ∷ []))
 
--- 1: state 5, mode 3, heard 2, all else being good; register 16, a block of 255s and one of zeros, before 2
+-- 1: state 5, mode 3, heard 2, a Poll's count of 121, all else being good; register 16, a block of 255s and one of
+-- zeros, before 2
 unfoldable pub ofForm : Call → List Line
 ofForm call =
-    keeps call (changed 33 5 sound) table 1 ∷ refused call (changed 223 3 sound) table 1 ∷ refused call (changed 117 2 sound) table 1 ∷ []
+    keeps call (changed 33 5 sound) table 1 ∷
+    refused call (changed 237 3 sound) table 1 ∷
+    refused call (changed 123 2 sound) table 1 ∷
+    refused call (changed 126 121 sound) table 1 ∷
+    []
 
 unfoldable pub beforeTable : Call → List Line
 beforeTable call =
-    refused call (changed 87 5 sound) (eights 12287) 1 ∷
-    refused call (changed 116 16 sound) (eights 3072) 1 ∷
-    keeps call (replicate 227 255) [] 1 ∷
-    refused call (replicate 227 0) [] 1 ∷
+    refused call (changed 91 5 sound) (eights 12287) 1 ∷
+    refused call (changed 122 16 sound) (eights 3072) 1 ∷
+    keeps call (replicate 243 255) [] 1 ∷
+    refused call (replicate 243 0) [] 1 ∷
     []
 
 unfoldable pub forms : List Line
@@ -81,9 +90,9 @@ forms =
     join (map ofForm goodCalls) ++ (join (map beforeTable badCalls) ++
     (alone (add (ip 128 9 0 18) 18) (changed 33 5 sound) 1 (changed 33 5 sound) ∷
     alone (add 0 0) (changed 34 3 sound) 1 (changed 34 3 sound) ∷
-    alone (add 0 0) (changed 117 2 sound) 1 (changed 117 2 sound) ∷
+    alone (add 0 0) (changed 123 2 sound) 1 (changed 123 2 sound) ∷
     alone (remove inSlot7) (changed 33 5 sound) 1 (changed 33 5 sound) ∷
-    alone (remove nobody) (changed 116 16 sound) 1 (changed 116 16 sound) ∷ []))
+    alone (remove nobody) (changed 122 16 sound) 1 (changed 122 16 sound) ∷ []))
 
 -- 2: "12,288 octets", all else being good: one less, one more, the number of its numbers; before 3
 unfoldable pub ofTable : Call → List Line
@@ -164,8 +173,8 @@ others =
     alone (remove (ip 128 9 0 13)) sound 18 sound ∷
     alone (remove (ip 128 9 0 14)) sound 18 sound ∷
     -- fresh, 16: AS 0; capability 3; a net that is none; an address off it. 02: "nor by a refused fresh"
-    fresh (set 0 (ip 128 9 0 1) 0 (ip 128 9 0 0)) (replicate 227 255) 16 (replicate 227 255) ∷
-    fresh (set 9 (ip 128 9 0 1) 3 (ip 128 9 0 0)) (replicate 227 255) 16 (replicate 227 255) ∷
-    fresh (set 9 (ip 128 9 0 1) 0 (ip 128 9 0 1)) (replicate 227 255) 16 (replicate 227 255) ∷
+    fresh (set 0 (ip 128 9 0 1) 0 (ip 128 9 0 0)) (replicate 243 255) 16 (replicate 243 255) ∷
+    fresh (set 9 (ip 128 9 0 1) 3 (ip 128 9 0 0)) (replicate 243 255) 16 (replicate 243 255) ∷
+    fresh (set 9 (ip 128 9 0 1) 0 (ip 128 9 0 1)) (replicate 243 255) 16 (replicate 243 255) ∷
     fresh (set 9 (ip 128 10 0 1) 0 (ip 128 9 0 0)) sound 16 sound ∷
     []

@@ -29,66 +29,86 @@ ranges =
     octet 1 9 true true ∷
     -- state 5 of each slot, the free one too
     octet 33 5 false false ∷
-    octet 60 5 false false ∷
-    octet 87 5 false false ∷
-    octet 114 5 false false ∷
-    octet 141 5 false false ∷
-    octet 168 5 false false ∷
-    octet 195 5 false false ∷
-    octet 222 5 false false ∷
+    octet 62 5 false false ∷
+    octet 91 5 false false ∷
+    octet 120 5 false false ∷
+    octet 149 5 false false ∷
+    octet 178 5 false false ∷
+    octet 207 5 false false ∷
+    octet 236 5 false false ∷
     -- mode 3 of each slot
     octet 34 3 false false ∷
-    octet 61 3 false false ∷
-    octet 88 3 false false ∷
-    octet 115 3 false false ∷
-    octet 142 3 false false ∷
-    octet 169 3 false false ∷
-    octet 196 3 false false ∷
-    octet 223 3 false false ∷
+    octet 63 3 false false ∷
+    octet 92 3 false false ∷
+    octet 121 3 false false ∷
+    octet 150 3 false false ∷
+    octet 179 3 false false ∷
+    octet 208 3 false false ∷
+    octet 237 3 false false ∷
     -- 255
     octet 33 255 false false ∷
-    octet 87 255 false false ∷
-    octet 88 255 false false ∷
-    octet 223 255 false false ∷
+    octet 91 255 false false ∷
+    octet 92 255 false false ∷
+    octet 237 255 false false ∷
     -- state 4 and mode 2 are let through: Cease with a cause, Up and passive; then those that other fields forbid
-    octet 141 4 true true ∷
-    octet 88 2 true true ∷
-    octet 87 4 true false ∷
+    octet 149 4 true true ∷
+    octet 92 2 true true ∷
+    octet 91 4 true false ∷
     octet 33 4 true false ∷
     octet 34 2 true false ∷
-    octet 168 4 true false ∷
-    octet 169 2 true false ∷
+    octet 178 4 true false ∷
+    octet 179 2 true false ∷
     -- "register at most 15 and heard at most 1", here of slot 3, which is Down
-    octet 116 15 true true ∷
-    octet 116 16 true false ∷
-    octet 117 0 true true ∷
-    octet 117 2 true false ∷
+    octet 122 15 true true ∷
+    octet 122 16 true false ∷
+    octet 123 0 true true ∷
+    octet 123 2 true false ∷
     -- "cause 5 or 6 in Cease"
-    octet 145 5 true true ∷
-    octet 145 7 true false ∷
+    octet 153 5 true true ∷
+    octet 153 7 true false ∷
     -- "row count at most 128", its lower octet: slot 6 has 128
-    octet 194 127 true true ∷
-    octet 194 129 true false ∷
+    octet 206 127 true true ∷
+    octet 206 129 true false ∷
     -- its higher octet
-    octet 193 1 true false ∷
+    octet 205 1 true false ∷
     -- "t1, t2, t3 at most 122, 482, 3,600; t1 and t3 at least 1 outside Idle": slot 3's
-    octet 107 122 true true ∷
-    octet 107 123 true false ∷
-    octet 107 0 true false ∷
-    octet 111 17 true false ∷
+    octet 113 122 true true ∷
+    octet 113 123 true false ∷
+    octet 113 0 true false ∷
+    octet 117 17 true false ∷
     -- "T1 is 32 to 122, T2 is 122 to 482": slot 3's
-    octet 103 32 true true ∷
-    octet 103 31 true false ∷
-    octet 105 227 true false ∷
+    octet 109 32 true true ∷
+    octet 109 31 true false ∷
+    octet 111 227 true false ∷
+    -- 02, L5: "both to be at most 120": slot 3's Hello and Poll, then in Acquisition, Up and Cease
+    octet 125 0 true true ∷
+    octet 125 120 true true ∷
+    octet 125 121 true false ∷
+    octet 126 0 true true ∷
+    octet 126 120 true true ∷
+    octet 126 121 true false ∷
+    octet 67 120 true true ∷
+    octet 67 121 true false ∷
+    octet 68 121 true false ∷
+    octet 96 121 true false ∷
+    octet 97 121 true false ∷
+    octet 154 120 true true ∷
+    octet 154 121 true false ∷
+    octet 155 255 true false ∷
+    -- "and 0 in Idle": slot 0's, and the free slot's
+    octet 38 1 true false ∷
+    octet 39 1 true false ∷
+    octet 183 1 true false ∷
+    octet 184 120 true false ∷
     -- any S and R
-    octet 98 255 true true ∷
-    octet 101 255 true true ∷
+    octet 104 255 true true ∷
+    octet 107 255 true true ∷
     -- AS 0, our own AS, address 0, our own address, a present one: slot 2's
-    octet 70 0 true false ∷
-    octet 70 9 true false ∷
-    octet 68 1 true false ∷
-    octet 68 10 true false ∷
-    octet 68 6 true true ∷
+    octet 74 0 true false ∷
+    octet 74 9 true false ∷
+    octet 72 1 true false ∷
+    octet 72 10 true false ∷
+    octet 72 6 true true ∷
     -- capability above 2; common net; own address off it
     octet 6 2 true true ∷
     octet 6 3 true false ∷

@@ -157,7 +157,7 @@ slots-set (x ∷ rest) (suc i) slot h =
 
 pub address-part : (l : List ℕ) → addressOf (slotIn (take slotSize l)) ≡ addressOf (slotIn l)
 unfolding slotIn slotOf numbersAt
-address-part l = rw (getD-take 27 l 0 0 (omega arith), getD-take 27 l 1 0 (omega arith), getD-take 27 l 2 0 (omega arith), getD-take 27 l 3 0 (omega arith))
+address-part l = rw (getD-take slotSize l 0 0 (omega arith), getD-take slotSize l 1 0 (omega arith), getD-take slotSize l 2 0 (omega arith), getD-take slotSize l 3 0 (omega arith))
 
 -- those of n slots from the k-th on
 abbrev pub addressesFrom : ℕ → ℕ → List ℕ → List ℕ

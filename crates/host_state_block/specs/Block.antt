@@ -21,11 +21,12 @@ abbrev pub ownFields : List Width
 ownFields = two ∷ four ∷ one ∷ four ∷ []
 
 -- "each slot's address (4), AS, S, R, T1, T2, t1, t2, t3, row count (2 each), state, mode, register, heard, cause
--- (1 each)"
+-- (1 each)", then L5's "two counts of ticks since each", at most 120: "Later fields end their part in the order named,
+-- in as few octets as they need"
 abbrev pub slotFields : List Width
-slotFields = four ∷ two ∷ two ∷ two ∷ two ∷ two ∷ two ∷ two ∷ two ∷ two ∷ one ∷ one ∷ one ∷ one ∷ one ∷ []
+slotFields = four ∷ two ∷ two ∷ two ∷ two ∷ two ∷ two ∷ two ∷ two ∷ two ∷ one ∷ one ∷ one ∷ one ∷ one ∷ one ∷ one ∷ []
 
--- 11 octets, 27 for each of the eight slots, 227 in all
+-- 11 octets, 29 for each of the eight slots, 243 in all
 abbrev pub ownSize : ℕ
 ownSize = total ownFields
 
@@ -60,7 +61,8 @@ slotNumbers slot =
     slot .address ∷ slot .asn ∷ slot .neighbour .s ∷ slot .neighbour .r ∷ slot .neighbour .period1 ∷ slot .neighbour .period2
     ∷ slot .neighbour .t1 ∷ slot .neighbour .t2 ∷ slot .neighbour .t3 ∷ slot .rows
     ∷ phaseNumber (slot .neighbour .phase) ∷ modeNumber (slot .neighbour .mode)
-    ∷ slot .neighbour .register ∷ slot .neighbour .heard ∷ slot .neighbour .cause ∷ []
+    ∷ slot .neighbour .register ∷ slot .neighbour .heard ∷ slot .neighbour .cause
+    ∷ slot .neighbour .sincehello ∷ slot .neighbour .sincepoll ∷ []
 
 abbrev pub phaseField : List ℕ → ℕ
 phaseField f = getD f 10 0
@@ -87,6 +89,8 @@ slotOf f =
             register = getD f 12 0;
             heard = getD f 13 0;
             cause = getD f 14 0;
+            sincehello = getD f 15 0;
+            sincepoll = getD f 16 0;
           };
       rows = getD f 9 0;
     }

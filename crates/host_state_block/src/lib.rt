@@ -18,12 +18,12 @@ ghost use Rattle.host_state_block.specs.Block.{ownSize, slotSize, blockS
 ghost use Rattle.host_state_block.specs.Formed.{inRange, blockFormed};
 ghost use Rattle.host_state_block.specs.Steps.{partFormed, partsFormed};
 
-// The octets of a block: 11 of the settings, 27 of each slot.
-pub const BLOCK: usize = 227;
+// The octets of a block: 11 of the settings, 29 of each slot.
+pub const BLOCK: usize = 243;
 
 const OWN: usize = 11;
 
-const SLOT: usize = 27;
+const SLOT: usize = 29;
 
 const SLOTS: usize = 8;
 
@@ -112,6 +112,8 @@ fn read_slot(part: &[u8]) -> Slot
         register: part[24],
         heard: part[25],
         cause: part[26],
+        sincehello: part[27],
+        sincepoll: part[28],
     };
     Slot {
         address: octets::quad(part[0], part[1], part[2], part[3]),
@@ -376,8 +378,8 @@ fn settings_octets(s: Settings) -> [u8; 11]
     ]
 }
 
-// A slot's 27 octets.
-fn slot_octets(slot: Slot) -> [u8; 27]
+// A slot's 29 octets.
+fn slot_octets(slot: Slot) -> [u8; 29]
     ensures { λ r. ⌜ r ≡ slotOctets slot ⌝ }
 {
     let n = slot.neighbour;
@@ -411,6 +413,8 @@ fn slot_octets(slot: Slot) -> [u8; 27]
         n.register,
         n.heard,
         n.cause,
+        n.sincehello,
+        n.sincepoll,
     ]
 }
 

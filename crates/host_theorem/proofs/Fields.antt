@@ -19,7 +19,7 @@ use Rattle.neighbour.specs.declared.Mode.the-variants.{Unset, Active, Passive}
 use Rattle.neighbour.specs.declared.Neighbour.{Neighbour}
 use Rattle.neighbour.specs.Record.{under, acquired, phaseNumber, modeNumber, idle}
 use Rattle.neighbour_wellformed.specs.Formed.{isUnset, within, registerFormed, agreed, intervalsFormed, causeFormed, wellFormed}
-use Rattle.neighbour_wellformed.proofs.Formed.{pieces, below-numbers}
+use Rattle.neighbour_wellformed.proofs.Formed.{pieces, below-numbers, counts-numbers}
 use Rattle.gateway_state.specs.Slots.{freeSlot}
 use Rattle.gateway_state.specs.Claims.{SlotGood}
 use Rattle.gateway_state.proofs.ListLaws.{every-getD}
@@ -109,6 +109,7 @@ fields-fit address asn n rows a b f h few =
     let g = register-below n (p .registers) in
     let v = intervals-below n (p .intervals) in
     let c = cause-below n (p .causes) in
+    let d = counts-numbers n (p .counts) in
     let s = f .s16 in
     let r = f .r16 in
     let x = phase-small (n .phase) in

@@ -1,3 +1,4 @@
+use native.Mathlib.Omega.{arith}
 use lib.ListN.{getD}
 use Rattle.host_state_block.specs.Layout.{numbersAt}
 use Rattle.host_state_block.specs.Block.{slotOf, slotIn}
@@ -80,6 +81,12 @@ shared-slice-read-mode-at c = search needs
 mode-at-requires : tie.Need-mode-at-requires
 mode-at-requires c κs = search needs
 
+shared-slice-read-pair-15 : tie.Need-shared-slice-read-pair-15
+shared-slice-read-pair-15 c = search needs
+
+shared-slice-read-pair-16 : tie.Need-shared-slice-read-pair-16
+shared-slice-read-pair-16 c = search needs
+
 shared-slice-read-quad : tie.Need-shared-slice-read-quad
 shared-slice-read-quad c = search needs
 
@@ -104,20 +111,20 @@ shared-slice-read-quad-7 c = search needs
 quad-requires : tie.Need-quad-requires
 quad-requires c κs = search needs
 
-shared-slice-read-pair-15 : tie.Need-shared-slice-read-pair-15
-shared-slice-read-pair-15 c = search needs
-
-shared-slice-read-pair-16 : tie.Need-shared-slice-read-pair-16
-shared-slice-read-pair-16 c = search needs
-
-pair-requires-8 : tie.Need-pair-requires-8
-pair-requires-8 c κs = search needs
-
 shared-slice-read-pair-17 : tie.Need-shared-slice-read-pair-17
 shared-slice-read-pair-17 c = search needs
 
 shared-slice-read-pair-18 : tie.Need-shared-slice-read-pair-18
 shared-slice-read-pair-18 c = search needs
+
+pair-requires-8 : tie.Need-pair-requires-8
+pair-requires-8 c κs = search needs
+
+shared-slice-read-pair-19 : tie.Need-shared-slice-read-pair-19
+shared-slice-read-pair-19 c = search needs
+
+shared-slice-read-pair-20 : tie.Need-shared-slice-read-pair-20
+shared-slice-read-pair-20 c = omega (arith, c .before .before .before .before .before .before .before .before .before .before .before .before .before .before .before .before .before .before .before .before .before .before .before .before .before .before .before .before .before .before .before .before .before .before .before .before .before .before .before .before .before .pre)
 
 pair-requires-9 : tie.Need-pair-requires-9
 pair-requires-9 c κs = search needs
@@ -130,18 +137,20 @@ returns c = λ i.
       asn = (c .before .before .before .pair8 .ensures) i;
       neighbour =
           record {
-            s = (c .before .before .before .before .before .before .before .before .before .before .before .before .before .before .before .before .before .before .before .before .before .before .before .before .before .before .before .before .before .before .before .before .before .before .before .before .pair .ensures) i;
-            r = (c .before .before .before .before .before .before .before .before .before .before .before .before .before .before .before .before .before .before .before .before .before .before .before .before .before .before .before .before .before .before .before .before .before .pair2 .ensures) i;
-            period1 = (c .before .before .before .before .before .before .before .before .before .before .before .before .before .before .before .before .before .before .before .before .before .before .before .before .before .before .before .before .before .before .pair3 .ensures) i;
-            period2 = (c .before .before .before .before .before .before .before .before .before .before .before .before .before .before .before .before .before .before .before .before .before .before .before .before .before .before .before .pair4 .ensures) i;
-            t1 = (c .before .before .before .before .before .before .before .before .before .before .before .before .before .before .before .before .before .before .before .before .before .before .before .before .pair5 .ensures) i;
-            t2 = (c .before .before .before .before .before .before .before .before .before .before .before .before .before .before .before .before .before .before .before .before .before .pair6 .ensures) i;
-            t3 = (c .before .before .before .before .before .before .before .before .before .before .before .before .before .before .before .before .before .before .pair7 .ensures) i;
-            phase = (c .before .before .before .before .before .before .before .before .before .before .before .before .before .before .before .before .phase-at .ensures) i;
-            mode = (c .before .before .before .before .before .before .before .before .before .before .before .before .before .before .mode-at .ensures) i;
-            register = getD (c .before .before .before .before .before .before .before .before .before .before .before .before .before .before .before .before .before .before .before .before .before .before .before .before .before .before .before .before .before .before .before .before .before .before .before .before .before .before .before .before .args .part .now) 24 0;
-            heard = getD (c .before .before .before .before .before .before .before .before .before .before .before .before .before .before .before .before .before .before .before .before .before .before .before .before .before .before .before .before .before .before .before .before .before .before .before .before .before .before .before .before .args .part .now) 25 0;
-            cause = getD (c .before .before .before .before .before .before .before .before .before .before .before .before .before .before .before .before .before .before .before .before .before .before .before .before .before .before .before .before .before .before .before .before .before .before .before .before .before .before .before .before .args .part .now) 26 0;
+            s = (c .before .before .before .before .before .before .before .before .before .before .before .before .before .before .before .before .before .before .before .before .before .before .before .before .before .before .before .before .before .before .before .before .before .before .before .before .before .before .pair .ensures) i;
+            r = (c .before .before .before .before .before .before .before .before .before .before .before .before .before .before .before .before .before .before .before .before .before .before .before .before .before .before .before .before .before .before .before .before .before .before .before .pair2 .ensures) i;
+            period1 = (c .before .before .before .before .before .before .before .before .before .before .before .before .before .before .before .before .before .before .before .before .before .before .before .before .before .before .before .before .before .before .before .before .pair3 .ensures) i;
+            period2 = (c .before .before .before .before .before .before .before .before .before .before .before .before .before .before .before .before .before .before .before .before .before .before .before .before .before .before .before .before .before .pair4 .ensures) i;
+            t1 = (c .before .before .before .before .before .before .before .before .before .before .before .before .before .before .before .before .before .before .before .before .before .before .before .before .before .before .pair5 .ensures) i;
+            t2 = (c .before .before .before .before .before .before .before .before .before .before .before .before .before .before .before .before .before .before .before .before .before .before .before .pair6 .ensures) i;
+            t3 = (c .before .before .before .before .before .before .before .before .before .before .before .before .before .before .before .before .before .before .before .before .pair7 .ensures) i;
+            phase = (c .before .before .before .before .before .before .before .before .before .before .before .before .before .before .before .before .before .before .phase-at .ensures) i;
+            mode = (c .before .before .before .before .before .before .before .before .before .before .before .before .before .before .before .before .mode-at .ensures) i;
+            register = getD (c .before .before .before .before .before .before .before .before .before .before .before .before .before .before .before .before .before .before .before .before .before .before .before .before .before .before .before .before .before .before .before .before .before .before .before .before .before .before .before .before .before .before .args .part .now) 24 0;
+            heard = getD (c .before .before .before .before .before .before .before .before .before .before .before .before .before .before .before .before .before .before .before .before .before .before .before .before .before .before .before .before .before .before .before .before .before .before .before .before .before .before .before .before .before .before .args .part .now) 25 0;
+            cause = getD (c .before .before .before .before .before .before .before .before .before .before .before .before .before .before .before .before .before .before .before .before .before .before .before .before .before .before .before .before .before .before .before .before .before .before .before .before .before .before .before .before .before .before .args .part .now) 26 0;
+            sincehello = getD (c .before .before .before .before .before .before .before .before .before .before .before .before .before .before .before .before .before .before .before .before .before .before .before .before .before .before .before .before .before .before .before .before .before .before .before .before .before .before .before .before .before .before .args .part .now) 27 0;
+            sincepoll = getD (c .before .before .before .before .before .before .before .before .before .before .before .before .before .before .before .before .before .before .before .before .before .before .before .before .before .before .before .before .before .before .before .before .before .before .before .before .before .before .before .before .before .before .args .part .now) 28 0;
           };
       rows = (c .pair9 .ensures) i;
     }
@@ -175,6 +184,8 @@ read-slot-spec =
     phase-at-requires
     shared-slice-read-mode-at
     mode-at-requires
+    shared-slice-read-pair-15
+    shared-slice-read-pair-16
     shared-slice-read-quad
     shared-slice-read-quad-2
     shared-slice-read-quad-3
@@ -183,10 +194,10 @@ read-slot-spec =
     shared-slice-read-quad-6
     shared-slice-read-quad-7
     quad-requires
-    shared-slice-read-pair-15
-    shared-slice-read-pair-16
-    pair-requires-8
     shared-slice-read-pair-17
     shared-slice-read-pair-18
+    pair-requires-8
+    shared-slice-read-pair-19
+    shared-slice-read-pair-20
     pair-requires-9
     returns)

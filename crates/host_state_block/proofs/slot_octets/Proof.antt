@@ -91,7 +91,8 @@ returns c = λ i.
     ∷ (c .before .before .before .before .before .high8 .ensures) i ∷ (c .before .before .before .before .low8 .ensures) i
     ∷ (c .before .before .before .high9 .ensures) i ∷ (c .before .before .low9 .ensures) i
     ∷ (c .before .phase-number .ensures) i ∷ (c .mode-number .ensures) i
-    ∷ c .before .before .before .before .before .before .before .before .before .before .before .before .before .before .before .before .before .before .before .before .before .before .before .before .before .args .slot .neighbour .register ∷ c .before .before .before .before .before .before .before .before .before .before .before .before .before .before .before .before .before .before .before .before .before .before .before .before .before .args .slot .neighbour .heard ∷ c .before .before .before .before .before .before .before .before .before .before .before .before .before .before .before .before .before .before .before .before .before .before .before .before .before .args .slot .neighbour .cause ∷ []
+    ∷ c .before .before .before .before .before .before .before .before .before .before .before .before .before .before .before .before .before .before .before .before .before .before .before .before .before .args .slot .neighbour .register ∷ c .before .before .before .before .before .before .before .before .before .before .before .before .before .before .before .before .before .before .before .before .before .before .before .before .before .args .slot .neighbour .heard ∷ c .before .before .before .before .before .before .before .before .before .before .before .before .before .before .before .before .before .before .before .before .before .before .before .before .before .args .slot .neighbour .cause
+    ∷ c .before .before .before .before .before .before .before .before .before .before .before .before .before .before .before .before .before .before .before .before .before .before .before .before .before .args .slot .neighbour .sincehello ∷ c .before .before .before .before .before .before .before .before .before .before .before .before .before .before .before .before .before .before .before .before .before .before .before .before .before .args .slot .neighbour .sincepoll ∷ []
 
 pub slot-octets-spec : {M : Type 1} → statement M
 slot-octets-spec =

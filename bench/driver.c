@@ -8,7 +8,7 @@
 #include <stdio.h>
 #include <string.h>
 
-enum { HEAD = 32, MOST = 4096, BUFFER = 70000, BLOCK = 11 + SLOTS * 27, MEANING = 24, READING = MEANING + ROWS * 12 };
+enum { HEAD = 32, MOST = 4096, BUFFER = 70000, BLOCK = 11 + SLOTS * 29, MEANING = 24, READING = MEANING + ROWS * 12 };
 enum { FRESH, ADD, REMOVE, START, STOP, TICK, MESSAGE, LISTING, READ, WRITE, HAND_STATE, HAND_TABLE };
 enum { NO_CALL = 255 };
 
@@ -45,11 +45,11 @@ static struct gateway read_block(const uint8_t *at)
     g.net = take(&at, 4);
     for (struct neighbour *n = g.slots; n < g.slots + SLOTS; n++) {
         uint16_t *words[] = {&n->as, &n->s, &n->r, &n->hello, &n->poll, &n->t1, &n->t2, &n->t3, &n->rows};
-        uint8_t *last[] = {&n->phase, &n->mode, &n->reach, &n->heard, &n->cause};
+        uint8_t *last[] = {&n->phase, &n->mode, &n->reach, &n->heard, &n->cause, &n->since_hello, &n->since_poll};
         n->address = take(&at, 4);
         for (unsigned i = 0; i < 9; i++)
             *words[i] = (uint16_t)take(&at, 2);
-        for (unsigned i = 0; i < 5; i++)
+        for (unsigned i = 0; i < 7; i++)
             *last[i] = (uint8_t)take(&at, 1);
     }
     return g;
@@ -63,11 +63,11 @@ static void write_block(uint8_t *at, const struct gateway *g)
     put(&at, g->net, 4);
     for (const struct neighbour *n = g->slots; n < g->slots + SLOTS; n++) {
         uint16_t words[] = {n->as, n->s, n->r, n->hello, n->poll, n->t1, n->t2, n->t3, n->rows};
-        uint8_t last[] = {n->phase, n->mode, n->reach, n->heard, n->cause};
+        uint8_t last[] = {n->phase, n->mode, n->reach, n->heard, n->cause, n->since_hello, n->since_poll};
         put(&at, n->address, 4);
         for (unsigned i = 0; i < 9; i++)
             put(&at, words[i], 2);
-        for (unsigned i = 0; i < 5; i++)
+        for (unsigned i = 0; i < 7; i++)
             put(&at, last[i], 1);
     }
 }

@@ -6,7 +6,8 @@
 
 enum { P1 = 30, P2 = 120, P3 = 30, P4 = 3600, P5 = 120 };
 enum { STATUS_UP = 1, STATUS_DOWN = 2, PROHIBITED = 4, GOING_DOWN = 5, PARAMETER_PROBLEM = 6 };
-enum { UNSPECIFIED, BAD_HEADER, BAD_DATA, UNAVAILABLE }; /* an Error's reasons */
+enum { UNSPECIFIED, BAD_HEADER, BAD_DATA, UNAVAILABLE, EXCESSIVE_RATE }; /* an Error's reasons */
+enum { HELLO_TICKS = 30, POLL_TICKS = 120, MOST_TICKS = 120 };           /* between two of a kind; counted at most */
 
 static struct outcome answered(enum answer answer)
 {
@@ -35,7 +36,7 @@ static bool is_acquired(const struct neighbour *n)
 static bool is_bare(const struct neighbour *n)
 {
     return !(n->s | n->r | n->hello | n->poll | n->t1 | n->t2 | n->t3 | n->rows | n->phase | n->mode | n->reach |
-             n->heard | n->cause);
+             n->heard | n->cause | n->since_hello | n->since_poll);
 }
 
 /* Down and Up: terms are agreed on, and reachability runs. */
@@ -56,6 +57,8 @@ static bool variables_hold(const struct neighbour *n)
     if (n->phase == IDLE)
         return is_bare(n);
     if (!within(n->t1, 1, 122) || !within(n->t3, 1, P4))
+        return false;
+    if (n->since_hello > MOST_TICKS || n->since_poll > MOST_TICKS)
         return false;
     if (n->phase == UP)
         return within(n->t2, 1, 482) && n->rows <= ROWS && reachability_holds(n);
@@ -229,7 +232,7 @@ static void enter_idle(struct turn *t)
     *t->n = (struct neighbour){.address = t->n->address, .as = t->n->as};
 }
 
-/* Acquisition or Cease: no terms; S and R stay. */
+/* Acquisition or Cease: no terms; S, R and the counts of ticks stay. */
 static void enter_unacquired(struct turn *t, enum phase phase, uint8_t cause)
 {
     struct neighbour *n = t->n;
@@ -283,6 +286,7 @@ static void enter_down(struct turn *t, const uint8_t *message)
     n->reach = n->heard = 0;
     n->t1 = n->hello;
     n->t3 = P5;
+    n->since_hello = n->since_poll = MOST_TICKS;
     send_hello_if_active(t);
 }
 
@@ -316,6 +320,8 @@ static void receive_confirm(struct turn *t, const uint8_t *message)
 
 static void receive_poll(struct turn *t, const uint8_t *message, const struct row *home, size_t count)
 {
+    if (is_acquired(t->n))
+        t->n->since_poll = 0;
     if (t->n->phase != UP)
         return;
     if (get32(message + 12) == t->g->net)
@@ -329,6 +335,14 @@ static void replace_rows(struct turn *t, const struct row *rows, unsigned count)
     t->n->rows = (uint16_t)count;
     memcpy(t->rows, rows, count * sizeof *rows);
     memset(t->rows + count, 0, (ROWS - count) * sizeof *rows);
+}
+
+/* Hellos and Polls of an acquired neighbour must be some ticks apart. */
+static bool is_too_quick(const struct neighbour *n, enum kind kind)
+{
+    if (kind == HELLO)
+        return is_acquired(n) && n->since_hello < HELLO_TICKS;
+    return kind == POLL && is_acquired(n) && n->since_poll < POLL_TICKS;
 }
 
 /* Whether a message shows that the neighbour hears us. */
@@ -383,6 +397,8 @@ static void do_tick(struct turn *t)
     bool was_up = n->phase == UP;
     if (n->phase == IDLE)
         return;
+    n->since_hello += n->since_hello < MOST_TICKS;
+    n->since_poll += n->since_poll < MOST_TICKS;
     if (--n->t3 == 0) {
         do_stop(t);
         return;
@@ -474,7 +490,7 @@ static struct outcome refuse_stranger(struct turn *t, const uint8_t *message, si
     return t->o;
 }
 
-/* 10 to 12, 14 and 15 are answered with an Error in Down and Up, unless the message is one itself. */
+/* 10 to 12, 14, 15 and 21 are answered with an Error in Down and Up, unless the message is one itself. */
 static struct outcome refuse_with_error(struct turn *t, enum answer answer, uint16_t reason, const uint8_t *message,
                                         size_t length)
 {
@@ -511,8 +527,10 @@ static void receive(struct turn *t, enum kind kind, const uint8_t *message, cons
             enter_idle(t);
         break;
     case HELLO:
-        if (was_acquired)
+        if (was_acquired) {
+            n->since_hello = 0;
             send_short(t, I_H_U, reach_status(n), sequence);
+        }
         break;
     case POLL: receive_poll(t, message, home, home_count); break;
     case UPDATE:
@@ -551,6 +569,8 @@ struct outcome gateway_message(struct gateway *g, const struct lent *lent, uint3
         return refuse_with_error(&t, answer, BAD_HEADER, message, length);
     if (t.n->phase != IDLE && must_carry_s(kind) && get16(message + 8) != t.n->s)
         return answered(OUT_OF_SEQUENCE);
+    if (is_too_quick(t.n, kind))
+        return refuse_with_error(&t, TOO_QUICK, EXCESSIVE_RATE, message, length);
     if (kind == UPDATE && t.n->phase == UP) {
         answer = read_rows(message, length, g->net, rows, &count);
         if (answer)

@@ -20,7 +20,7 @@ enum {
     LONGEST = 2048
 };
 
-/* Checks are made in this order, and the first that fails answers. */
+/* Checks are made in this order, 21 after 13, and the first that fails answers. */
 enum answer {
     DONE,
     BAD_STATE,
@@ -40,7 +40,8 @@ enum answer {
     TOO_MANY_ROWS,
     BAD_SETTING,
     NO_FREE_SLOT,
-    NOT_IDLE
+    NOT_IDLE,
+    TOO_QUICK = 21 /* 19 and 20 are no gateway's */
 };
 
 enum phase { IDLE, ACQUISITION, DOWN, UP, CEASE };
@@ -53,6 +54,7 @@ struct neighbour {
     uint16_t as, s, r, hello, poll; /* hello and poll: T1 and T2 */
     uint16_t t1, t2, t3, rows;
     uint8_t phase, mode, reach, heard, cause; /* reach: the register of the last four intervals */
+    uint8_t since_hello, since_poll;          /* ticks since the last of each in this acquisition, up to 120 */
 };
 
 struct gateway {

@@ -1,7 +1,7 @@
 //! The answer numbers (01, "Answer numbers").
 
-/// What a call answers. The discriminant is 01's number; checks go in this order and the first
-/// that fails answers.
+/// What a call answers. The discriminant is 01's number; checks go in this order, but for those of
+/// 02 whose place is named, and the first that fails answers.
 #[derive(Clone, Copy, Debug, PartialEq, Eq, PartialOrd, Ord, Hash)]
 #[repr(u8)]
 pub enum Answer {
@@ -47,6 +47,8 @@ pub enum Answer {
     BadLine = 19,
     /// A state block that has not its length (02, L4): before 1.
     BlockLength = 20,
+    /// A Hello or Poll too soon after the last one (02, L5): after 13.
+    TooQuick = 21,
 }
 
 impl Answer {

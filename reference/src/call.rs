@@ -113,7 +113,7 @@ impl CallKind {
             CallKind::Add => &[0, 1, 16, 17],
             CallKind::Remove => &[0, 1, 5, 18],
             CallKind::Start | CallKind::Stop | CallKind::Tick => &[0, 1, 2, 3, 5],
-            CallKind::Message => &[0, 1, 2, 3, 4, 5, 6, 7, 8, 9, 10, 11, 12, 13, 14, 15],
+            CallKind::Message => &[0, 1, 2, 3, 4, 5, 6, 7, 8, 9, 10, 11, 12, 13, 14, 15, 21],
             CallKind::Listing => &[0, 1, 2, 3],
             CallKind::Read => &[0, 6, 7, 8, 10, 11, 12, 14, 15],
             CallKind::Write => &[0, 3, 16],

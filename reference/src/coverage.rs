@@ -328,7 +328,7 @@ impl Survey {
         let was = before.state.neighbours[slot];
         let is = after.state.neighbours[slot];
         let number = record.answer.number();
-        if (9..=15).contains(&number) {
+        if (9..=15).contains(&number) || record.answer == Answer::TooQuick {
             self.observe_refusal(octets, &was, record, origin);
         }
         self.observe_replies(record, origin);
@@ -417,7 +417,7 @@ impl Survey {
             Answer::BadStatus | Answer::WrongLength => {
                 self.hit(Section::Refusals, format!("{number} of {kind:?}"), origin);
             }
-            Answer::OutOfSequence => {
+            Answer::OutOfSequence | Answer::TooQuick => {
                 let label = format!("{number} of {kind:?} in {state:?}");
                 self.hit(Section::Refusals, label, origin);
             }
@@ -594,6 +594,7 @@ fn expected() -> Vec<(Section, String)> {
         "Error 1",
         "Error 2",
         "Error 3",
+        "Error 4",
         "Confirm, then Hello 2",
         "Hello 1, then Poll",
     ] {
@@ -629,6 +630,12 @@ fn expected() -> Vec<(Section, String)> {
     }
     for number in [14, 15] {
         want(Section::Refusals, format!("{number} in Up, reply"));
+    }
+    for state in [Down, Up] {
+        want(Section::Refusals, format!("21 in {state:?}, reply"));
+        for kind in [Kind::Hello, Kind::Poll] {
+            want(Section::Refusals, format!("21 of {kind:?} in {state:?}"));
+        }
     }
     for kind in Kind::ALL {
         want(Section::Refusals, format!("11 of {kind:?}"));
@@ -704,7 +711,12 @@ fn indication(mode: Mode, kind: Kind, state: NeighbourState) -> String {
 }
 
 /// The row of the machine's table a good message belongs to.
-fn event_label(kind: Kind, octets: &[u8], state: &State, was: &Neighbour) -> &'static str {
+pub(crate) fn event_label(
+    kind: Kind,
+    octets: &[u8],
+    state: &State,
+    was: &Neighbour,
+) -> &'static str {
     let number16 = |at: usize| u16::from_be_bytes([octets[at], octets[at + 1]]);
     let acceptable = || {
         let intervals = Intervals {

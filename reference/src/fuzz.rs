@@ -12,7 +12,7 @@ use crate::gateway::{State, SLOTS, TABLE_NUMBERS};
 use crate::generate::hosts::{Hosts, BLOCK_LENGTHS, TABLE_LENGTHS};
 use crate::host::{self, row_octets, takes, HostCall, Part, TABLE};
 use crate::message::{Kind, SHORTEST, VERSION};
-use crate::neighbour::{Mode, Neighbour, NeighbourState};
+use crate::neighbour::{Mode, Neighbour, NeighbourState, MOST_TICKS};
 use crate::net::Class;
 use crate::record::{self, MEANING, STATE_BLOCK};
 use crate::update::{Row, MOST_ROWS};
@@ -240,6 +240,8 @@ fn neighbour(input: &mut Input, address: u32, as_number: u16, state: NeighbourSt
     n.receive_sequence = input.number16();
     n.t1 = input.within(1, 122);
     n.t3 = input.within(1, 3_600);
+    n.since_hello = input.octet() % (MOST_TICKS + 1);
+    n.since_poll = input.octet() % (MOST_TICKS + 1);
     if state.is_acquired() {
         n.hello_interval = input.within(32, 122);
         n.poll_interval = input.within(122, 482);

@@ -4,7 +4,8 @@ use crate::answer::Answer;
 use crate::message::{self, Body, Kind, Message, ERROR_TYPE, REPLY_BUFFER};
 use crate::neighbour::{
     self, Event, Local, Mode, Neighbour, NeighbourState, RowChange, Transition,
-    ADMINISTRATIVELY_PROHIBITED, BAD_DATA, BAD_HEADER, UNSPECIFIED,
+    ADMINISTRATIVELY_PROHIBITED, BAD_DATA, BAD_HEADER, EXCESSIVE_POLLING_RATE, MOST_TICKS,
+    UNSPECIFIED,
 };
 use crate::net;
 use crate::update::{Row, MOST_ROWS};
@@ -47,7 +48,8 @@ impl State {
         as_number != 0 && as_number != self.as_number && address != 0 && address != self.address
     }
 
-    /// Check 1. It is exactly 01's list, no stronger: many states pass that no calls lead to.
+    /// Check 1. It is exactly 01's list with 02's fields, no stronger: many states pass that no
+    /// calls lead to.
     pub fn is_well_formed(&self) -> bool {
         self.own_settings_hold()
             && self
@@ -115,6 +117,7 @@ fn variables_are_well_formed(neighbour: &Neighbour) -> bool {
     } else {
         n.cause == 0
     };
+    let counts = n.since_hello <= MOST_TICKS && n.since_poll <= MOST_TICKS;
     rows && idle_is_bare
         && timers_bounded
         && timers_run
@@ -122,6 +125,7 @@ fn variables_are_well_formed(neighbour: &Neighbour) -> bool {
         && reachability
         && terms
         && cause
+        && counts
 }
 
 /// What a call gives back: the answer, two lengths and the state after it.
@@ -235,7 +239,7 @@ fn plain_event(
     carry_out(state, table, reply, slot, transition)
 }
 
-/// A message from `address`: checks 1 to 15.
+/// A message from `address`: checks 1 to 13, 21, 14 and 15.
 pub fn message(
     state: &State,
     table: &mut [u32],
@@ -331,7 +335,7 @@ impl Refusal {
     }
 }
 
-/// Checks 6 to 15 of a message from a known neighbour.
+/// Checks 6 to 13, 21, 14 and 15 of a message from a known neighbour.
 fn examine(local: Local, neighbour: &Neighbour, octets: &[u8]) -> Result<Message, Refusal> {
     message::check_frame(octets).map_err(Refusal::silent)?;
     if message::as_number(octets) != neighbour.as_number {
@@ -347,6 +351,12 @@ fn examine(local: Local, neighbour: &Neighbour, octets: &[u8]) -> Result<Message
         && message::sequence(octets) != neighbour.send_sequence;
     if out_of_sequence {
         return Err(Refusal::silent(Answer::OutOfSequence));
+    }
+    if neighbour.is_too_soon_for(kind) {
+        let (answer, reason) = (Answer::TooQuick, EXCESSIVE_POLLING_RATE);
+        return Err(Refusal::with_error(
+            answer, reason, local, neighbour, octets,
+        ));
     }
     // The body of an Update is looked at in Up only.
     let mut rows = Vec::new();

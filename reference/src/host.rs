@@ -288,7 +288,7 @@ pub fn read_block(block: &[u8]) -> Result<State, Answer> {
 }
 
 /// The next slot: "address (4), AS, S, R, T1, T2, t1, t2, t3, row count (2 each), state, mode,
-/// register, heard, cause (1 each)".
+/// register, heard, cause (1 each)", then L5's two counts of ticks, Hello's first.
 fn read_slot(fields: &mut Fields) -> Option<Neighbour> {
     Some(Neighbour {
         address: fields.number32(),
@@ -306,6 +306,8 @@ fn read_slot(fields: &mut Fields) -> Option<Neighbour> {
         register: fields.octet(),
         heard: fields.octet(),
         cause: fields.octet(),
+        since_hello: fields.octet(),
+        since_poll: fields.octet(),
     })
 }
 

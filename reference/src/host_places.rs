@@ -12,10 +12,11 @@ use crate::coverage::{Moment, Survey};
 use crate::gateway::{State, SLOTS};
 use crate::generate::faults::STATE_FAULTS;
 use crate::generate::hosts::{
-    unused_octets, Case, BLOCK_LENGTHS, MEANING_LENGTHS, MODE_OCTET, ROW_LENGTHS, SETTINGS, SLOT,
-    STATE_OCTET, TABLE_LENGTHS,
+    unused_octets, Case, BLOCK_LENGTHS, EARLIER_BLOCK, LATER_BLOCK, MEANING_LENGTHS, MODE_OCTET,
+    ROW_LENGTHS, SETTINGS, SINCE_HELLO_OCTET, SINCE_POLL_OCTET, SLOT, STATE_OCTET, TABLE_LENGTHS,
 };
 use crate::host::{self, are_whole_rows, takes, HostCall, Part, ROW, TABLE};
+use crate::neighbour::NeighbourState;
 use crate::record::{MEANING, STATE_BLOCK};
 use crate::update::MOST_ROWS;
 
@@ -48,7 +49,7 @@ impl Group {
             Group::Answers => "each answer of each call",
             Group::Order => "two checks that fail at once",
             Group::BlockLengths => "a block of another length",
-            Group::Codes => "a number for a state or mode that is none's",
+            Group::Codes => "a number that no state, mode or count of ticks has",
             Group::Clauses => "one rule of well-formedness broken",
             Group::Garbage => "blocks of any octets, or with one octet changed",
             Group::Fresh => "fresh over a block of any octets",
@@ -172,11 +173,11 @@ fn expected() -> Found {
         for &(first, second) in pairs(kind) {
             found.push((Group::Order, order_label(kind, first, second)));
         }
-        for length in [0, 1, 226, 228, 404]
-            .iter()
-            .filter(|_| takes(kind, Part::Block))
-        {
-            found.push((Group::BlockLengths, length_label(kind, *length)));
+        let near = [STATE_BLOCK - 1, STATE_BLOCK + 1];
+        for length in [0, 1, EARLIER_BLOCK, LATER_BLOCK].iter().chain(&near) {
+            if takes(kind, Part::Block) {
+                found.push((Group::BlockLengths, length_label(kind, *length)));
+            }
         }
         for length in TABLE_LENGTHS.iter().filter(|_| takes(kind, Part::Table)) {
             found.push((Group::TableLengths, length_label(kind, *length)));
@@ -190,14 +191,24 @@ fn expected() -> Found {
         found.push((Group::BlockLengths, any_call_label(length)));
     }
     for slot in 0..SLOTS {
-        found.push((Group::Codes, code_label("state 5", slot)));
-        found.push((Group::Codes, code_label("mode 3", slot)));
+        for (name, _, code) in NUMBERS {
+            if code != 255 {
+                found.push((Group::Codes, code_label(&format!("{name} {code}"), slot)));
+            }
+        }
         for use_of_slot in USES {
             found.push((Group::Slots, format!("slot {slot}: {use_of_slot}")));
         }
     }
-    for label in CODES {
-        found.push((Group::Codes, label.into()));
+    for (name, _, code) in NUMBERS {
+        let label = format!("{name} {code}");
+        found.push((
+            Group::Codes,
+            match code {
+                255 => label,
+                _ => format!("{label} in a free slot"),
+            },
+        ));
     }
     for clause in STATE_FAULTS {
         found.push((Group::Clauses, clause.into()));
@@ -239,11 +250,16 @@ fn expected() -> Found {
 /// The number of an Update in a meaning.
 const UPDATE: u8 = 8;
 
-const CODES: [&str; 4] = [
-    "state 255",
-    "mode 255",
-    "state 5 in a free slot",
-    "mode 3 in a free slot",
+/// Numbers that no state, mode or count of ticks has, and where in a slot they stand.
+const NUMBERS: [(&str, usize, u8); 8] = [
+    ("state", STATE_OCTET, 5),
+    ("state", STATE_OCTET, 255),
+    ("mode", MODE_OCTET, 3),
+    ("mode", MODE_OCTET, 255),
+    ("since Hello", SINCE_HELLO_OCTET, 121),
+    ("since Hello", SINCE_HELLO_OCTET, 255),
+    ("since Poll", SINCE_POLL_OCTET, 121),
+    ("since Poll", SINCE_POLL_OCTET, 255),
 ];
 
 const GARBAGE: [&str; 6] = [
@@ -264,7 +280,7 @@ const FRESH: [&str; 6] = [
     "fresh: address off the net",
 ];
 
-const USES: [&str; 8] = [
+const USES: [&str; 10] = [
     "Start changes it",
     "Stop changes it",
     "Tick changes it",
@@ -273,6 +289,8 @@ const USES: [&str; 8] = [
     "removed",
     "rows written",
     "rows cleared",
+    "since Hello zeroed",
+    "since Poll zeroed",
 ];
 
 /// The places that a call reaches.
@@ -420,13 +438,8 @@ fn broken_blocks(case: &Case, found: &mut Found) {
     let block = &case.call.lent.block;
     for (slot, octets) in block[SETTINGS..].chunks_exact(SLOT).enumerate() {
         let at = SETTINGS + SLOT * slot;
-        for (name, place, code) in [
-            ("state", STATE_OCTET, 5),
-            ("state", STATE_OCTET, 255),
-            ("mode", MODE_OCTET, 3),
-            ("mode", MODE_OCTET, 255),
-        ] {
-            // With a number that is one's, the block would be good.
+        for (name, place, code) in NUMBERS {
+            // With a number that it can have, the block would be good.
             if octets[place] != code || !is_good_with(block, at + place, 0..5) {
                 continue;
             }
@@ -479,6 +492,13 @@ fn slots(case: &Case, found: &mut Found) {
             CallKind::Add => note("added"),
             CallKind::Remove => note("removed"),
             _ => note(&format!("{kind:?} changes it")),
+        }
+        let [was, is] = [&before, &after].map(|state| state.neighbours[slot]);
+        if is.state != NeighbourState::Idle && was.since_hello > 0 && is.since_hello == 0 {
+            note("since Hello zeroed");
+        }
+        if is.state != NeighbourState::Idle && was.since_poll > 0 && is.since_poll == 0 {
+            note("since Poll zeroed");
         }
         let counts = |state: &State| state.neighbours[slot].row_count;
         let area = SLOT_OCTETS * slot..SLOT_OCTETS * (slot + 1);

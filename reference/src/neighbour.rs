@@ -1,6 +1,6 @@
-//! The state machine of one neighbour (01, "One neighbour"; 02, L3; RFC 904, sections 3 and 4).
+//! The state machine of one neighbour (01, "One neighbour"; 02, L3, L5; RFC 904, sections 3 and 4).
 
-use crate::message::{self, Body, Intervals, Message};
+use crate::message::{Body, Intervals, Kind, Message};
 use crate::update::Row;
 
 /// Smallest interval between Hellos we take, seconds.
@@ -13,6 +13,13 @@ pub const P3: u16 = 30;
 pub const P4: u16 = 3600;
 /// How long a neighbour is kept without one.
 pub const P5: u16 = 120;
+
+/// "A Hello less than 30 ticks, or a Poll less than 120 ticks, after the last one" comes too soon
+/// (02, L5).
+pub const HELLO_TICKS: u8 = 30;
+pub const POLL_TICKS: u8 = 120;
+/// Where both counts of ticks hold.
+pub const MOST_TICKS: u8 = 120;
 
 /// "Unacceptable: hello above 120, poll above 480".
 pub const LONGEST_HELLO: u16 = 120;
@@ -39,6 +46,7 @@ pub const UNSPECIFIED: u16 = 0;
 pub const BAD_HEADER: u16 = 1;
 pub const BAD_DATA: u16 = 2;
 pub const INFO_UNAVAILABLE: u16 = 3;
+pub const EXCESSIVE_POLLING_RATE: u16 = 4;
 
 /// The five states of RFC 904.
 #[derive(Clone, Copy, Debug, Default, PartialEq, Eq, PartialOrd, Ord, Hash)]
@@ -101,6 +109,10 @@ pub struct Neighbour {
     /// The status of the Cease we repeat.
     pub cause: u8,
     pub row_count: u16,
+    /// Ticks since the last Hello carried out in this acquisition, and since the last Poll: at most
+    /// [`MOST_TICKS`], and as many if there was none.
+    pub since_hello: u8,
+    pub since_poll: u8,
 }
 
 impl Neighbour {
@@ -115,6 +127,17 @@ impl Neighbour {
 
     pub fn is_used(&self) -> bool {
         self.address != 0
+    }
+
+    /// Check 21: whether a message of this kind comes too soon after the last. "The rule holds in
+    /// Down and Up only."
+    pub(crate) fn is_too_soon_for(&self, kind: Kind) -> bool {
+        self.state.is_acquired()
+            && match kind {
+                Kind::Hello => self.since_hello < HELLO_TICKS,
+                Kind::Poll => self.since_poll < POLL_TICKS,
+                _ => false,
+            }
     }
 }
 
@@ -275,6 +298,7 @@ impl Machine<'_> {
             }
             Body::Hello => {
                 if before.state.is_acquired() {
+                    self.neighbour.since_hello = 0;
                     let status = reachability_status(before.state);
                     self.send_response(status, message.sequence, Body::IHeardYou);
                 }
@@ -332,6 +356,10 @@ impl Machine<'_> {
     }
 
     fn poll(&mut self, message: &Message, net: u32, quote: [u8; 12]) {
+        // In Down too, where nothing else is done, and whatever net it asks for.
+        if self.neighbour.state.is_acquired() {
+            self.neighbour.since_poll = 0;
+        }
         if self.neighbour.state != NeighbourState::Up {
             return;
         }
@@ -374,6 +402,7 @@ impl Machine<'_> {
         if before == NeighbourState::Idle {
             return;
         }
+        self.count_tick();
         self.neighbour.t3 -= 1;
         if self.neighbour.t3 == 0 {
             self.stop();
@@ -399,6 +428,19 @@ impl Machine<'_> {
             if self.neighbour.t2 == 0 {
                 self.send_poll();
             }
+        }
+    }
+
+    /// "Every tick carried out outside Idle adds one to each below 120": also the one that t3 ends,
+    /// where Idle then zeroes both.
+    fn count_tick(&mut self) {
+        let Neighbour {
+            since_hello,
+            since_poll,
+            ..
+        } = &mut self.neighbour;
+        for count in [since_hello, since_poll] {
+            *count = (*count + 1).min(MOST_TICKS);
         }
     }
 
@@ -440,7 +482,7 @@ impl Machine<'_> {
     }
 
     /// A (its Confirm is already sent) and B: "T1, T2, M set, register and heard 0, t1 = T1,
-    /// t3 = P5, then Hello if active".
+    /// t3 = P5, then Hello if active"; by 02's L5 both counts of ticks "set to 120".
     fn enter_down(&mut self, terms: Terms) {
         self.leave_up();
         let neighbour = &mut self.neighbour;
@@ -452,6 +494,8 @@ impl Machine<'_> {
         neighbour.heard = 0;
         neighbour.t1 = terms.hello_interval;
         neighbour.t3 = P5;
+        neighbour.since_hello = MOST_TICKS;
+        neighbour.since_poll = MOST_TICKS;
         self.send_hello_if_active();
     }
 
@@ -465,7 +509,7 @@ impl Machine<'_> {
     }
 
     /// "Entering Acquisition or Cease, or Start in Acquisition: t1 = P3, t3 = P5, and T1, T2, M,
-    /// register and heard 0; S and R stay."
+    /// register and heard 0; S and R stay." So do the counts of ticks, which only Idle zeroes.
     fn settle_unacquired(&mut self) {
         let neighbour = &mut self.neighbour;
         neighbour.t1 = P3;
@@ -554,7 +598,6 @@ impl Machine<'_> {
 /// Down or Up whose status without the unsolicited bit is 1 is an indication too. Active mode
 /// stays as it was."
 fn is_indication(mode: Mode, message: &Message) -> bool {
-    use message::Kind;
     match (mode, message.kind()) {
         (Mode::Active, Kind::Confirm | Kind::IHeardYou | Kind::Update) => true,
         (Mode::Passive, Kind::Hello | Kind::Poll) => message.status == STATUS_UP,

@@ -3,18 +3,20 @@
 //! A place is a predicate on a call, the state and table before it, and what it gave. Each is
 //! one where a gateway can be wrong while nearly every other call agrees: two checks that fail
 //! at once, a number at its limit or one beyond, a message that nearly gets a reply, an Update
-//! that is or nearly is an indication.
+//! that is or nearly is an indication, a Hello or Poll that is or nearly is too quick.
+
+use std::ops::RangeInclusive;
 
 use crate::answer::Answer;
 use crate::call::{Call, CallKind, Record};
 use crate::checksum;
-use crate::coverage::Moment;
+use crate::coverage::{self, Moment};
 use crate::gateway::{self, State, TABLE_NUMBERS};
 use crate::generate::faults::ONES;
 use crate::generate::{Origin, Step};
 use crate::listing::{self, LISTING_BUFFER};
 use crate::message::{self, Body, Kind, LONGEST, REPLY_BUFFER, SHORTEST, VERSION};
-use crate::neighbour::{Mode, Neighbour, NeighbourState, P4};
+use crate::neighbour::{Mode, Neighbour, NeighbourState, HELLO_TICKS, MOST_TICKS, P4, POLL_TICKS};
 use crate::net::{self, Class};
 use crate::update::{self, Row, MOST_ROWS};
 
@@ -44,6 +46,34 @@ impl Seen<'_> {
         };
         let slot = self.before.state.find(*address)?;
         Some((&self.before.state.neighbours[slot], octets))
+    }
+
+    /// The neighbour that a tick is for.
+    fn tick(&self) -> Option<&Neighbour> {
+        let Call::Tick { address, .. } = &self.step.call else {
+            return None;
+        };
+        let slot = self.before.state.find(*address)?;
+        self.gives(0).then_some(&self.before.state.neighbours[slot])
+    }
+
+    /// The neighbour that something happens to which is carried out, and the row of the machine's
+    /// table that it is in.
+    fn event(&self) -> Option<(&Neighbour, &'static str)> {
+        let call = &self.step.call;
+        let slot = self.before.state.find(call.event_address()?)?;
+        let neighbour = &self.before.state.neighbours[slot];
+        let event = match call {
+            _ if !self.gives(0) => return None,
+            Call::Start { .. } => "Start",
+            Call::Stop { .. } => "Stop",
+            Call::Message { octets, .. } => {
+                let kind = kind_of(octets)?;
+                coverage::event_label(kind, octets, self.before.state, neighbour)
+            }
+            _ => return None,
+        };
+        Some((neighbour, event))
     }
 
     /// The neighbour that an Update comes from, and its octets.
@@ -80,6 +110,9 @@ pub fn all() -> Vec<Place> {
     places.extend(strangers());
     places.extend(updates());
     places.extend(indications());
+    places.extend(rates());
+    places.extend(ticks());
+    places.extend(counts());
     places.extend(home_lists());
     places.extend(readings());
     places.extend(writings());
@@ -105,6 +138,8 @@ const PAIRS: [(CallKind, &[(u8, u8)]); 8] = [
             (10, 11),
             (11, 12),
             (12, 13),
+            // 13 and 21 are about different kinds.
+            (12, 21),
             (13, 14),
             (14, 15),
         ],
@@ -157,7 +192,7 @@ fn fails(seen: &Seen, check: u8) -> bool {
         (5, Call::Remove { address }) => is_unknown(*address),
         (5, call) => call.event_address().is_some_and(is_unknown),
         (6..=8, Call::Message { octets, .. }) => frame_fails(octets, check),
-        (9..=15, Call::Message { .. }) => seen
+        (9..=15 | 21, Call::Message { .. }) => seen
             .message()
             .is_some_and(|(neighbour, octets)| content_fails(state, neighbour, octets, check)),
         (16, Call::Add { address, as_number }) => {
@@ -183,7 +218,7 @@ fn frame_fails(octets: &[u8], check: u8) -> bool {
     }
 }
 
-/// Checks 9 to 15 by themselves, on a message of a good size.
+/// Checks 9 to 15 and 21 by themselves, on a message of a good size.
 fn content_fails(state: &State, neighbour: &Neighbour, octets: &[u8], check: u8) -> bool {
     let kind = kind_of(octets);
     let is_update_in_up = kind == Some(Kind::Update) && neighbour.state == NeighbourState::Up;
@@ -201,6 +236,7 @@ fn content_fails(state: &State, neighbour: &Neighbour, octets: &[u8], check: u8)
                 && kind.is_some_and(Kind::must_carry_s)
                 && message::sequence(octets) != neighbour.send_sequence
         }
+        21 => kind.is_some_and(|kind| neighbour.is_too_soon_for(kind)),
         14 => is_update_in_up && message::read_rows(octets, state.net) == Err(Answer::BadUpdate),
         _ => is_update_in_up && rows_before_a_defect(octets, state.net) > MOST_ROWS,
     }
@@ -233,7 +269,7 @@ struct Bounded {
     most: u16,
 }
 
-const BOUNDED: [Bounded; 9] = [
+const BOUNDED: [Bounded; 11] = [
     Bounded {
         name: "T1",
         get: |n| n.hello_interval,
@@ -297,6 +333,20 @@ const BOUNDED: [Bounded; 9] = [
         least: None,
         most: 128,
     },
+    Bounded {
+        name: "since Hello",
+        get: |n| n.since_hello.into(),
+        set: |n, value| n.since_hello = value as u8,
+        least: None,
+        most: 120,
+    },
+    Bounded {
+        name: "since Poll",
+        get: |n| n.since_poll.into(),
+        set: |n, value| n.since_poll = value as u8,
+        least: None,
+        most: 120,
+    },
 ];
 
 fn states() -> Vec<Place> {
@@ -308,7 +358,7 @@ fn states() -> Vec<Place> {
                     let bare = Neighbour::idle(neighbour.address, neighbour.as_number);
                     let mut wrong = bare;
                     set(&mut wrong);
-                    (*neighbour == wrong).then_some(bare)
+                    (neighbour.is_used() && *neighbour == wrong).then_some(bare)
                 })
         }));
     }
@@ -318,6 +368,16 @@ fn states() -> Vec<Place> {
                 has_one_field(slot).then_some(Neighbour::default())
             })
     }));
+    for (name, count) in COUNTS {
+        let name = format!("state: free slot, since {name} alone");
+        places.push(place(name, move |seen| {
+            seen.gives(1)
+                && any_mended(seen.before.state, |slot| {
+                    let is_alone = !slot.is_used() && count(slot) > 0 && has_one_field(slot);
+                    is_alone.then_some(Neighbour::default())
+                })
+        }));
+    }
     for bounded in BOUNDED {
         let Bounded { get, set, most, .. } = bounded;
         // A good value is its own nearest good one.
@@ -543,6 +603,239 @@ fn indications() -> Vec<Place> {
         places.push(place(name, move |seen| {
             unheard(seen, Mode::None, state, 0).is_some_and(says_up)
         }));
+    }
+    places
+}
+
+// Hellos and Polls, and how long after the last they come.
+
+/// A count of ticks.
+type Count = fn(&Neighbour) -> u8;
+
+const COUNTS: [(&str, Count); 2] = [("Hello", |n| n.since_hello), ("Poll", |n| n.since_poll)];
+
+/// What must be some ticks apart.
+struct Rated {
+    kind: Kind,
+    since: Count,
+    apart: u8,
+    /// What the counts are at which it comes.
+    at: RangeInclusive<u8>,
+}
+
+const RATED: [Rated; 2] = [
+    Rated {
+        kind: Kind::Hello,
+        since: |n| n.since_hello,
+        apart: HELLO_TICKS,
+        at: HELLO_TICKS - 2..=HELLO_TICKS + 1,
+    },
+    Rated {
+        kind: Kind::Poll,
+        since: |n| n.since_poll,
+        apart: POLL_TICKS,
+        at: POLL_TICKS - 2..=POLL_TICKS,
+    },
+];
+
+impl Rated {
+    /// A message of this kind that gives this number: its neighbour, and its octets.
+    fn sent<'a>(&self, seen: &'a Seen, number: u8) -> Option<(&'a Neighbour, &'a [u8])> {
+        let (neighbour, octets) = seen.message()?;
+        let is_wanted = seen.gives(number) && kind_of(octets) == Some(self.kind);
+        is_wanted.then_some((neighbour, octets))
+    }
+}
+
+fn rates() -> Vec<Place> {
+    use NeighbourState::{Acquisition, Cease, Down, Idle, Up};
+    let mut places = Vec::new();
+    for rated in &RATED {
+        let kind = rated.kind;
+        for count in rated.at.clone() {
+            let number = if count < rated.apart { 21 } else { 0 };
+            for (mode, state) in [
+                (Mode::Active, Down),
+                (Mode::Active, Up),
+                (Mode::Passive, Down),
+                (Mode::Passive, Up),
+            ] {
+                let name = format!("{kind:?} at {count}, {mode:?} in {state:?}");
+                places.push(place(name, move |seen| {
+                    rated.sent(seen, number).is_some_and(|(neighbour, _)| {
+                        (neighbour.mode, neighbour.state) == (mode, state)
+                            && (rated.since)(neighbour) == count
+                    })
+                }));
+            }
+            // Nothing is too soon there.
+            for state in [Acquisition, Cease] {
+                let name = format!("{kind:?} at {count} in {state:?}");
+                places.push(place(name, move |seen| {
+                    rated.sent(seen, 0).is_some_and(|(neighbour, _)| {
+                        neighbour.state == state && (rated.since)(neighbour) == count
+                    })
+                }));
+            }
+        }
+        places.push(place(format!("{kind:?} in Idle"), move |seen| {
+            let sent = rated.sent(seen, 0);
+            sent.is_some_and(|(neighbour, _)| neighbour.state == Idle)
+        }));
+        for state in [Down, Up] {
+            // The Error carries R as it was, and nothing is noted.
+            let name = format!("{kind:?} 1 too quick, unheard, other R, Passive in {state:?}");
+            places.push(place(name, move |seen| {
+                rated.sent(seen, 21).is_some_and(|(neighbour, octets)| {
+                    (neighbour.mode, neighbour.state) == (Mode::Passive, state)
+                        && octets[3] == 1
+                        && neighbour.heard == 0
+                        && neighbour.t3 < P4
+                        && message::sequence(octets) != neighbour.receive_sequence
+                })
+            }));
+        }
+    }
+    let elsewhere = |count: u8, state: NeighbourState, number: u8| {
+        let name = format!("Poll for another net at {count} in {state:?}");
+        place(name, move |seen| {
+            RATED[1]
+                .sent(seen, number)
+                .is_some_and(|(neighbour, octets)| {
+                    let net = seen.before.state.net.to_be_bytes();
+                    neighbour.state == state
+                        && neighbour.since_poll == count
+                        && octets[12..16] != net
+                })
+        })
+    };
+    for state in [Down, Up] {
+        places.push(elsewhere(POLL_TICKS - 1, state, 21));
+        places.push(elsewhere(POLL_TICKS, state, 0));
+    }
+    places.extend(each_by_its_own());
+    places
+}
+
+/// Each kind goes by its own count, whatever the other's is.
+fn each_by_its_own() -> Vec<Place> {
+    fn own_and_other(
+        name: &str,
+        rated: &'static Rated,
+        number: u8,
+        holds: fn(&Neighbour) -> bool,
+    ) -> Place {
+        place(name, move |seen| {
+            rated
+                .sent(seen, number)
+                .is_some_and(|(neighbour, _)| neighbour.state.is_acquired() && holds(neighbour))
+        })
+    }
+    let [hello, poll] = &RATED;
+    vec![
+        own_and_other("Hello below 30, Poll at 120", hello, 21, |n| {
+            n.since_poll == POLL_TICKS
+        }),
+        own_and_other("Hello from 30 on, Poll below 30", hello, 0, |n| {
+            n.since_poll < HELLO_TICKS
+        }),
+        own_and_other("Poll below 120, Hello at 120", poll, 21, |n| {
+            n.since_hello == POLL_TICKS
+        }),
+        own_and_other("Poll at 120, Hello below 30", poll, 0, |n| {
+            n.since_hello < HELLO_TICKS
+        }),
+    ]
+}
+
+// Ticks, and how they are counted.
+
+/// Whether neither count is 0 or as large as may be, so that any change shows.
+fn are_between(neighbour: &Neighbour) -> bool {
+    let range = 1..MOST_TICKS;
+    range.contains(&neighbour.since_hello) && range.contains(&neighbour.since_poll)
+}
+
+fn ticks() -> Vec<Place> {
+    use NeighbourState::{Acquisition, Cease, Down, Up};
+    let mut places = Vec::new();
+    for state in [Acquisition, Down, Up, Cease] {
+        for (name, count) in COUNTS {
+            for value in [MOST_TICKS - 1, MOST_TICKS] {
+                let name = format!("tick in {state:?}, since {name} {value}");
+                places.push(place(name, move |seen| {
+                    seen.tick()
+                        .is_some_and(|n| n.state == state && count(n) == value && n.t3 > 1)
+                }));
+            }
+        }
+        // Cease goes on counting; Idle does not.
+        let name = format!("tick that ends t3 in {state:?}, counts between");
+        places.push(place(name, move |seen| {
+            seen.tick()
+                .is_some_and(|n| n.state == state && n.t3 == 1 && are_between(n))
+        }));
+    }
+    for (from, to) in [(Down, Up), (Up, Down)] {
+        let name = format!("tick from {from:?} to {to:?}, counts between");
+        places.push(place(name, move |seen| {
+            seen.tick().is_some_and(|n| {
+                n.state == from && n.t3 > 1 && n.t1 == 1 && is_turned(n) && are_between(n)
+            })
+        }));
+    }
+    places
+}
+
+/// Whether the next evaluation takes the neighbour from Down to Up, or from Up to Down.
+fn is_turned(neighbour: &Neighbour) -> bool {
+    let ones = (neighbour.register << 1 & 0b1111 | neighbour.heard).count_ones();
+    match (neighbour.state, neighbour.mode) {
+        (NeighbourState::Down, Mode::Active) => ones >= 3,
+        (NeighbourState::Down, _) => ones >= 1,
+        (_, Mode::Active) => ones <= 1,
+        _ => ones == 0,
+    }
+}
+
+/// What happens to the counts by another event than a tick, a Hello or a Poll.
+fn counts() -> Vec<Place> {
+    use NeighbourState::{Acquisition, Cease, Down, Up};
+    let kept: [(&str, &[NeighbourState]); 4] = [
+        ("Start", &[Acquisition, Down, Up, Cease]),
+        ("Stop", &[Down, Up]),
+        ("Request, acceptable", &[Cease]),
+        ("Request, unacceptable", &[Down, Up, Cease]),
+    ];
+    let set: [(&str, &[NeighbourState]); 2] = [
+        ("Request, acceptable", &[Acquisition, Down, Up]),
+        ("Confirm, acceptable", &[Acquisition]),
+    ];
+    let zeroed: [(&str, &[NeighbourState]); 6] = [
+        ("Cease", &[Acquisition, Down, Up, Cease]),
+        ("Stop", &[Acquisition, Cease]),
+        ("Refuse", &[Acquisition]),
+        ("Request, unacceptable", &[Acquisition]),
+        ("Confirm, unacceptable", &[Acquisition]),
+        ("Cease-ack", &[Cease]),
+    ];
+    let all = [
+        ("kept", kept.as_slice()),
+        ("set", set.as_slice()),
+        ("zeroed", zeroed.as_slice()),
+    ];
+    let mut places = Vec::new();
+    for (what, events) in all {
+        for &(event, states) in events {
+            for &state in states {
+                let name = format!("counts {what}: {event} in {state:?}");
+                places.push(place(name, move |seen| {
+                    seen.event().is_some_and(|(neighbour, happens)| {
+                        happens == event && neighbour.state == state && are_between(neighbour)
+                    })
+                }));
+            }
+        }
     }
     places
 }

@@ -15,7 +15,7 @@ use crate::update::{Row, MOST_ROWS};
 pub const RECORD_HEAD: usize = 32;
 pub const ANSWER_HEAD: usize = 16;
 /// Octets of a state block: the settings, then eight slots.
-pub const STATE_BLOCK: usize = 11 + 8 * 27;
+pub const STATE_BLOCK: usize = 11 + 8 * 29;
 /// Octets of a message's meaning.
 pub const MEANING: usize = 24;
 /// What reading alone is lent: the meaning, then the numbers of 128 rows.
@@ -156,7 +156,7 @@ pub fn rows(message: &Message) -> &[Row] {
     }
 }
 
-/// The state in 227 octets.
+/// The state in 243 octets.
 pub fn state_block(state: &State) -> Vec<u8> {
     let mut block = Vec::with_capacity(STATE_BLOCK);
     block.extend(state.as_number.to_be_bytes());
@@ -198,6 +198,8 @@ fn slot_block(neighbour: &Neighbour, block: &mut Vec<u8>) {
         Mode::Passive => 2,
     };
     block.extend([state, mode, n.register, n.heard, n.cause]);
+    // "Later fields end their part in the order named, in as few octets as they need."
+    block.extend([n.since_hello, n.since_poll]);
 }
 
 /// The number of a kind in a meaning.

@@ -1,5 +1,6 @@
-//! The technicians' example, a short recording: two neighbours report one net, and one of them is
-//! closed. It is stored as `examples/site.rec`, and what playing it writes as `examples/site.out`.
+//! The technicians' example, a short recording: two neighbours report one net, one of them is too
+//! quick, and the other is closed. It is stored as `examples/site.rec`, and what playing it writes as
+//! `examples/site.out`.
 
 use crate::call::Call;
 use crate::message::{self, Body, Intervals, Message};
@@ -112,7 +113,16 @@ fn reports() -> Vec<String> {
     ]
 }
 
-/// One of them is stopped; adding it again is refused, which is no bad line.
+/// Ten seconds after its Hello and its Poll one of them sends the next of each: too quick.
+fn too_quick() -> Vec<String> {
+    vec![
+        KEPT.sends(STATUS_UP, 4, Body::Hello),
+        KEPT.sends(STATUS_UP, 5, Body::Poll { net: NET }),
+    ]
+}
+
+/// One of them is stopped; adding it again is refused, which is no bad line. A Hello of the other
+/// comes when it may.
 fn closing() -> Vec<String> {
     vec![
         CLOSED.stop(),
@@ -120,7 +130,7 @@ fn closing() -> Vec<String> {
         CLOSED.add(),
         KEPT.sends(STATUS_UP, 1, Body::IHeardYou),
         KEPT.seconds(22),
-        KEPT.sends(STATUS_UP, 4, Body::Hello),
+        KEPT.sends(STATUS_UP, 6, Body::Hello),
     ]
 }
 
@@ -139,6 +149,7 @@ pub fn recording() -> String {
         heard(),
         heard(),
         reports(),
+        too_quick(),
         closing(),
     ]
     .concat();

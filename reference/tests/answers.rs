@@ -363,6 +363,85 @@ fn answer_13_outside_idle_for_five_kinds() {
     }
 }
 
+/// What comes too soon, and with what is counted since the last: a Hello below 30, a Poll below
+/// 120, about whatever net.
+fn too_quick() -> [(Vec<u8>, Neighbour); 6] {
+    let counted = |hello, poll| Neighbour {
+        since_hello: hello,
+        since_poll: poll,
+        ..Neighbour::default()
+    };
+    [
+        (peer(HELLO, 1, 9, &[]), counted(29, 120)),
+        (peer(HELLO, 2, 9, &[]), counted(0, 30)),
+        (poll(1, 9, NET), counted(120, 119)),
+        (poll(0, 9, NET), counted(30, 30)),
+        (poll(1, 9, address(10, 0, 0, 0)), counted(120, 119)),
+        (poll(2, 9, NET + 1), counted(120, 0)),
+    ]
+}
+
+/// 02, L5: "Refusals: 21, after 13, reply Error 4." [`Gateway::run`] sees to it that nothing changes.
+#[test]
+fn answer_21_in_down_and_up_with_error_4() {
+    for (octets, counted) in too_quick() {
+        for mode in [Mode::Active, Mode::Passive] {
+            for (state, status) in [(Down, 2), (Up, 1)] {
+                let mut gateway = Gateway::with(Neighbour {
+                    since_hello: counted.since_hello,
+                    since_poll: counted.since_poll,
+                    ..in_state(state, mode)
+                });
+                // R as it was, not the message's number.
+                let error = our_error(status, 5, 4, &octets);
+                assert_eq!(gateway.message(&octets), got(21, &[error]));
+                // One tick more, or as many as it takes.
+                gateway.bench.state.neighbours[0].since_hello = counted.since_hello.max(30);
+                gateway.bench.state.neighbours[0].since_poll = counted.since_poll.max(120);
+                assert_eq!(gateway.message(&octets).answer, 0);
+                assert_eq!(gateway.n().receive_sequence, 9);
+            }
+        }
+    }
+}
+
+#[test]
+fn nothing_is_too_quick_in_other_states() {
+    for (octets, counted) in too_quick() {
+        for state in [Acquisition, Cease] {
+            let before = Neighbour {
+                since_hello: counted.since_hello,
+                since_poll: counted.since_poll,
+                ..in_state(state, Mode::None)
+            };
+            let mut gateway = Gateway::with(before);
+            assert_eq!(gateway.message(&octets), got(0, &[]));
+            let after = Neighbour {
+                receive_sequence: 9,
+                ..before
+            };
+            assert_eq!(gateway.n(), after);
+        }
+        let mut idle = Gateway::new(1);
+        assert_eq!(idle.message(&octets), got(0, &[]));
+        assert_eq!(idle.n(), in_state(Idle, Mode::None));
+    }
+}
+
+#[test]
+fn answers_10_to_12_come_before_21() {
+    let quick = Neighbour {
+        since_hello: 0,
+        since_poll: 0,
+        ..in_state(Down, Mode::Active)
+    };
+    for (number, octets) in bad_headers() {
+        let mut gateway = Gateway::with(quick);
+        let error = our_error(2, 5, 1, &octets);
+        assert_eq!(gateway.message(&octets), got(number, &[error]));
+    }
+}
+
 #[test]
 fn answer_14_in_up_with_error_2() {
     let mut other_net = vec![0, 0];
@@ -523,6 +602,8 @@ fn well_formed_own_values() {
     assert!(!with(&|state| state.neighbours[0].as_number = 0));
     assert!(!with(&|state| state.neighbours[7].as_number = 1));
     assert!(!with(&|state| state.neighbours[7].row_count = 1));
+    assert!(!with(&|state| state.neighbours[7].since_hello = 1));
+    assert!(!with(&|state| state.neighbours[7].since_poll = 1));
     // Holes are allowed.
     assert!(with(&|state| state.neighbours[0] = Neighbour::default()));
 }
@@ -531,7 +612,7 @@ fn well_formed_own_values() {
 fn well_formed_in_idle_is_bare() {
     let idle = in_state(Idle, Mode::None);
     type Change = fn(&mut Neighbour);
-    let changes: [Change; 13] = [
+    let changes: [Change; 15] = [
         |n| n.send_sequence = 1,
         |n| n.receive_sequence = 1,
         |n| n.hello_interval = 32,
@@ -544,6 +625,8 @@ fn well_formed_in_idle_is_bare() {
         |n| n.heard = 1,
         |n| n.cause = 5,
         |n| n.row_count = 1,
+        |n| n.since_hello = 1,
+        |n| n.since_poll = 1,
         |n| n.state = Cease,
     ];
     for change in changes {
@@ -567,6 +650,11 @@ fn well_formed_timers() {
         assert_eq!(well_formed(neighbour, |n| n.t2 = 1), up);
         assert_eq!(well_formed(neighbour, |n| n.t2 = 482), up);
         assert!(!well_formed(neighbour, |n| n.t2 = 483));
+        // Ticks since the last Hello and Poll.
+        for (count, good) in [(0, true), (120, true), (121, false), (255, false)] {
+            assert_eq!(well_formed(neighbour, |n| n.since_hello = count), good);
+            assert_eq!(well_formed(neighbour, |n| n.since_poll = count), good);
+        }
         // Sequence numbers are any 16 bits.
         assert!(well_formed(neighbour, |n| n.send_sequence = 65_535));
         assert!(well_formed(neighbour, |n| n.receive_sequence = 65_535));

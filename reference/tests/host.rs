@@ -55,7 +55,7 @@ const WITH_TABLE: [CallKind; 5] = [Start, Stop, Tick, Message, Listing];
 
 #[test]
 fn fresh_writes_the_whole_block() {
-    let (result, after) = fresh_over(vec![0xEE; 227]).make();
+    let (result, after) = fresh_over(vec![0xEE; 243]).make();
     assert_eq!(result, 0);
     assert_eq!(after.block[..11], hex("00 09 80 09 00 01 01 80 09 00 00"));
     assert!(after.block[11..].iter().all(|octet| *octet == 0));
@@ -63,7 +63,7 @@ fn fresh_writes_the_whole_block() {
 
 #[test]
 fn a_refused_fresh_touches_no_octet() {
-    let good = fresh_over(vec![0xEE; 227]);
+    let good = fresh_over(vec![0xEE; 243]);
     let spoils: [fn(&mut HostCall); 5] = [
         |call| call.as_number = 0,
         |call| call.capability = 3,
@@ -83,7 +83,7 @@ fn a_refused_fresh_touches_no_octet() {
 #[test]
 fn twenty_comes_first() {
     for kind in WITH_BLOCK {
-        for length in [0, 1, 226, 228, 404, 65_536 + 227] {
+        for length in [0, 1, 227, 242, 244, 404, 65_536 + 243] {
             let mut call = call(kind, up());
             call.lent.block.resize(length, 0);
             call.lent.table.clear();
@@ -100,12 +100,43 @@ fn numbers_of_no_state_and_no_mode_give_1() {
         for slot in 0..8 {
             for (at, code) in [(22, 5), (22, 255), (23, 3), (23, 255)] {
                 let mut call = call(kind, up());
-                call.lent.block[11 + 27 * slot + at] = code;
+                call.lent.block[11 + 29 * slot + at] = code;
                 call.lent.table.clear();
                 assert_refused(&call, 1);
             }
         }
     }
+}
+
+/// Their octets end each slot's part, Hello's first.
+#[test]
+fn counts_above_120_give_1() {
+    for slot in 0..8 {
+        for at in [27, 28] {
+            let mut call = call(Tick, up());
+            let octet = 11 + 29 * slot + at;
+            call.lent.block[octet] = 121;
+            assert_refused(&call, 1);
+            // Nor has Idle or a free slot any.
+            call.lent.block[octet] = 1;
+            assert_eq!(answer(&call), u8::from(slot > 0));
+        }
+    }
+}
+
+#[test]
+fn a_too_quick_hello_leaves_the_block() {
+    let mut call = call(Message, up());
+    call.octets = peer(HELLO, 1, 9, &[]);
+    let (result, after) = call.make();
+    assert_eq!(host::answer(result), 0);
+    assert_eq!(call.lent.block[11 + 27..11 + 29], [SINCE_HELLO, SINCE_POLL]);
+    assert_eq!(after.block[11 + 27..11 + 29], [0, SINCE_POLL]);
+    call.lent.block = after.block;
+    let (result, after) = call.make();
+    assert_eq!(result, 24 << 16 | 21);
+    assert_eq!(after.buffer[..24], our_error(1, 9, 4, &call.octets));
+    assert_eq!(after.block, call.lent.block);
 }
 
 #[test]

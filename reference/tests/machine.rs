@@ -1,4 +1,4 @@
-//! Every cell of the machine's table (01, "One neighbour"; 02, L3).
+//! Every cell of the machine's table (01, "One neighbour"; 02, L3 and L5).
 //!
 //! The neighbour starts with S 4 and R 5; in Up it holds two rows. Each case compares the whole
 //! neighbour after the event, every octet sent, and the rows.
@@ -58,11 +58,13 @@ fn just_down(mode: Mode, s: u16, r: u16) -> Neighbour {
         mode,
         t1: 32,
         t3: 120,
+        since_hello: 120,
+        since_poll: 120,
         ..idle()
     }
 }
 
-/// After entering Acquisition.
+/// After entering Acquisition from Idle, where no ticks are counted.
 fn just_acquiring(s: u16, r: u16) -> Neighbour {
     Neighbour {
         state: Acquisition,
@@ -74,12 +76,36 @@ fn just_acquiring(s: u16, r: u16) -> Neighbour {
     }
 }
 
+/// After entering Acquisition from another state: the counts of ticks stay.
+fn acquiring_again(s: u16, r: u16) -> Neighbour {
+    Neighbour {
+        since_hello: SINCE_HELLO,
+        since_poll: SINCE_POLL,
+        ..just_acquiring(s, r)
+    }
+}
+
 /// After entering Cease.
 fn just_ceasing(s: u16, r: u16, cause: u8) -> Neighbour {
     Neighbour {
         state: Cease,
         cause,
-        ..just_acquiring(s, r)
+        ..acquiring_again(s, r)
+    }
+}
+
+/// After a Hello that was carried out in Down or Up, and after a Poll.
+fn with_hello(neighbour: Neighbour) -> Neighbour {
+    Neighbour {
+        since_hello: 0,
+        ..neighbour
+    }
+}
+
+fn with_poll(neighbour: Neighbour) -> Neighbour {
+    Neighbour {
+        since_poll: 0,
+        ..neighbour
     }
 }
 
@@ -244,13 +270,11 @@ fn hello() {
         for (state, ours_status) in [(Down, 2), (Up, 1)] {
             let sent = [ours(I_H_U, ours_status, 9, &[])];
             let active = in_state(state, Mode::Active);
-            check(active, 1, octets(), with_r(active, 9), &sent);
+            let after = with_hello(with_r(active, 9));
+            check(active, 1, octets(), after, &sent);
             let passive = in_state(state, Mode::Passive);
-            let after = if status == 1 {
-                heard(with_r(passive, 9))
-            } else {
-                with_r(passive, 9)
-            };
+            let after = with_hello(with_r(passive, 9));
+            let after = if status == 1 { heard(after) } else { after };
             check(passive, 1, octets(), after, &sent);
         }
     }
@@ -288,10 +312,11 @@ fn poll() {
             }
             for mode in MODES {
                 let noted = |neighbour: Neighbour| {
+                    let after = with_poll(with_r(neighbour, 9));
                     if mode == Mode::Passive && status == 1 {
-                        heard(with_r(neighbour, 9))
+                        heard(after)
                     } else {
-                        with_r(neighbour, 9)
+                        after
                     }
                 };
                 let down = in_state(Down, mode);
@@ -521,7 +546,7 @@ fn start() {
             for mode in MODES {
                 let again = [our_request(capability, 4)];
                 let before = in_state(state, mode);
-                check(before, capability, event, just_acquiring(4, 5), &again);
+                check(before, capability, event, acquiring_again(4, 5), &again);
             }
         }
         let ceasing = in_state(Cease, Mode::None);

@@ -9,7 +9,7 @@ use reference::gateway::TABLE_NUMBERS;
 use reference::generate::{Origin, Step};
 use reference::listing::LISTING_BUFFER;
 use reference::message::{Body, Intervals, Message};
-use reference::neighbour::{Mode, Neighbour};
+use reference::neighbour::{Mode, Neighbour, NeighbourState};
 use reference::net::address;
 use reference::places::{self, Seen};
 use reference::update::Row;
@@ -203,7 +203,7 @@ fn a_row_and_a_short_buffer() {
 #[test]
 fn an_idle_record_with_one_1() {
     type Change = fn(&mut Neighbour);
-    let changes: [(&str, Change); 12] = [
+    let changes: [(&str, Change); 14] = [
         ("S", |n| n.send_sequence += 1),
         ("R", |n| n.receive_sequence += 1),
         ("T1", |n| n.hello_interval += 1),
@@ -216,6 +216,8 @@ fn an_idle_record_with_one_1() {
         ("heard", |n| n.heard += 1),
         ("cause", |n| n.cause += 1),
         ("row count", |n| n.row_count += 1),
+        ("since Hello", |n| n.since_hello += 1),
+        ("since Poll", |n| n.since_poll += 1),
     ];
     for (name, change) in changes {
         let mut gateway = Gateway::new(1);
@@ -244,6 +246,17 @@ fn a_free_slot_with_one_field() {
     assert!(reaches(&one, tick(), name));
     one.bench.state.neighbours[7] = free;
     assert!(!reaches(&one, tick(), name));
+    for (kind, since_hello, since_poll) in [("Hello", 1, 0), ("Poll", 0, 1)] {
+        let alone = format!("state: free slot, since {kind} alone");
+        assert!(!reaches(&one, tick(), &alone));
+        one.bench.state.neighbours[7] = Neighbour {
+            since_hello,
+            since_poll,
+            ..free
+        };
+        assert!(reaches(&one, tick(), &alone));
+        assert!(reaches(&one, tick(), name));
+    }
 }
 
 #[test]
@@ -260,7 +273,7 @@ fn sizes_of_messages() {
 #[test]
 fn numbers_at_their_limits() {
     type Change = fn(&mut Neighbour, u16);
-    let changes: [(&str, Change, &[u16], &[u16]); 9] = [
+    let changes: [(&str, Change, &[u16], &[u16]); 11] = [
         (
             "T1",
             |n, value| n.hello_interval = value,
@@ -285,6 +298,18 @@ fn numbers_at_their_limits() {
         ("heard", |n, value| n.heard = value as u8, &[1], &[2]),
         ("cause", |n, value| n.cause = value as u8, &[5, 6], &[4, 7]),
         ("row count", |n, value| n.row_count = value, &[128], &[129]),
+        (
+            "since Hello",
+            |n, value| n.since_hello = value as u8,
+            &[120],
+            &[121],
+        ),
+        (
+            "since Poll",
+            |n, value| n.since_poll = value as u8,
+            &[120],
+            &[121],
+        ),
     ];
     for (name, change, good, bad) in changes {
         let state = if name == "cause" { Cease } else { Up };
@@ -395,6 +420,251 @@ fn updates_that_say_up_to_an_unheard_neighbour() {
             assert!(!reaches(&active, of_status(octets(), 1), &name), "{name}");
             let good = of_status(update_failing(&[]), 1);
             assert!(!reaches(&passive, good, &name), "{name}");
+        }
+    }
+}
+
+/// N in this state, so many ticks after its last Hello and Poll.
+fn counted(state: NeighbourState, mode: Mode, hello: u8, poll: u8) -> Gateway {
+    Gateway::with(Neighbour {
+        since_hello: hello,
+        since_poll: poll,
+        ..in_state(state, mode)
+    })
+}
+
+fn hello_call() -> Call {
+    message(peer(HELLO, 1, 9, &[]))
+}
+
+fn poll_call(net: u32) -> Call {
+    message(poll(1, 9, net))
+}
+
+#[test]
+fn a_hello_or_poll_near_its_rate() {
+    let modes = [Mode::Active, Mode::Passive];
+    for (state, mode) in [Down, Up].into_iter().flat_map(|s| modes.map(|m| (s, m))) {
+        for count in 28..=31 {
+            let name = format!("Hello at {count}, {mode:?} in {state:?}");
+            let near = counted(state, mode, count, 119);
+            assert!(reaches(&near, hello_call(), &name), "{name}");
+            assert!(!reaches(&near, poll_call(NET), &name), "{name}");
+            let other = counted(state, mode, count ^ 4, 119);
+            assert!(!reaches(&other, hello_call(), &name), "{name}");
+        }
+        for count in 118..=120 {
+            let name = format!("Poll at {count}, {mode:?} in {state:?}");
+            let near = counted(state, mode, 29, count);
+            assert!(reaches(&near, poll_call(NET), &name), "{name}");
+            assert!(!reaches(&near, hello_call(), &name), "{name}");
+            let other = counted(state, mode, 29, count - 1);
+            assert!(!reaches(&other, poll_call(NET), &name), "{name}");
+        }
+    }
+    for state in [Acquisition, Cease] {
+        for count in 28..=31 {
+            let name = format!("Hello at {count} in {state:?}");
+            let near = counted(state, Mode::None, count, 0);
+            assert!(reaches(&near, hello_call(), &name), "{name}");
+        }
+        for count in 118..=120 {
+            let name = format!("Poll at {count} in {state:?}");
+            let near = counted(state, Mode::None, 0, count);
+            assert!(reaches(&near, poll_call(NET), &name), "{name}");
+        }
+    }
+    for (name, call) in [
+        ("Hello in Idle", hello_call()),
+        ("Poll in Idle", poll_call(NET)),
+    ] {
+        assert!(reaches(&Gateway::new(1), call.clone(), name));
+        let down = counted(Down, Mode::Active, 120, 120);
+        assert!(!reaches(&down, call, name));
+    }
+}
+
+#[test]
+fn polls_for_another_net_near_their_rate() {
+    for state in [Down, Up] {
+        for count in [119, 120] {
+            let name = format!("Poll for another net at {count} in {state:?}");
+            let near = counted(state, Mode::Active, 120, count);
+            assert!(reaches(&near, poll_call(NET + 1), &name), "{name}");
+            assert!(!reaches(&near, poll_call(NET), &name), "{name}");
+        }
+    }
+}
+
+#[test]
+fn a_too_quick_message_that_would_be_heard() {
+    for state in [Down, Up] {
+        for (kind, call) in [("Hello", hello_call()), ("Poll", poll_call(NET))] {
+            let name = format!("{kind} 1 too quick, unheard, other R, Passive in {state:?}");
+            let quick = counted(state, Mode::Passive, 1, 1);
+            assert!(reaches(&quick, call.clone(), &name), "{name}");
+            let may = counted(state, Mode::Passive, 30, 120);
+            assert!(!reaches(&may, call.clone(), &name), "{name}");
+            let changes: [fn(&mut Neighbour); 4] = [
+                |n| n.mode = Mode::Active,
+                |n| n.heard = 1,
+                |n| n.t3 = 3600,
+                |n| n.receive_sequence = 9,
+            ];
+            for change in changes {
+                let mut other = quick.clone();
+                change(&mut other.bench.state.neighbours[0]);
+                assert!(!reaches(&other, call.clone(), &name), "{name}");
+            }
+        }
+    }
+}
+
+#[test]
+fn each_kind_goes_by_its_own_count() {
+    for (name, hello, poll, call) in [
+        ("Hello below 30, Poll at 120", 29, 120, hello_call()),
+        ("Hello from 30 on, Poll below 30", 30, 29, hello_call()),
+        ("Poll below 120, Hello at 120", 120, 119, poll_call(NET)),
+        ("Poll at 120, Hello below 30", 29, 120, poll_call(NET)),
+    ] {
+        assert!(reaches(
+            &counted(Up, Mode::Active, hello, poll),
+            call.clone(),
+            name
+        ));
+        // The same count for both.
+        assert!(!reaches(&counted(Up, Mode::Active, 60, 60), call, name));
+    }
+}
+
+#[test]
+fn a_length_that_comes_too_quick() {
+    let name = "Message: 12 before 21";
+    let octets = || message(peer(HELLO, 1, 9, &[0]));
+    let quick = counted(Up, Mode::Active, 0, 0);
+    assert!(reaches(&quick, octets(), name));
+    assert!(!reaches(&quick, hello_call(), name));
+    let may = counted(Up, Mode::Active, 30, 0);
+    assert!(!reaches(&may, octets(), name));
+    let elsewhere = counted(Cease, Mode::None, 0, 0);
+    assert!(!reaches(&elsewhere, octets(), name));
+}
+
+#[test]
+fn ticks_that_are_counted() {
+    for state in [Acquisition, Down, Up, Cease] {
+        for count in [119, 120] {
+            let of_hello = format!("tick in {state:?}, since Hello {count}");
+            let of_poll = format!("tick in {state:?}, since Poll {count}");
+            let hello = counted(state, Mode::Active, count, 5);
+            assert!(reaches(&hello, tick(), &of_hello));
+            assert!(!reaches(&hello, tick(), &of_poll));
+            let mut poll = counted(state, Mode::Active, 5, count);
+            assert!(reaches(&poll, tick(), &of_poll));
+            assert!(!reaches(&poll, tick(), &of_hello));
+            poll.bench.state.neighbours[0].t3 = 1;
+            assert!(!reaches(&poll, tick(), &of_poll));
+        }
+        let name = format!("tick that ends t3 in {state:?}, counts between");
+        let mut last = counted(state, Mode::Active, 1, 119);
+        assert!(!reaches(&last, tick(), &name));
+        last.bench.state.neighbours[0].t3 = 1;
+        assert!(reaches(&last, tick(), &name));
+        last.bench.state.neighbours[0].since_poll = 120;
+        assert!(!reaches(&last, tick(), &name));
+    }
+    for (from, to, register) in [(Down, "Up", 0b0111), (Up, "Down", 0b1000)] {
+        let name = format!("tick from {from:?} to {to}, counts between");
+        let mut turning = counted(from, Mode::Active, 1, 119);
+        let n = &mut turning.bench.state.neighbours[0];
+        (n.t1, n.register) = (1, register);
+        assert!(reaches(&turning, tick(), &name));
+        turning.bench.state.neighbours[0].register = 0b0011;
+        assert!(!reaches(&turning, tick(), &name));
+    }
+}
+
+#[test]
+fn what_becomes_of_the_counts() {
+    let start = Call::Start {
+        address: N,
+        reply: reply_buffer(),
+    };
+    let stop = Call::Stop {
+        address: N,
+        reply: reply_buffer(),
+    };
+    let good = message(request(1, 9, 30, 120));
+    let bad = message(request(1, 9, 121, 120));
+    let cases = [
+        ("kept", "Start", start, vec![Acquisition, Down, Up, Cease]),
+        ("kept", "Stop", stop.clone(), vec![Down, Up]),
+        ("zeroed", "Stop", stop, vec![Acquisition, Cease]),
+        ("kept", "Request, acceptable", good.clone(), vec![Cease]),
+        (
+            "set",
+            "Request, acceptable",
+            good,
+            vec![Acquisition, Down, Up],
+        ),
+        (
+            "kept",
+            "Request, unacceptable",
+            bad.clone(),
+            vec![Down, Up, Cease],
+        ),
+        ("zeroed", "Request, unacceptable", bad, vec![Acquisition]),
+        (
+            "set",
+            "Confirm, acceptable",
+            message(confirm(1, 4, 30, 120)),
+            vec![Acquisition],
+        ),
+        (
+            "zeroed",
+            "Confirm, unacceptable",
+            message(confirm(1, 4, 121, 120)),
+            vec![Acquisition],
+        ),
+        (
+            "zeroed",
+            "Cease",
+            message(peer(CEASE, 5, 9, &[])),
+            vec![Acquisition, Down, Up, Cease],
+        ),
+        (
+            "zeroed",
+            "Refuse",
+            message(peer(REFUSE, 0, 4, &[])),
+            vec![Acquisition],
+        ),
+        (
+            "zeroed",
+            "Cease-ack",
+            message(peer(CEASE_ACK, 0, 4, &[])),
+            vec![Cease],
+        ),
+    ];
+    for (what, event, call, states) in cases {
+        for state in states {
+            let name = format!("counts {what}: {event} in {state:?}");
+            let between = counted(state, Mode::Active, 29, 119);
+            assert!(reaches(&between, call.clone(), &name), "{name}");
+            // As the name says.
+            let mut after = between.bench.clone();
+            after.run(&call);
+            let n = after.state.neighbours[0];
+            let expected = match what {
+                "kept" => (29, 119),
+                "set" => (120, 120),
+                _ => (0, 0),
+            };
+            assert_eq!((n.since_hello, n.since_poll), expected, "{name}");
+            for (hello, poll) in [(0, 119), (29, 120)] {
+                let at_its_limit = counted(state, Mode::Active, hello, poll);
+                assert!(!reaches(&at_its_limit, call.clone(), &name), "{name}");
+            }
         }
     }
 }

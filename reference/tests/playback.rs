@@ -431,6 +431,27 @@ fn the_example_shows_what_it_is_for() {
     assert_eq!(after.matches(&shared).count(), 1);
 }
 
+/// 02, L5: a Hello and a Poll of the example come ten seconds after the last. Each draws Error 4 and
+/// nothing else: the rest is as it would be without them.
+#[test]
+fn the_example_shows_a_too_quick_neighbour() {
+    let stored = include_str!("../../examples/site.rec");
+    let hello = raw(HELLO, 1, 8, 4, &[]);
+    let poll = raw(POLL, 1, 8, 5, &[0, 0, 128, 9, 0, 0]);
+    let mut without = stored.to_string();
+    let mut expected = play(stored);
+    for quick in [hello, poll] {
+        // It carries the number of the last command that was carried out.
+        let error = tx(P, &our_error(1, 3, 4, &quick));
+        assert_eq!(expected.matches(&error).count(), 1);
+        expected = expected.replace(&error, "");
+        let line = format!("{}\n", rx(P, &quick));
+        assert_eq!(without.matches(&line).count(), 1);
+        without = without.replace(&line, "");
+    }
+    assert_eq!(play(&without), expected);
+}
+
 /// 02, L3: from our first Poll on the site is up after every line, though its peer says so by a
 /// Poll in eight minutes and by its Updates only.
 #[test]

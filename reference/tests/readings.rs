@@ -93,6 +93,7 @@ fn b03_a_poll_for_another_net_is_carried_out() {
     assert_eq!(gateway.message(&octets), got(0, &[error]));
     let n = gateway.n();
     assert_eq!((n.receive_sequence, n.heard, n.t3), (9, 1, 3600));
+    assert_eq!((n.since_hello, n.since_poll), (SINCE_HELLO, 0));
 }
 
 #[test]
@@ -824,6 +825,68 @@ fn b75_closing_one_neighbour_leaves_anothers_rows() {
     assert!(gateway.area(0).iter().all(|number| *number == 0));
     assert_eq!(gateway.area(1)[..3], [OTHER_NET, N, 0]);
     assert_eq!(gateway.state().neighbours[1].row_count, 1);
+}
+
+#[test]
+fn b86_error_4_carries_the_old_r() {
+    let octets = peer(HELLO, 1, 9, &[]);
+    let mut gateway = gateway_with(Down, Mode::Passive, |n| n.since_hello = 1);
+    let error = our_error(2, 5, 4, &octets);
+    assert_eq!(gateway.message(&octets), got(21, &[error]));
+    let n = gateway.n();
+    assert_eq!((n.receive_sequence, n.heard, n.since_hello), (5, 0, 1));
+}
+
+#[test]
+fn b87_a_poll_in_down_and_one_for_another_net() {
+    let mut gateway = gateway_with(Down, Mode::Active, |n| n.since_poll = 50);
+    let octets = poll(1, 9, NET);
+    let error = our_error(2, 5, 4, &octets);
+    assert_eq!(gateway.message(&octets), got(21, &[error]));
+    let mut gateway = gateway_with(Down, Mode::Active, |_| {});
+    assert_eq!(gateway.message(&octets), got(0, &[]));
+    assert_eq!(gateway.n().since_poll, 0);
+    let mut gateway = gateway_with(Up, Mode::Active, |_| {});
+    let octets = poll(1, 9, OTHER_NET);
+    let error = our_error(1, 9, 3, &octets);
+    assert_eq!(gateway.message(&octets), got(0, &[error]));
+    let error = our_error(1, 9, 4, &octets);
+    assert_eq!(gateway.message(&octets), got(21, &[error]));
+}
+
+#[test]
+fn b88_ticks_are_counted_outside_idle() {
+    let mut gateway = gateway_with(Down, Mode::Active, |n| {
+        n.t3 = 1;
+        n.since_hello = 29;
+    });
+    gateway.tick();
+    assert_eq!((gateway.n().state, gateway.n().since_hello), (Cease, 30));
+    gateway.tick();
+    assert_eq!(gateway.n().since_hello, 31);
+    let mut gateway = Gateway::new(1);
+    gateway.start();
+    for _ in 0..20 {
+        gateway.tick();
+    }
+    assert_eq!((gateway.n().since_hello, gateway.n().since_poll), (20, 20));
+    // A neighbour that initialises has been silent as long as is counted.
+    gateway.message(&confirm(0, 0, 30, 120));
+    let n = gateway.n();
+    assert_eq!((n.since_hello, n.since_poll), (120, 120));
+}
+
+#[test]
+fn b89_after_29_and_30_ticks() {
+    let hello = peer(HELLO, 1, 9, &[]);
+    let mut gateway = gateway_with(Up, Mode::Active, |_| {});
+    assert_eq!(gateway.message(&hello).answer, 0);
+    for _ in 0..29 {
+        gateway.tick();
+        assert_eq!(gateway.message(&hello).answer, 21);
+    }
+    gateway.tick();
+    assert_eq!(gateway.message(&hello).answer, 0);
 }
 
 #[test]

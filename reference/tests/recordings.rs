@@ -88,6 +88,19 @@ fn recordings_are_meaningful() {
     }
     assert!(with("mode=active\n") > 30 && with("mode=passive\n") > 30);
     assert!(with("rows=128\n") > 30 && with("side=ext\n") > 30);
+    // Errors of reason 4, to a Hello and to a Poll.
+    let too_quick = |kind: &str| {
+        let lines = outputs.iter().flat_map(|output| output.lines());
+        let errors = lines.filter(|line| line.starts_with("tx=") && line.contains("/0208"));
+        errors
+            .filter(|line| {
+                line.split('/')
+                    .next_back()
+                    .is_some_and(|hex| hex[20..28] == *kind)
+            })
+            .count()
+    };
+    assert!(too_quick("00040205") > 100 && too_quick("00040202") > 100);
 }
 
 /// Few heads are damaged: many short recordings have every line of them bad.
@@ -147,6 +160,9 @@ fn a_day_keeps_all_eight_neighbours_up() {
     assert_eq!(seconds, 7200);
     assert_eq!(modes, [4, 4]);
     assert!(!output.starts_with(b"bad=") && output.len() > 50_000);
+    // Nobody is too quick, and nothing else is wrong.
+    let output = String::from_utf8(output).expect("text");
+    assert!(!output.contains("/0208"));
 }
 
 #[test]

@@ -13,14 +13,9 @@ use reference::update::Row;
 
 #[test]
 fn the_stored_list_is_the_sample() {
-    assert_eq!(
-        sample::records(),
-        include_bytes!("../../crates/program_driver/stdin")
-    );
-    assert_eq!(
-        sample::answers(),
-        include_bytes!("../../crates/program_driver/stdout")
-    );
+    // Too long to be printed where they differ.
+    assert!(sample::records() == include_bytes!("../../crates/program_driver/stdin"));
+    assert!(sample::answers() == include_bytes!("../../crates/program_driver/stdout"));
 }
 
 #[test]
@@ -102,6 +97,14 @@ fn a_state_has_its_fields_where_the_format_says() {
         block[11..38],
         hex("80 09 00 05 00 07 00 00 01 02 00 20 00 7A 00 20 00 00 00 78 00 00 02 01 00 00 00")
     );
+    // As many ticks since Hello and Poll as are counted; a Hello and 10 ticks later, 10 since it.
+    assert_eq!(block[38..40], [120, 120]);
+    gateway.message(&peer(HELLO, 1, 3, &[]));
+    for _ in 0..10 {
+        gateway.tick();
+    }
+    let block = record::state_block(&gateway.bench.state);
+    assert_eq!(block[38..40], [10, 120]);
 }
 
 #[test]

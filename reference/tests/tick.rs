@@ -1,4 +1,4 @@
-//! The tick, rule by rule (01, "One neighbour").
+//! The tick, rule by rule (01, "One neighbour"; 02, L5).
 
 mod common;
 
@@ -23,6 +23,8 @@ fn later(before: Neighbour) -> Neighbour {
         t1: before.t1 - 1,
         t3: before.t3 - 1,
         t2: before.t2.saturating_sub(1),
+        since_hello: (before.since_hello + 1).min(120),
+        since_poll: (before.since_poll + 1).min(120),
         ..before
     }
 }
@@ -77,10 +79,58 @@ fn t3_is_stop_and_ends_the_tick() {
                 t1: 30,
                 t3: 120,
                 cause: 5,
+                since_hello: SINCE_HELLO + 1,
+                since_poll: SINCE_POLL,
                 ..idle
             };
             let sent = vec![ours(CEASE, 5, 4, &[])];
             assert_eq!(tick(expiring(state, mode)), (ceasing, sent));
+        }
+    }
+}
+
+/// "Holding at 120", each by itself.
+#[test]
+fn ticks_are_counted_up_to_120() {
+    for state in [Acquisition, Down, Up, Cease] {
+        for (hello, poll) in [
+            (0, 119),
+            (29, 0),
+            (119, 118),
+            (119, 120),
+            (120, 7),
+            (120, 120),
+        ] {
+            let before = with(in_state(state, Mode::Passive), |n| {
+                n.since_hello = hello;
+                n.since_poll = poll;
+            });
+            let (after, _) = tick(before);
+            assert_eq!(after, later(before));
+            assert!(after.since_hello <= 120 && after.since_poll <= 120);
+        }
+    }
+}
+
+/// A tick that t3 ends is carried out, so it is counted; Idle has no counts.
+#[test]
+fn the_tick_that_ends_t3_is_counted_in_cease() {
+    for state in [Acquisition, Down, Up, Cease] {
+        for mode in [Mode::Active, Mode::Passive] {
+            let before = with(in_state(state, mode), |n| {
+                n.t3 = 1;
+                n.since_hello = 29;
+                n.since_poll = 119;
+            });
+            let (after, _) = tick(before);
+            let counts = (after.state, after.since_hello, after.since_poll);
+            let is_acquired = state == Down || state == Up;
+            let expected = if is_acquired {
+                (Cease, 30, 120)
+            } else {
+                (Idle, 0, 0)
+            };
+            assert_eq!(counts, expected);
         }
     }
 }

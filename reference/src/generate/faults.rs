@@ -10,7 +10,7 @@ use crate::random::Random;
 use crate::update::{Row, EXTERNAL, MOST_ROWS};
 
 /// The rules of well-formedness, one to break each.
-pub const STATE_FAULTS: [&str; 48] = [
+pub const STATE_FAULTS: [&str; 54] = [
     "own AS 0",
     "capability above 2",
     "common net not left justified",
@@ -22,6 +22,8 @@ pub const STATE_FAULTS: [&str; 48] = [
     "neighbour address twice",
     "free slot not zero",
     "free slot with one field",
+    "free slot with ticks since Hello",
+    "free slot with ticks since Poll",
     "row count above 128",
     "row count outside Up",
     "Idle with S",
@@ -36,6 +38,8 @@ pub const STATE_FAULTS: [&str; 48] = [
     "Idle with heard",
     "Idle with a cause",
     "Idle with a row count",
+    "Idle with ticks since Hello",
+    "Idle with ticks since Poll",
     "t1 above 122",
     "t2 above 482",
     "t3 above 3,600",
@@ -58,13 +62,15 @@ pub const STATE_FAULTS: [&str; 48] = [
     "cause below 5 in Cease",
     "cause above 6 in Cease",
     "no cause in Cease",
+    "ticks since Hello above 120",
+    "ticks since Poll above 120",
     "cause outside Cease",
 ];
 
 pub type Change = fn(&mut Neighbour);
 
 /// The variables of a neighbour, each set to 1.
-pub const ONES: [(&str, Change); 12] = [
+pub const ONES: [(&str, Change); 14] = [
     ("S", |n| n.send_sequence = 1),
     ("R", |n| n.receive_sequence = 1),
     ("T1", |n| n.hello_interval = 1),
@@ -77,6 +83,8 @@ pub const ONES: [(&str, Change); 12] = [
     ("heard", |n| n.heard = 1),
     ("cause", |n| n.cause = 1),
     ("row count", |n| n.row_count = 1),
+    ("since Hello", |n| n.since_hello = 1),
+    ("since Poll", |n| n.since_poll = 1),
 ];
 
 /// Breaks exactly one rule of a well-formed state that has a neighbour.
@@ -96,9 +104,12 @@ pub fn break_state(random: &mut Random, state: &mut State) -> &'static str {
         "row count above 128" | "t2 0 in Up" | "t2 above 482" => Up,
         "row count outside Up" | "t2 outside Up" => random.pick(&outside_up),
         _ if fault.starts_with("Idle with") => Idle,
-        "t1 above 122" | "t3 above 3,600" | "t1 0 outside Idle" | "t3 0 outside Idle" => {
-            random.pick(&running)
-        }
+        "t1 above 122"
+        | "t3 above 3,600"
+        | "t1 0 outside Idle"
+        | "t3 0 outside Idle"
+        | "ticks since Hello above 120"
+        | "ticks since Poll above 120" => random.pick(&running),
         "register above 15"
         | "heard above 1"
         | "T1 below 32"
@@ -161,6 +172,14 @@ pub fn break_state(random: &mut Random, state: &mut State) -> &'static str {
                 place => ONES[place - 2].1(n),
             }
         }
+        "free slot with ticks since Hello" => {
+            *n = Neighbour::default();
+            n.since_hello = nearest(random, 1, &[30, 120]);
+        }
+        "free slot with ticks since Poll" => {
+            *n = Neighbour::default();
+            n.since_poll = nearest(random, 1, &[30, 120]);
+        }
         "row count above 128" => n.row_count = nearest(random, 129, &[130, u16::MAX]),
         "row count outside Up" => n.row_count = random.pick(&[1, 128]),
         "Idle with S" => n.send_sequence = nearest(random, 1, &[2, u16::MAX]),
@@ -175,6 +194,8 @@ pub fn break_state(random: &mut Random, state: &mut State) -> &'static str {
         "Idle with heard" => n.heard = 1,
         "Idle with a cause" => n.cause = nearest(random, 1, &[5, 6]),
         "Idle with a row count" => n.row_count = nearest(random, 1, &[2, 128]),
+        "Idle with ticks since Hello" => n.since_hello = nearest(random, 1, &[30, 120]),
+        "Idle with ticks since Poll" => n.since_poll = nearest(random, 1, &[30, 120]),
         "t1 above 122" => n.t1 = nearest(random, 123, &[200, u16::MAX]),
         "t2 above 482" => n.t2 = nearest(random, 483, &[500, u16::MAX]),
         "t3 above 3,600" => n.t3 = nearest(random, 3601, &[4000, u16::MAX]),
@@ -197,6 +218,8 @@ pub fn break_state(random: &mut Random, state: &mut State) -> &'static str {
         "cause below 5 in Cease" => n.cause = nearest(random, 4, &[1, 3]),
         "cause above 6 in Cease" => n.cause = nearest(random, 7, &[8, 255]),
         "no cause in Cease" => n.cause = 0,
+        "ticks since Hello above 120" => n.since_hello = nearest(random, 121, &[128, 255]),
+        "ticks since Poll above 120" => n.since_poll = nearest(random, 121, &[128, 255]),
         _ => n.cause = random.pick(&[1, 5, 6]),
     }
     fault
@@ -263,7 +286,7 @@ pub struct Sender {
 }
 
 /// Faults of a message, with how often each is made.
-pub const MESSAGE_FAULTS: [(u32, &str); 28] = [
+pub const MESSAGE_FAULTS: [(u32, &str); 29] = [
     (2, "message too short"),
     (2, "message too long"),
     (5, "version"),
@@ -273,8 +296,8 @@ pub const MESSAGE_FAULTS: [(u32, &str); 28] = [
     (3, "wrong AS on a Request"),
     (2, "wrong AS near a Request"),
     (5, "unknown kind"),
-    (2, "unknown kind of type 8"),
-    (7, "status"),
+    (3, "unknown kind of type 8"),
+    (8, "status"),
     (8, "length"),
     (12, "out of sequence"),
     // Two checks that stand next to each other.
@@ -282,6 +305,8 @@ pub const MESSAGE_FAULTS: [(u32, &str); 28] = [
     (3, "checksum and AS"),
     (2, "kind and status"),
     (4, "length and sequence"),
+    // In Down and Up it often comes too soon besides.
+    (3, "length of a Hello or Poll"),
     (3, "sequence and body"),
     (2, "Update for another net"),
     (2, "Update cut short"),
@@ -402,7 +427,14 @@ pub fn message(random: &mut Random, sender: Sender, fault: &str) -> Vec<u8> {
             checksum::seal(&mut octets);
             octets
         }
-        "length" => wrong_length(random, sender),
+        "length" => {
+            let kind = kind_or_error(random);
+            wrong_length(random, sender, kind)
+        }
+        "length of a Hello or Poll" => {
+            let kind = random.pick(&[Kind::Hello, Kind::Poll]);
+            wrong_length(random, sender, kind)
+        }
         "out of sequence" => {
             let kind = random.pick(&[
                 Kind::Confirm,
@@ -613,8 +645,7 @@ fn kind_or_error(random: &mut Random) -> Kind {
     }
 }
 
-fn wrong_length(random: &mut Random, sender: Sender) -> Vec<u8> {
-    let kind = kind_or_error(random);
+fn wrong_length(random: &mut Random, sender: Sender, kind: Kind) -> Vec<u8> {
     let mut octets = good_of(random, sender, kind);
     let length = loop {
         let length = random.pick(&[

@@ -18,8 +18,20 @@ use crate::update::MOST_ROWS;
 
 /// What a length has besides where 16 bits of it are good.
 pub const BEYOND_16_BITS: usize = 65_536;
+/// Octets of a block before it had counts of ticks (02, L5), and with what L6 and L7 add.
+pub const EARLIER_BLOCK: usize = 227;
+pub const LATER_BLOCK: usize = 404;
 /// Lengths of a block that has not its own.
-pub const BLOCK_LENGTHS: [usize; 7] = [0, 1, 226, 228, 404, 454, BEYOND_16_BITS + STATE_BLOCK];
+pub const BLOCK_LENGTHS: [usize; 8] = [
+    0,
+    1,
+    EARLIER_BLOCK,
+    STATE_BLOCK - 1,
+    STATE_BLOCK + 1,
+    LATER_BLOCK,
+    2 * STATE_BLOCK,
+    BEYOND_16_BITS + STATE_BLOCK,
+];
 /// Lengths of a table that has not its own.
 pub const TABLE_LENGTHS: [usize; 7] = [
     0,
@@ -46,11 +58,14 @@ pub const ROW_LENGTHS: [usize; 10] = [
 /// Lengths of a meaning that has not its own.
 pub const MEANING_LENGTHS: [usize; 6] = [0, 1, 23, 25, 48, BEYOND_16_BITS + MEANING];
 
-/// Octets of the settings and of a slot in a block, and where in a slot its state and mode stand.
+/// Octets of the settings and of a slot in a block, and where in a slot its state and mode stand,
+/// and its counts of ticks.
 pub const SETTINGS: usize = 11;
-pub const SLOT: usize = 27;
+pub const SLOT: usize = 29;
 pub const STATE_OCTET: usize = 22;
 pub const MODE_OCTET: usize = 23;
+pub const SINCE_HELLO_OCTET: usize = 27;
+pub const SINCE_POLL_OCTET: usize = 28;
 
 /// One call of a host, what the reference returns for it, and what that leaves.
 pub struct Case {
@@ -93,7 +108,7 @@ pub struct Listed {
 #[derive(Clone, Copy, Debug, PartialEq, Eq)]
 enum Fault {
     BlockLength,
-    /// A number for a state or mode that is none's.
+    /// A number that no state, mode or count of ticks has.
     BlockCode,
     /// One rule of well-formedness.
     BlockClause,
@@ -547,26 +562,22 @@ impl Hosts {
         };
     }
 
-    /// A state above 4 or a mode above 2, one above the last more often than not.
+    /// A state above 4, a mode above 2 or a count above 120, one above the last more often than not.
     fn block_code(&mut self, call: &mut HostCall, state: &State) -> &'static str {
         let is_free = self.random.thousandths(150);
         let slot = self.slot(|slot| state.neighbours[slot].is_used() != is_free);
-        let is_state = self.random.thousandths(500);
-        let (at, least) = if is_state {
-            (STATE_OCTET, 5)
-        } else {
-            (MODE_OCTET, 3)
-        };
+        let (aim, at, least) = self.random.pick(&[
+            ("state above 4", STATE_OCTET, 5),
+            ("mode above 2", MODE_OCTET, 3),
+            ("ticks since Hello above 120", SINCE_HELLO_OCTET, 121),
+            ("ticks since Poll above 120", SINCE_POLL_OCTET, 121),
+        ]);
         let any = self.random.between(least, 255) as u8;
         let code = self.random.pick(&[least as u8, least as u8, 255, any]);
         if let Some(octet) = call.lent.block.get_mut(SETTINGS + SLOT * slot + at) {
             *octet = code;
         }
-        if is_state {
-            "state above 4"
-        } else {
-            "mode above 2"
-        }
+        aim
     }
 
     /// Octets that are no state: all of them, the slots', or those of one slot.

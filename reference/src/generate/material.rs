@@ -3,7 +3,9 @@
 use crate::checksum;
 use crate::gateway::{State, SLOTS, SLOT_NUMBERS, TABLE_NUMBERS};
 use crate::message::{Body, Intervals, Kind, Message, LONGEST, VERSION};
-use crate::neighbour::{Mode, Neighbour, NeighbourState, PASSIVE_ONLY};
+use crate::neighbour::{
+    Mode, Neighbour, NeighbourState, HELLO_TICKS, MOST_TICKS, PASSIVE_ONLY, POLL_TICKS,
+};
 use crate::net::{self, Class};
 use crate::random::Random;
 use crate::update::{Row, EXTERNAL, MOST_ROWS};
@@ -169,7 +171,7 @@ pub fn home_list(random: &mut Random, address: u32, common_net: u32) -> Vec<u32>
     }
     let count = match random.below(10) {
         0 => 0,
-        1..=2 => MOST_ROWS,
+        1..=3 => MOST_ROWS,
         _ => random.between(1, 8) as usize,
     };
     let mut rows = rows(random, common_net, count, false);
@@ -384,6 +386,20 @@ fn timer(random: &mut Random, most: u64) -> u16 {
     }) as u16
 }
 
+/// Ticks since a message that must be so many apart: often about that, often about as many as are
+/// counted.
+fn ticks_since(random: &mut Random, apart: u8) -> u8 {
+    let apart = u64::from(apart);
+    let most = u64::from(MOST_TICKS);
+    (match random.below(10) {
+        0 => 0,
+        1..=2 => random.between(apart - 2, most.min(apart + 1)),
+        3..=4 => random.pick(&[most - 2, most - 1, most - 1, most]),
+        5 => most,
+        _ => random.between(1, most - 1),
+    }) as u8
+}
+
 /// A well-formed neighbour in this state, reachable or not.
 pub fn neighbour(
     random: &mut Random,
@@ -400,10 +416,12 @@ pub fn neighbour(
     neighbour.receive_sequence = sequence(random);
     neighbour.t1 = timer(random, 122);
     neighbour.t3 = match random.below(20) {
-        0..=2 => 1,
-        3 => 3600,
+        0..=3 => 1,
+        4 => 3600,
         _ => random.between(2, 3600) as u16,
     };
+    neighbour.since_hello = ticks_since(random, HELLO_TICKS);
+    neighbour.since_poll = ticks_since(random, POLL_TICKS);
     if state.is_acquired() {
         neighbour.hello_interval = random.pick(&[32, 32, 33, 77, 122]);
         neighbour.poll_interval = random.pick(&[122, 122, 123, 300, 482]);

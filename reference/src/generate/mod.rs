@@ -19,7 +19,9 @@ use crate::checksum;
 use crate::gateway::{self, State, SLOTS, TABLE_NUMBERS};
 use crate::listing::LISTING_BUFFER;
 use crate::message::{self, Body, Intervals, Kind, Message, LONGEST, REPLY_BUFFER};
-use crate::neighbour::{Mode, Neighbour, NeighbourState, STATUS_UP};
+use crate::neighbour::{
+    Mode, Neighbour, NeighbourState, HELLO_TICKS, MOST_TICKS, POLL_TICKS, STATUS_UP,
+};
 use crate::net;
 use crate::random::Random;
 use crate::update::MOST_ROWS;
@@ -29,6 +31,9 @@ use faults::Sender;
 /// before its own fails too.
 const SELDOM: u64 = 150;
 const OFTEN: u64 = 400;
+
+/// The type of a Poll.
+const POLL_TYPE: u8 = 2;
 
 /// How the state a call works on came about.
 #[derive(Clone, Copy, Debug, PartialEq, Eq)]
@@ -105,6 +110,9 @@ enum Handed {
     State,
     /// A well-formed state whose neighbours are all acquired and unheard.
     Unheard,
+    /// A well-formed state in which about as many ticks have gone by as Hellos and Polls must be
+    /// apart.
+    NearTheRates,
     /// A state that breaks one rule.
     BrokenState,
     /// A table of a wrong length.
@@ -207,6 +215,7 @@ impl Generator {
             394..=398 => self.list(SELDOM),
             399..=400 => self.near_the_turn(),
             401..=412 => self.hand_unheard(),
+            413..=445 => self.hand_near_the_rates(),
             _ => self.live(),
         }
     }
@@ -264,7 +273,7 @@ impl Generator {
                 let octets = self.header_and(slot, Kind::Request, 1, 7, &[0, 30, 0, 120]);
                 self.message(slot, octets, "filling")
             }
-            NeighbourState::Down if neighbour.heard == 0 => {
+            NeighbourState::Down if neighbour.heard == 0 && may_hello(&neighbour) => {
                 let octets = self.header_and(slot, Kind::Hello, STATUS_UP, 8, &[]);
                 self.message(slot, octets, "filling")
             }
@@ -394,7 +403,10 @@ impl Generator {
             ]),
             NeighbourState::Down | NeighbourState::Up => {
                 if neighbour.heard == 0 && random.thousandths(300) {
-                    return indication(random, neighbour.mode);
+                    return indication(random, &neighbour);
+                }
+                if let Some(act) = near_its_rate(random, &neighbour) {
+                    return act;
                 }
                 let seconds = match neighbour.state {
                     NeighbourState::Down => 900,
@@ -405,9 +417,9 @@ impl Generator {
                 }
                 random.weighted(&[
                     (30, Act::Update),
-                    (20, Act::Poll),
+                    (12, Act::Poll),
                     (15, Act::Hello),
-                    (10, Act::PollElsewhere),
+                    (6, Act::PollElsewhere),
                     (10, Act::IHeardYou),
                     (5, Act::Refuse),
                     (5, Act::CeaseAck),
@@ -537,7 +549,12 @@ impl Generator {
 
     fn message(&mut self, slot: usize, octets: Vec<u8>, aim: &'static str) -> (Call, &'static str) {
         let state = self.bench.state;
-        let home = if self.random.thousandths(300) {
+        // Only a Poll is answered with it.
+        let empty = match octets.get(1) {
+            Some(&POLL_TYPE) => 150,
+            _ => 300,
+        };
+        let home = if self.random.thousandths(empty) {
             Vec::new()
         } else {
             material::home_list(&mut self.random, state.address, state.net)
@@ -797,17 +814,48 @@ impl Generator {
     /// about an Update for each.
     fn hand_unheard(&mut self) -> (Call, &'static str) {
         self.put_aside(Handed::Unheard);
-        let mut state = material::state(&mut self.random);
+        let phases = [(1, NeighbourState::Down), (1, NeighbourState::Up)];
+        let state = self.state_in(&phases, |_, neighbour| neighbour.heard = 0);
+        (Call::HandState(Box::new(state)), "state handed in, unheard")
+    }
+
+    /// A state where every neighbour may send its next Hello and Poll in a tick or two, or just may,
+    /// and about one of them for each.
+    fn hand_near_the_rates(&mut self) -> (Call, &'static str) {
+        self.put_aside(Handed::NearTheRates);
+        let phases = [
+            (2, NeighbourState::Down),
+            (2, NeighbourState::Up),
+            (1, NeighbourState::Acquisition),
+            (1, NeighbourState::Cease),
+        ];
+        let state = self.state_in(&phases, |random, neighbour| {
+            neighbour.since_hello = HELLO_TICKS - 2 + random.below(4) as u8;
+            neighbour.since_poll = POLL_TICKS - 2 + random.below(3) as u8;
+        });
+        (
+            Call::HandState(Box::new(state)),
+            "state handed in, near the rates",
+        )
+    }
+
+    /// A well-formed state with every neighbour in one of these states and then changed; as many
+    /// calls are to be made on it as it has neighbours.
+    fn state_in(
+        &mut self,
+        phases: &[(u32, NeighbourState)],
+        change: impl Fn(&mut Random, &mut Neighbour),
+    ) -> State {
+        let random = &mut self.random;
+        let mut state = material::state(random);
         for neighbour in state.neighbours.iter_mut().filter(|n| n.is_used()) {
             let (address, as_number) = (neighbour.address, neighbour.as_number);
-            let phase = self
-                .random
-                .pick(&[NeighbourState::Down, NeighbourState::Up]);
-            *neighbour = material::neighbour(&mut self.random, address, as_number, phase);
-            neighbour.heard = 0;
+            let phase = random.weighted(phases);
+            *neighbour = material::neighbour(random, address, as_number, phase);
+            change(random, neighbour);
         }
         self.handed_left = state.neighbours.iter().filter(|n| n.is_used()).count();
-        (Call::HandState(Box::new(state)), "state handed in, unheard")
+        state
     }
 
     /// States that break one rule, one after the other, and one call on each; the table may be
@@ -869,6 +917,7 @@ impl Generator {
         let (call, aim) = match handed {
             Handed::State => self.any_call(self.focus),
             Handed::Unheard => self.update_to_unheard(),
+            Handed::NearTheRates => self.call_near_the_rates(self.focus),
             Handed::BrokenState => self.call_on_broken(self.focus),
             Handed::Table => self.call_on_table(self.focus),
         };
@@ -900,6 +949,20 @@ impl Generator {
             _ => self.update(slot, s),
         };
         self.message(slot, octets, "Update to an unheard neighbour")
+    }
+
+    /// A Hello or Poll more often than not.
+    fn call_near_the_rates(&mut self, slot: usize) -> (Call, &'static str) {
+        let any = self.random.pick(&ACTS);
+        let is_acquired = self.bench.state.neighbours[slot].state.is_acquired();
+        let act = self.random.weighted(&[
+            (9, Act::Hello),
+            (8, Act::Poll),
+            (3, Act::PollElsewhere),
+            (if is_acquired { 10 } else { 25 }, any),
+        ]);
+        let (call, _) = self.act(slot, act);
+        (call, "Hello or Poll near its rate")
     }
 
     /// Each call that makes check 1 about as often.
@@ -946,7 +1009,7 @@ impl Generator {
         match self.random.below(100) {
             0..=24 => (self.event(slot, Act::Tick), "handed in"),
             25..=29 => {
-                let act = indication(&mut self.random, self.bench.state.neighbours[slot].mode);
+                let act = indication(&mut self.random, &self.bench.state.neighbours[slot]);
                 self.act(slot, act)
             }
             30..=58 => {
@@ -1060,12 +1123,46 @@ impl Generator {
     }
 }
 
-/// What counts as a sign of life in this mode.
-fn indication(random: &mut Random, mode: Mode) -> Act {
-    match mode {
-        Mode::Passive => random.pick(&[Act::Hello, Act::Hello, Act::Poll, Act::Update]),
+/// Whether a Hello of this neighbour's does not come too soon, and likewise a Poll.
+fn may_hello(neighbour: &Neighbour) -> bool {
+    neighbour.since_hello >= HELLO_TICKS
+}
+
+fn may_poll(neighbour: &Neighbour) -> bool {
+    neighbour.since_poll >= POLL_TICKS
+}
+
+/// What counts as a sign of life in this neighbour's mode, and is not too soon.
+fn indication(random: &mut Random, neighbour: &Neighbour) -> Act {
+    match neighbour.mode {
+        Mode::Passive => {
+            let act = random.pick(&[Act::Hello, Act::Hello, Act::Poll, Act::Update]);
+            match act {
+                Act::Hello if !may_hello(neighbour) => Act::Update,
+                Act::Poll if !may_poll(neighbour) => Act::Update,
+                _ => act,
+            }
+        }
         _ => random.pick(&[Act::IHeardYou, Act::Update, Act::Confirm]),
     }
+}
+
+/// A Hello or Poll now and then when the neighbour may send it in a tick or two, or just may.
+fn near_its_rate(random: &mut Random, neighbour: &Neighbour) -> Option<Act> {
+    let is_near = |since: u8, apart: u8| since.abs_diff(apart) <= 2;
+    if is_near(neighbour.since_hello, HELLO_TICKS) && random.thousandths(100) {
+        return Some(Act::Hello);
+    }
+    // The count holds there, so that it is near for long; in Up there is an answer.
+    let seldom = match (neighbour.since_poll, neighbour.state) {
+        (MOST_TICKS, NeighbourState::Up) => 60,
+        (MOST_TICKS, _) => 15,
+        _ => 100,
+    };
+    if is_near(neighbour.since_poll, POLL_TICKS) && random.thousandths(seldom) {
+        return Some(random.weighted(&[(3, Act::Poll), (1, Act::PollElsewhere)]));
+    }
+    None
 }
 
 /// Whether a timer is about to settle what becomes of the neighbour.

@@ -7,7 +7,7 @@ use crate::checksum;
 use crate::gateway::{self, SLOTS, SLOT_NUMBERS, TABLE_NUMBERS};
 use crate::listing::LISTING_BUFFER;
 use crate::message::{self, Body, Message, LONGEST, REPLY_BUFFER};
-use crate::neighbour::{Mode, Neighbour, NeighbourState, STATUS_UP};
+use crate::neighbour::{Mode, Neighbour, NeighbourState, HELLO_TICKS, MOST_TICKS, STATUS_UP};
 use crate::net::address;
 use crate::record;
 use crate::update::{Row, MOST_ROWS};
@@ -117,6 +117,8 @@ fn neighbour(slot: usize, rows: usize) -> Neighbour {
         heard: 0,
         cause: 0,
         row_count: rows as u16,
+        since_hello: MOST_TICKS,
+        since_poll: MOST_TICKS,
     }
 }
 
@@ -356,6 +358,14 @@ pub fn all() -> Vec<Case> {
             received(at, refused(number), Vec::new())
         }));
     }
+    // As many of these as a neighbour cares to send.
+    cases.push(Case::of(
+        "Hello in Up refused 21: 29 ticks",
+        SLOTS,
+        MOST_ROWS,
+        |neighbour| neighbour.since_hello = HELLO_TICKS - 1,
+        hello,
+    ));
     cases.push(Case::the_loop());
     cases
 }
@@ -393,8 +403,10 @@ mod tests {
         for case in all().iter().filter(|case| !case.is_the_loop()) {
             let wanted = REFUSALS
                 .iter()
-                .find(|(number, _)| case.name.contains(&format!("refused {number}:")))
-                .map_or(0, |(number, _)| *number);
+                .map(|(number, _)| *number)
+                .chain([Answer::TooQuick.number()])
+                .find(|number| case.name.contains(&format!("refused {number}:")))
+                .unwrap_or(0);
             assert_eq!(case.answer, wanted, "{}", case.name);
         }
     }

@@ -130,6 +130,10 @@ pub fn our_error(status: u8, sequence: u16, reason: u16, about: &[u8]) -> Vec<u8
     ours(ERROR, status, sequence, &rest)
 }
 
+/// Ticks since the last Hello and Poll of [`in_state`]: the next of either may come.
+pub const SINCE_HELLO: u8 = 40;
+pub const SINCE_POLL: u8 = 120;
+
 /// A neighbour in this state as an ordinary list would leave it: S 4, R 5.
 pub fn in_state(state: NeighbourState, mode: Mode) -> Neighbour {
     let idle = Neighbour::idle(N, PEER_AS);
@@ -139,6 +143,8 @@ pub fn in_state(state: NeighbourState, mode: Mode) -> Neighbour {
         receive_sequence: 5,
         t1: 20,
         t3: 100,
+        since_hello: SINCE_HELLO,
+        since_poll: SINCE_POLL,
         ..idle
     };
     let acquired = Neighbour {

@@ -1,6 +1,6 @@
 -- Laws of a Hello or an I-H-U in Up: what they leave is the machine's step, and the rows stay. Assumes nothing.
-use Prim.Native.Nat.{ℕ, _≤_}
-use borrow.Author.Tests.{eq-eqb, le-ltb}
+use Prim.Native.Nat.{ℕ}
+use borrow.Author.Tests.{eq-eqb}
 use mathlib.Core.Path.{_≡_, refl, sym, _∙_, ap}
 use mathlib.Core.Bool.{Bool, true, false, cond, not, _&&_, false≢true}
 use mathlib.Core.List.{List, [], _∷_}
@@ -39,9 +39,9 @@ up-is P.Cease e = absurd (false≢true e)
 -- ---- whether a message is one
 
 module _ (n : Neighbour) (m : Message) (up : isUp (n .phase) ≡ true) (a q s : ℕ) where
-  pub reach-hello : m ≡ Hello a q s → 30 ≤ n .sincehello → Reach n m
+  pub reach-hello : m ≡ Hello a q s → tooQuick n m ≡ false → Reach n m
   unfolding Reach
-  reach-hello e f = rw e (up-is (n .phase) up, f)
+  reach-hello e f = rw e (up-is (n .phase) up, rw e at f)
 
   pub reach-heard : m ≡ IHeardYou a q s → q ≡ n .s → Reach n m
   unfolding Reach
@@ -133,7 +133,7 @@ module _ (g : Settings) (n : Neighbour) (room asn : ℕ) (o : List ℕ) where
       let m = Hello a q s in
       keeps n (after m) (k .0) (stays m (k .0))
       ∙ ap (stepped n) (in-up ((recounted (noted (commanded n m) m) m) .phase) (stays m (k .0)) _ _ _ _ _)
-      ∙ taken-step room g asn n o m r (rw (k .0)) (rw (k .0, le-ltb (n .sincehello) 30 (k .1))) refl
+      ∙ taken-step room g asn n o m r (rw (k .0)) (k .1) refl
   reached (IHeardYou a q s) k r =
       let m = IHeardYou a q s in
       keeps n (after m) (k .0) (stays m (k .0))

@@ -1,5 +1,6 @@
 -- The stages in which the message call finds a message's number.
-use Prim.Native.Nat.{ℕ, _≤_}
+use Prim.Native.Nat.{ℕ}
+use mathlib.Core.Bool.{false}
 use mathlib.Core.List.{List}
 use mathlib.Core.Path.{_≡_}
 use lib.Dec.{eqb}
@@ -13,6 +14,7 @@ use Rattle.update_walk.specs.Body as Body
 use Rattle.neighbour.specs.declared.Settings.{Settings}
 use Rattle.neighbour.specs.declared.Phase.the-variants.{Up}
 use Rattle.neighbour.specs.declared.Neighbour.{Neighbour}
+use Rattle.neighbour.specs.Rules.{tooQuick}
 use Rattle.neighbour_machine.specs.declared.After.{After}
 use Rattle.gateway_rules.specs.Number.{namedReply}
 use Rattle.gateway_rules.specs.Ruling.{keep, replace, Ruling, refuses}
@@ -40,7 +42,7 @@ Reach n (M.Confirm a q s hello poll) = ⊥
 Reach n (M.Refuse a q s) = ⊥
 Reach n (M.Cease a q s) = ⊥
 Reach n (M.CeaseAck a q s) = ⊥
-Reach n (M.Hello a q s) = (n .phase ≡ Up) × (30 ≤ n .sincehello)
+Reach n (M.Hello a q s) = (n .phase ≡ Up) × (tooQuick n (M.Hello a q s) ≡ false)
 Reach n (M.IHeardYou a q s) = (n .phase ≡ Up) × (q ≡ n .s)
 Reach n (M.Poll a q s net) = ⊥
 Reach n (M.Update a q s net) = ⊥

@@ -240,7 +240,7 @@ pub fn tells_reach(n: Neighbour, m: Message) -> bool
         sequence: _,
         status: _,
     } = m {
-        return 30 <= n.sincehello;
+        return !neighbour::is_too_quick(n, m);
     }
     if let Message::IHeardYou {
         asn: _,

@@ -5,8 +5,6 @@
 //! at once, a number at its limit or one beyond, a message that nearly gets a reply, an Update
 //! that is or nearly is an indication, a Hello or Poll that is or nearly is too quick.
 
-use std::ops::RangeInclusive;
-
 use crate::answer::Answer;
 use crate::call::{Call, CallKind, Record};
 use crate::checksum;
@@ -619,22 +617,21 @@ struct Rated {
     kind: Kind,
     since: Count,
     apart: u8,
-    /// What the counts are at which it comes.
-    at: RangeInclusive<u8>,
 }
+
+/// The counts at which each of them comes: about both rates.
+const NEAR_THE_RATES: [u8; 7] = [28, 29, 30, 31, 118, 119, 120];
 
 const RATED: [Rated; 2] = [
     Rated {
         kind: Kind::Hello,
         since: |n| n.since_hello,
         apart: HELLO_TICKS,
-        at: HELLO_TICKS - 2..=HELLO_TICKS + 1,
     },
     Rated {
         kind: Kind::Poll,
         since: |n| n.since_poll,
         apart: POLL_TICKS,
-        at: POLL_TICKS - 2..=POLL_TICKS,
     },
 ];
 
@@ -652,7 +649,7 @@ fn rates() -> Vec<Place> {
     let mut places = Vec::new();
     for rated in &RATED {
         let kind = rated.kind;
-        for count in rated.at.clone() {
+        for count in NEAR_THE_RATES {
             let number = if count < rated.apart { 21 } else { 0 };
             for (mode, state) in [
                 (Mode::Active, Down),

@@ -215,7 +215,7 @@ impl Generator {
             394..=398 => self.list(SELDOM),
             399..=400 => self.near_the_turn(),
             401..=412 => self.hand_unheard(),
-            413..=445 => self.hand_near_the_rates(),
+            413..=453 => self.hand_near_the_rates(),
             _ => self.live(),
         }
     }
@@ -819,8 +819,8 @@ impl Generator {
         (Call::HandState(Box::new(state)), "state handed in, unheard")
     }
 
-    /// A state where every neighbour may send its next Hello and Poll in a tick or two, or just may,
-    /// and about one of them for each.
+    /// A state where most neighbours may send their next Hello and Poll in a tick or two, or just
+    /// may, and about one of them for each.
     fn hand_near_the_rates(&mut self) -> (Call, &'static str) {
         self.put_aside(Handed::NearTheRates);
         let phases = [
@@ -830,8 +830,8 @@ impl Generator {
             (1, NeighbourState::Cease),
         ];
         let state = self.state_in(&phases, |random, neighbour| {
-            neighbour.since_hello = HELLO_TICKS - 2 + random.below(4) as u8;
-            neighbour.since_poll = POLL_TICKS - 2 + random.below(3) as u8;
+            neighbour.since_hello = ticks_near(random, HELLO_TICKS, POLL_TICKS);
+            neighbour.since_poll = ticks_near(random, POLL_TICKS, HELLO_TICKS);
         });
         (
             Call::HandState(Box::new(state)),
@@ -1130,6 +1130,12 @@ fn may_hello(neighbour: &Neighbour) -> bool {
 
 fn may_poll(neighbour: &Neighbour) -> bool {
     neighbour.since_poll >= POLL_TICKS
+}
+
+/// Ticks near this rate, or near the other, by which they are not judged.
+fn ticks_near(random: &mut Random, rate: u8, other: u8) -> u8 {
+    let near = random.weighted(&[(5, rate), (4, other)]);
+    (near - 2 + random.below(4) as u8).min(MOST_TICKS)
 }
 
 /// What counts as a sign of life in this neighbour's mode, and is not too soon.

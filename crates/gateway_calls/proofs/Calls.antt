@@ -22,7 +22,7 @@ use Rattle.neighbour_machine.specs.declared.Event.the-variants.{Tick}
 use Rattle.neighbour_machine.specs.declared.After.{After}
 use Rattle.neighbour_machine.specs.declared.Reply.{Reply}
 use Rattle.neighbour_machine.specs.Intrinsics.{Intrinsic, Start, asEvent}
-use Rattle.neighbour_machine.specs.Table.{quiet}
+use Rattle.neighbour_machine.specs.Table.{unanswered}
 use Rattle.neighbour_machine.specs.Tick.{onTick}
 use Rattle.neighbour_machine.specs.Step.{stepOf}
 use Rattle.neighbour_machine.specs.Laws.{maySend}
@@ -113,24 +113,24 @@ module _ (event : Event) (st : State) (table buffer : List ℕ) (a k : ℕ) (c :
 
     -- a tick that only counts
     module _ (i : ℕ) (slot : Slot) (n : Neighbour) (next : Slot) (p : i ≡ slotOf st a) (s : slot ≡ slotAt st i) (tick : event ≡ Tick) (up : slot .neighbour .phase ≡ Up)
-        (left : (g : Settings) → quiet n ≡ onTick g (slot .neighbour)) (still : n .phase ≡ Up) (w : (x : Ruling) → x .neighbour ≡ n → x .change ≡ keep → next ≡ slotAfter slot x) where
-      counted-step : quiet n ≡ stepOf (st .settings) (slot .asn) (slot .neighbour) event (record { first = 0; second = 0; third = 0 })
+        (left : (g : Settings) → unanswered n ≡ onTick g (slot .neighbour)) (still : n .phase ≡ Up) (w : (x : Ruling) → x .neighbour ≡ n → x .change ≡ keep → next ≡ slotAfter slot x) where
+      counted-step : unanswered n ≡ stepOf (st .settings) (slot .asn) (slot .neighbour) event (record { first = 0; second = 0; third = 0 })
       unfolding stepOf
       counted-step = rw tick (left (st .settings))
 
-      counted-rule : (e : Intrinsic) → event ≡ asEvent e → keeping (quiet n) ≡ eventRuling e st a
-      unfolding quiet
+      counted-rule : (e : Intrinsic) → event ≡ asEvent e → keeping (unanswered n) ≡ eventRuling e st a
+      unfolding unanswered
       counted-rule e q =
-          keeps (slot .neighbour) (quiet n) up still
-          ∙ ruled i slot (quiet n) (verdictOf (stepped (slot .neighbour) (quiet n))) p s counted-step refl e q
+          keeps (slot .neighbour) (unanswered n) up still
+          ∙ ruled i slot (unanswered n) (verdictOf (stepped (slot .neighbour) (unanswered n))) p s counted-step refl e q
 
       pub event-counted : (state : State) → state ≡ withSlot st i next
           → Happened st table buffer a event (record { answer = 0; first = 0; second = 0; state = state }) table buffer
-      unfolding eventOutcome eventTable eventBuffer keeping quiet tableAfter bufferAfter replyOctets firstOctets secondOctets over lengthsOf
+      unfolding eventOutcome eventTable eventBuffer keeping unanswered tableAfter bufferAfter replyOctets firstOctets secondOctets over lengthsOf
       event-counted state f =
           record {
             outcome = λ e q.
-                carried st i (keeping (quiet n)) [] (record { first = 0; second = 0 }) slot next state refl s (w (keeping (quiet n)) refl refl) f
+                carried st i (keeping (unanswered n)) [] (record { first = 0; second = 0 }) slot next state refl s (w (keeping (unanswered n)) refl refl) f
                 ∙ rw p (ap (λ (x : Ruling). outcomeAfter st (slotOf st a) x []) (counted-rule e q)) ∙ sym (ifOk-new _ _ _ (sym (c e) ∙ z));
             rows = λ e q.
                 ap (λ (x : Ruling). tableAfter table (rowCounts st) (slotOf st a) (x .change)) (counted-rule e q) ∙ sym (ifOk-new _ _ _ (sym (c e) ∙ z));

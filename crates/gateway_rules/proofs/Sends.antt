@@ -17,7 +17,7 @@ use Rattle.neighbour_messages.specs.declared.Head.{Head}
 use Rattle.neighbour_machine.specs.declared.Event.{Event}
 use Rattle.neighbour_machine.specs.declared.Event.the-variants.{Received}
 use Rattle.neighbour_machine.specs.declared.Reply.{Reply}
-use Rattle.neighbour_machine.specs.Table.{quiet}
+use Rattle.neighbour_machine.specs.Table.{unanswered}
 use Rattle.neighbour_machine.specs.Step.{stepOf}
 use Rattle.neighbour_machine.specs.Laws.{maySend}
 use Rattle.neighbour_machine.proofs.Sends.{step-sends}
@@ -53,7 +53,7 @@ module _ (g : Settings) where
   stepped-sends asn n event head = step-sends g asn n event head
 
   after-sends : (asn : ℕ) (n : Neighbour) (o : List ℕ) (d : Decoded) → maySend g ((takenStep g asn n o d) .reply) ≡ true
-  unfolding takenStep quiet
+  unfolding takenStep unanswered
   after-sends asn n o (D.Good m) = step-sends g asn n (Received m) (errorHead o)
   after-sends asn n o D.UnknownKind = refl
   after-sends asn n o D.BadStatus = refl

@@ -16,7 +16,7 @@ use Rattle.neighbour.specs.Record.{isUp}
 use Rattle.neighbour_machine.specs.declared.Event.the-variants.{Received}
 use Rattle.neighbour_machine.specs.declared.Reply.{Reply}
 use Rattle.neighbour_machine.specs.declared.After.{After}
-use Rattle.neighbour_machine.specs.Table.{quiet}
+use Rattle.neighbour_machine.specs.Table.{unanswered}
 use Rattle.neighbour_machine.specs.Step.{stepOf}
 use Rattle.gateway_rules.specs.declared.Effect.{Effect}
 use Rattle.gateway_rules.specs.declared.Effect.the-variants.{Keep, Clear, Replace}
@@ -52,9 +52,9 @@ refuses n answer reply = record { answer = answer; reply = reply; neighbour = n;
 -- the machine's step for a message that was read; 10 to 12 have refused the others
 unfoldable pub takenStep : Settings → ℕ → Neighbour → List ℕ → Decoded → After
 takenStep g asn n o (D.Good m) = stepOf g asn n (Received m) (errorHead o)
-takenStep g asn n o D.UnknownKind = quiet n
-takenStep g asn n o D.BadStatus = quiet n
-takenStep g asn n o D.BadLength = quiet n
+takenStep g asn n o D.UnknownKind = unanswered n
+takenStep g asn n o D.BadStatus = unanswered n
+takenStep g asn n o D.BadLength = unanswered n
 
 -- 01: "An Update that finds its slot Up and fails no check is accepted: its rows replace the slot's."
 unfoldable pub changeBy : ℕ → Settings → Neighbour → List ℕ → After → Change

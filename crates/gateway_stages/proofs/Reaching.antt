@@ -22,7 +22,7 @@ use Rattle.neighbour_machine.specs.declared.Event.the-variants.{Received}
 use Rattle.neighbour_machine.specs.declared.Reply.{Reply}
 use Rattle.neighbour_machine.specs.declared.Reply.the-variants.{Nothing, One}
 use Rattle.neighbour_machine.specs.declared.After.{After}
-use Rattle.neighbour_machine.specs.Table.{quiet, answers, onHello, onIHeardYou}
+use Rattle.neighbour_machine.specs.Table.{unanswered, answers, onHello, onIHeardYou}
 use Rattle.neighbour_machine.specs.Step.{onMessage, stepOf}
 use Rattle.gateway_rules.specs.Number.{errorHead}
 use Rattle.gateway_rules.specs.Ruling.{leaving, stepped, receiveRuling}
@@ -123,7 +123,7 @@ module _ (g : Settings) (n : Neighbour) (room asn : ℕ) (o : List ℕ) where
   stays m up = recounted-phase (noted (commanded n m) m) m ∙ noted-phase (commanded n m) m ∙ commanded-phase n m ∙ up
 
   reached : (m : Message) → Reach n m → ReadAs asn o m → keeping (after m) ≡ receiveRuling room g asn n o
-  unfolding Reach after says stepOf onMessage onHello onIHeardYou answers quiet inSequence tooQuick
+  unfolding Reach after says stepOf onMessage onHello onIHeardYou answers unanswered inSequence tooQuick
   reached (Request a q s hello poll) k r = absurd k
   reached (Confirm a q s hello poll) k r = absurd k
   reached (Refuse a q s) k r = absurd k

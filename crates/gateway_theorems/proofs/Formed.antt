@@ -24,7 +24,7 @@ use Rattle.neighbour_machine.specs.declared.Event.{Event}
 use Rattle.neighbour_machine.specs.declared.Event.the-variants.{Received}
 use Rattle.neighbour_machine.specs.declared.Reply.{Reply}
 use Rattle.neighbour_machine.specs.declared.After.{After}
-use Rattle.neighbour_machine.specs.Table.{quiet}
+use Rattle.neighbour_machine.specs.Table.{unanswered}
 use Rattle.neighbour_machine.specs.Step.{stepOf}
 use Rattle.neighbour_machine.proofs.Theorems.{step-lawful, update-stays-up}
 use Rattle.gateway_state.specs.declared.Slot.{Slot}
@@ -98,7 +98,7 @@ module _ (slot : Slot) (good : SlotGood slot) where
 
   -- the step for a message that was read, or none
   after-formed : (g : Settings) (asn : ℕ) (o : List ℕ) (d : Decoded) → wellFormed ((takenStep g asn (slot .neighbour) o d) .neighbour) ≡ true
-  unfolding takenStep quiet
+  unfolding takenStep unanswered
   after-formed g asn o (D.Good m) = step-lawful g asn (slot .neighbour) (Received m) (errorHead o) (good .neighbour) .formed
   after-formed g asn o D.UnknownKind = good .neighbour
   after-formed g asn o D.BadStatus = good .neighbour

@@ -22,7 +22,7 @@ use Rattle.neighbour_machine.specs.declared.Event.{Event}
 use Rattle.neighbour_machine.specs.declared.Event.the-variants.{Tick}
 use Rattle.neighbour_machine.specs.declared.After.{After}
 use Rattle.neighbour_machine.specs.Intrinsics.{Intrinsic, asEvent}
-use Rattle.neighbour_machine.specs.Table.{quiet}
+use Rattle.neighbour_machine.specs.Table.{unanswered}
 use Rattle.neighbour_machine.specs.Tick.{onTick}
 use Rattle.neighbour_machine.specs.Step.{stepOf}
 use Rattle.gateway_state.specs.declared.Slot.{Slot}
@@ -122,7 +122,7 @@ module _ (event : Event) (block table buffer : List ℕ) (a : ℕ) where
 
       module _ (o : Octets block) (q : Octets table) where
         -- a tick that only counts
-        pub happen-counted : (n : Neighbour) (next : Slot) → event ≡ Tick → slot .neighbour .phase ≡ Up → ((g : Settings) → quiet n ≡ onTick g (slot .neighbour)) → n .phase ≡ Up
+        pub happen-counted : (n : Neighbour) (next : Slot) → event ≡ Tick → slot .neighbour .phase ≡ Up → ((g : Settings) → unanswered n ≡ onTick g (slot .neighbour)) → n .phase ≡ Up
             → ((x : Ruling) → x .neighbour ≡ n → x .change ≡ keep → next ≡ slotAfter slot x)
             → Answered event block table buffer a (bare 0) (sets block (slotStart i) (slotOctets next)) table buffer
         happen-counted n next tick up left still w =

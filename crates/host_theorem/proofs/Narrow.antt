@@ -35,7 +35,7 @@ use Rattle.neighbour_machine.specs.declared.Event.{Event}
 use Rattle.neighbour_machine.specs.declared.Event.the-variants.{Received}
 use Rattle.neighbour_machine.specs.declared.After.{After}
 use Rattle.neighbour_machine.specs.Intrinsics.{Intrinsic, Start, Stop, Tick, asEvent}
-use Rattle.neighbour_machine.specs.Table.{quiet}
+use Rattle.neighbour_machine.specs.Table.{unanswered}
 use Rattle.neighbour_machine.specs.Step.{stepOf}
 use Rattle.neighbour_machine.specs.Laws.{sendsPoll, brought}
 use Rattle.neighbour_machine.proofs.Theorems.{step-lawful}
@@ -250,7 +250,7 @@ event-narrow g event (used p) h e =
 
 after-narrow : (g : Settings) (asn : ℕ) (n : Neighbour) (o : List ℕ) (d : Decoded) → wellFormed n ≡ true → Narrow n → Carries d
     → Narrow ((afterMessage g asn n o d) .neighbour)
-unfolding afterMessage Carries quiet
+unfolding afterMessage Carries unanswered
 after-narrow g asn n o (D.Good m) h f c =
     step-narrow g asn n (Received m) (firstTwelve o) h (f .s16)
     (cond-elim (λ (k : ℕ). k < 65536) (isCommand (kindOf m)) (sequenceOf m) (n .r) (λ _. c) (λ _. f .r16))

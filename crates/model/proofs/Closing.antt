@@ -19,7 +19,7 @@ use Rattle.neighbour.proofs.Laws.{at-up}
 use Rattle.neighbour_messages.specs.declared.Head.{Head}
 use Rattle.neighbour_machine.specs.declared.Event.the-variants.{Received, Start, Stop, Tick}
 use Rattle.neighbour_machine.specs.declared.After.{After}
-use Rattle.neighbour_machine.specs.Table.{quiet, answers, says, helloIf, doesA, ceases, repeatsCease, acquires, onRequest, onCease, onStart, onStop}
+use Rattle.neighbour_machine.specs.Table.{unanswered, answers, says, helloIf, doesA, ceases, repeatsCease, acquires, onRequest, onCease, onStart, onStop}
 use Rattle.neighbour_machine.specs.Tick.{expired, listens, polls, takesT2, pollsInUp, tickOn, tickOutside, onTick}
 use Rattle.neighbour_machine.specs.Step.{onMessage, stepOf}
 
@@ -71,7 +71,7 @@ unfolding doesA answers initialised
 a-not-up g n hello poll mode = hello-not-up mode g _ refl
 
 requested : (g : Settings) (n : Neighbour) (q : ℕ) (offer : Offer) → NotUp (onRequest g n q offer)
-unfolding onRequest ceases repeatsCease answers waiting quiet idle
+unfolding onRequest ceases repeatsCease answers waiting unanswered idle
 requested g n q (Acceptable hello poll mode) =
     let a = a-not-up g n hello poll mode in
     under-elim NotUp (n .phase) _ _ _ _ _ (λ _. a-not-up g (leftIdle q) hello poll mode) (λ _. a) (λ _. a) (λ _. a) (λ e. ap isUp e)
@@ -117,7 +117,7 @@ judged-up P n e p q = up-under P (n .phase) _ _ _ _ _ e (cond-elim P (goesDown (
 -- t1 ran out and the register says Down
 quieted : (g : Settings) (n : Neighbour) → n .phase ≡ Up → n .t1 ≡ 1 → goesDown (n .mode) (onesOf ((n .register * 2 + n .heard) % 16)) ≡ true
     → NotUp (listens g (later n))
-unfolding listens quiet shifted leaveUp aged withTimers withReach
+unfolding listens unanswered shifted leaveUp aged withTimers withReach
 quieted g n e t d =
     cond-elim NotUp (eqb (n .t1 - 1) 0) _ _
     (λ _. hello-not-up _ g _ (judged-up (λ k. isUp (k .phase) ≡ false) (shifted (later n)) e (λ _. refl) (λ f. absurd (true≢false (sym d ∙ f)))))
@@ -164,14 +164,14 @@ polls-wrap g x s t =
     (λ f u. absurd (false≢true (sym (ap isUp f) ∙ u))) (λ f u. absurd (false≢true (sym (ap isUp f) ∙ u))) (λ f u. absurd (false≢true (sym (ap isUp f) ∙ u)))
     (λ _ _. taken g x s t) (λ f u. absurd (false≢true (sym (ap isUp f) ∙ u)))
 
-hello-wraps : (mode : Mode) (g : Settings) (n : Neighbour) → ((x : After) → x .neighbour ≡ n → Wraps g x) → Wraps g (helloIf mode g (quiet n))
-unfolding helloIf says quiet
+hello-wraps : (mode : Mode) (g : Settings) (n : Neighbour) → ((x : After) → x .neighbour ≡ n → Wraps g x) → Wraps g (helloIf mode g (unanswered n))
+unfolding helloIf says unanswered
 hello-wraps Unset g n h = h _ refl
 hello-wraps Active g n h = h _ refl
 hello-wraps Passive g n h = h _ refl
 
 listens-wraps : (g : Settings) (n : Neighbour) → n .phase ≡ Up → n .s ≡ 65535 → n .t2 ≡ 1 → Wraps g (listens g n)
-unfolding listens withTimers quiet
+unfolding listens withTimers unanswered
 listens-wraps g n e s t =
     cond-elim (Wraps g) (eqb (n .t1 - 1) 0) _ _
     (λ _. hello-wraps _ g (judged (shifted n))

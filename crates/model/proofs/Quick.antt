@@ -23,7 +23,7 @@ use Rattle.neighbour_messages.specs.declared.Head.{Head}
 use Rattle.neighbour_machine.specs.declared.Event.{Event}
 use Rattle.neighbour_machine.specs.declared.Event.the-variants.{Received, Start, Stop, Tick}
 use Rattle.neighbour_machine.specs.declared.After.{After}
-use Rattle.neighbour_machine.specs.Table.{quiet, answers, says, onConfirm, onRefuse, onCeaseAck, onHello, onIHeardYou, answersPoll, onPoll, onUpdate}
+use Rattle.neighbour_machine.specs.Table.{unanswered, answers, says, onConfirm, onRefuse, onCeaseAck, onHello, onIHeardYou, answersPoll, onPoll, onUpdate}
 use Rattle.neighbour_machine.specs.Tick.{listens, polls, pollsOnEntry, takesT2, pollsInUp, tickOn, tickOutside, onTick}
 use Rattle.neighbour_machine.specs.Step.{onMessage, stepOf}
 use Rattle.model.specs.Windows.{isIndication, isEvaluation, isRestart}
@@ -57,7 +57,7 @@ Leaves n x = x .neighbour ≡ n
 -- no row there changes the record, but a Request's and a Cease's
 acquired-row : (g : Settings) (asn : ℕ) (n : Neighbour) (m : Message) (head : Head) → acquired (n .phase) ≡ true → isRestart n (Received m) ≡ false
     → (onMessage g asn n m head) .neighbour ≡ n
-unfolding isRestart onMessage onConfirm onRefuse onCeaseAck onHello onIHeardYou onPoll onUpdate answersPoll answers quiet
+unfolding isRestart onMessage onConfirm onRefuse onCeaseAck onHello onIHeardYou onPoll onUpdate answersPoll answers unanswered
 acquired-row g asn n (M.Request a q s hello poll) head r e = absurd (true≢false e)
 acquired-row g asn n (M.Confirm a q s hello poll) head r e = acquired-under (Leaves n) (n .phase) _ _ _ _ _ r (λ _. refl) (λ _. refl)
 acquired-row g asn n (M.Refuse a q s) head r e = acquired-under (Leaves n) (n .phase) _ _ _ _ _ r (λ _. refl) (λ _. refl)
@@ -417,7 +417,7 @@ module _ (g : Settings) (asn : ℕ) (n : Neighbour) (head : Head) (ticks : ℕ) 
       (λ u. shifted-next (shifted (later n)) one u refl refl refl refl refl refl)
 
   listens-next : (ends : Bool) → isEvaluation n Tick ≡ ends → Next ends ((listens g (later n)) .neighbour)
-  unfolding listens quiet aged withTimers
+  unfolding listens unanswered aged withTimers
   listens-next true e =
       cond-elim (λ (x : After). Next true (x .neighbour)) (eqb (n .t1 - 1) 0) _ _
       (λ _. rw (hello-same _ g _) (ends-next (ends-heard e))) (λ z. absurd (false≢true (sym z ∙ (sym evaluation-is ∙ e))))

@@ -27,7 +27,7 @@ use Rattle.neighbour_messages.specs.declared.Head.{Head}
 use Rattle.neighbour_machine.specs.declared.Event.{Event}
 use Rattle.neighbour_machine.specs.declared.Event.the-variants.{Received, Start, Stop, Tick}
 use Rattle.neighbour_machine.specs.declared.After.{After}
-use Rattle.neighbour_machine.specs.Table.{quiet, answers, says, helloIf, doesA, doesB, ceases, repeatsCease, acquires, stray, onRequest, settles, onConfirm, onRefuse, onCease, onCeaseAck, onHello, onIHeardYou, answersPoll, onPoll, onUpdate, onStart, onStop}
+use Rattle.neighbour_machine.specs.Table.{unanswered, answers, says, helloIf, doesA, doesB, ceases, repeatsCease, acquires, stray, onRequest, settles, onConfirm, onRefuse, onCease, onCeaseAck, onHello, onIHeardYou, answersPoll, onPoll, onUpdate, onStart, onStop}
 use Rattle.neighbour_machine.specs.Tick.{expired, repeats, listens, polls, pollsOnEntry, takesT2, pollsInUp, tickOn, tickOutside, onTick}
 use Rattle.neighbour_machine.specs.Step.{onMessage, stepOf}
 use Rattle.neighbour_machine.specs.Laws.{isDown, isTick}
@@ -105,18 +105,18 @@ module _ (P : Neighbour → Type 0) (g : Settings) (n : Neighbour) (same : P n) 
   does-a k hello poll mode = rw (hello-same _ g _) (begins k hello poll mode)
 
   does-b : (k : Neighbour) (hello poll : ℕ) (mode : Mode) → Ends (doesB g k hello poll mode)
-  unfolding doesB quiet
+  unfolding doesB unanswered
   does-b k hello poll mode = rw (hello-same _ g _) (begins k hello poll mode)
 
   request-row : (sequence : ℕ) (offer : Offer) → Ends (onRequest g n sequence offer)
-  unfolding onRequest ceases repeatsCease answers quiet
+  unfolding onRequest ceases repeatsCease answers unanswered
   request-row sequence (Acceptable hello poll mode) =
       let a = does-a n hello poll mode in
       under-elim Ends (n .phase) _ _ _ _ _ (λ _. does-a (leftIdle sequence) hello poll mode) (λ _. a) (λ _. a) (λ _. a) (λ _. same)
   request-row sequence Unacceptable = under-elim Ends (n .phase) _ _ _ _ _ (λ _. same) (λ _. idles) (λ _. ends n 6) (λ _. ends n 6) (λ _. same)
 
   settled : (offer : Offer) → Ends (settles g n offer)
-  unfolding settles quiet
+  unfolding settles unanswered
   settled (Acceptable hello poll mode) = does-b n hello poll mode
   settled Unacceptable = idles
 
@@ -125,7 +125,7 @@ module _ (P : Neighbour → Type 0) (g : Settings) (n : Neighbour) (same : P n) 
   poll-answered net head = cond-elim Ends (eqb net (g .net)) _ _ (λ _. same) (λ _. same)
 
   message-elim : (asn : ℕ) (m : Message) (head : Head) → Ends (onMessage g asn n m head)
-  unfolding onMessage onConfirm onRefuse onCease onCeaseAck onHello onIHeardYou onPoll onUpdate stray quiet answers
+  unfolding onMessage onConfirm onRefuse onCease onCeaseAck onHello onIHeardYou onPoll onUpdate stray unanswered answers
   message-elim asn (M.Request a q s hello poll) head = request-row q (offerOf g asn s hello poll)
   message-elim asn (M.Confirm a q s hello poll) head =
       under-elim Ends (n .phase) _ _ _ _ _ (λ _. same) (λ _. settled (offerOf g asn s hello poll)) (λ _. same) (λ _. same) (λ _. same)
@@ -178,13 +178,13 @@ message-waits g asn n m head t w =
     idle-waits initialised-waits (λ k cause. waiting-waits k Cease cause refl) asn m head
 
 start-waits : (g : Settings) (n : Neighbour) → Waits n → WaitsAfter (onStart g n)
-unfolding onStart acquires answers quiet
+unfolding onStart acquires answers unanswered
 start-waits g n w =
     let a = waiting-waits n Acquisition 0 refl in
     under-elim WaitsAfter (n .phase) _ _ _ _ _ (λ _. waiting-waits (leftIdle 0) Acquisition 0 refl) (λ _. a) (λ _. a) (λ _. a) (λ _. w)
 
 stop-waits : (g : Settings) (n : Neighbour) → Waits n → WaitsAfter (onStop g n)
-unfolding onStop ceases answers quiet
+unfolding onStop ceases answers unanswered
 stop-waits g n w =
     let a = waiting-waits n Cease 5 refl in
     under-elim WaitsAfter (n .phase) _ _ _ _ _ (λ _. w) (λ _. idle-waits) (λ _. a) (λ _. a) (λ _. idle-waits)
@@ -298,7 +298,7 @@ judged-waits n low z =
     (λ e. elsewhere n (ap isDown e))
 
 listens-waits : (g : Settings) (n : Neighbour) → Waits n → WaitsAfter (listens g (later n))
-unfolding listens quiet aged withTimers
+unfolding listens unanswered aged withTimers
 listens-waits g n w =
     cond-elim WaitsAfter (eqb (n .t1 - 1) 0) _ _
     (λ _. rw (hello-same _ g _) (judged-waits (shifted (later n)) (shifted-low (later n)) (shifted-heard (later n))))
@@ -321,18 +321,18 @@ t2-waits g x w =
     (λ _. w)
 
 repeats-waits : (n : Neighbour) (m : Message) → isDown (n .phase) ≡ false → WaitsAfter (repeats n m)
-unfolding repeats answers quiet withTimers
+unfolding repeats answers unanswered withTimers
 repeats-waits n m e = cond-elim WaitsAfter (eqb (n .t1 - 1) 0) _ _ (λ _. elsewhere _ e) (λ _. elsewhere _ e)
 
 runs-waits : (g : Settings) (n : Neighbour) → Waits n → WaitsAfter (tickOn g (later n))
-unfolding tickOn quiet aged withTimers
+unfolding tickOn unanswered aged withTimers
 runs-waits g n w =
     under-elim WaitsAfter (n .phase) _ _ _ _ _ (λ e. elsewhere _ (ap isDown e)) (λ e. repeats-waits (later n) _ (ap isDown e))
     (λ _. entry-waits g (listens g (later n)) (listens-waits g n w)) (λ _. t2-waits g (listens g (later n)) (listens-waits g n w))
     (λ e. repeats-waits (later n) _ (ap isDown e))
 
 tick-waits : (g : Settings) (n : Neighbour) → Waits n → WaitsAfter (onTick g n)
-unfolding onTick tickOutside aged expired quiet
+unfolding onTick tickOutside aged expired unanswered
 tick-waits g n w =
     cond-elim WaitsAfter (isIdle (n .phase)) _ _ (λ _. w) (λ _. cond-elim WaitsAfter (eqb (n .t3 - 1) 0) _ _ (λ _. stop-waits g (aged n) (aged-waits n w)) (λ _. runs-waits g n w))
 
@@ -406,7 +406,7 @@ module _ (g : Settings) (asn : ℕ) (n : Neighbour) (head : Head) (silent : ℕ)
 
   -- a tick within a window
   pub tick-within : isEvaluation n Tick ≡ false → Held ((stepOf g asn n Tick head) .neighbour) silent heard
-  unfolding listens quiet aged withTimers
+  unfolding listens unanswered aged withTimers
   tick-within e =
       up-runs (λ x. Held (x .neighbour) silent heard)
       (t2-held silent heard (listens g (later n))
@@ -426,7 +426,7 @@ module _ (g : Settings) (asn : ℕ) (n : Neighbour) (head : Head) (silent : ℕ)
   -- a tick that ends one
   ends-window : (k : ℕ) → k ≤ 3 → Lowest k ((n .register * 2 + n .heard) % 16) → 3722 ≤ n .t3 - 1 + 122 * (k + 2)
       → isEvaluation n Tick ≡ true → Held ((stepOf g asn n Tick head) .neighbour) k false
-  unfolding listens quiet aged withTimers
+  unfolding listens unanswered aged withTimers
   ends-window k few l y e =
       up-runs (λ x. Held (x .neighbour) k false)
       (t2-held k false (listens g (later n))
@@ -455,7 +455,7 @@ tick-silent g asn n head silent fine held few e =
 -- a row in Up, but a Request's and a Cease's
 up-row : (g : Settings) (asn : ℕ) (n : Neighbour) (m : Message) (head : Head) → n .phase ≡ Up → isRestart n (Received m) ≡ false
     → (onMessage g asn n m head) .neighbour ≡ n
-unfolding isRestart onMessage onConfirm onRefuse onCeaseAck onHello onIHeardYou onPoll onUpdate answersPoll answers quiet
+unfolding isRestart onMessage onConfirm onRefuse onCeaseAck onHello onIHeardYou onPoll onUpdate answersPoll answers unanswered
 up-row g asn n (M.Request a q s hello poll) head up e = absurd (true≢false e)
 up-row g asn n (M.Confirm a q s hello poll) head up e = ap (λ (x : After). x .neighbour) (at-up (n .phase) _ _ _ _ _ up)
 up-row g asn n (M.Refuse a q s) head up e = ap (λ (x : After). x .neighbour) (at-up (n .phase) _ _ _ _ _ up)
@@ -587,12 +587,12 @@ module _ (g : Settings) (n : Neighbour) (fine : Fine n) (w : Waits n) (down : n 
       (λ _. never _ (ap isUp down)))
 
   listens-enters : EntersAfter (listens g (later n))
-  unfolding listens quiet aged withTimers
+  unfolding listens unanswered aged withTimers
   listens-enters =
       cond-elim EntersAfter (eqb (n .t1 - 1) 0) _ _ (λ _. rw (hello-same _ g _) judged-enters) (λ _. never _ (ap isUp down))
 
   stop-enters : EntersAfter (onStop g (aged n))
-  unfolding onStop ceases answers waiting quiet aged
+  unfolding onStop ceases answers waiting unanswered aged
   stop-enters = rw (at-down (n .phase) _ _ _ _ _ down) (never _ refl)
 
   tick-enters : EntersAfter (onTick g n)

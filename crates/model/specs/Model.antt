@@ -28,7 +28,7 @@ use Rattle.neighbour_machine.specs.Intrinsics.{Intrinsic, Start, Stop, Tick, as
 use Rattle.neighbour_machine.specs.declared.Reply.{Reply}
 use Rattle.neighbour_machine.specs.declared.Reply.the-variants.{Nothing, One, Two}
 use Rattle.neighbour_machine.specs.declared.After.{After}
-use Rattle.neighbour_machine.specs.Table.{quiet}
+use Rattle.neighbour_machine.specs.Table.{unanswered}
 use Rattle.neighbour_machine.specs.Step.{stepOf}
 use Rattle.gateway_rules.specs.Home.{goodHome}
 use Rattle.listing_lines.specs.Lines.{Entry, entryFor, listingText}
@@ -247,9 +247,9 @@ refusalReply g n o answer =
 -- the machine's step for a message that passed; 10 to 12 have refused the others
 unfoldable pub afterMessage : Settings → ℕ → Neighbour → List ℕ → Decoded → After
 afterMessage g asn n o (D.Good m) = stepOf g asn n (Received m) (firstTwelve o)
-afterMessage g asn n o D.UnknownKind = quiet n
-afterMessage g asn n o D.BadStatus = quiet n
-afterMessage g asn n o D.BadLength = quiet n
+afterMessage g asn n o D.UnknownKind = unanswered n
+afterMessage g asn n o D.BadStatus = unanswered n
+afterMessage g asn n o D.BadLength = unanswered n
 
 -- 01: "An Update that finds its slot Up and fails no check is accepted: its rows replace the slot's."
 unfoldable pub rowsAfter : Settings → Neighbour → List ℕ → Decoded → List Row → List Row

@@ -25,7 +25,7 @@ use Rattle.neighbour_machine.specs.declared.Event.the-variants.{Received
 use Rattle.neighbour_machine.specs.declared.Reply.{Reply}
 use Rattle.neighbour_machine.specs.declared.Reply.the-variants.{Nothing, One, Two}
 use Rattle.neighbour_machine.specs.declared.After.{After}
-use Rattle.neighbour_machine.specs.Table.{followed, quiet, answers, says, helloIf, doesA, doesB, ceases, repeatsCease, acquires, stray, onRequest, settles, onConfirm, onRefuse, onCease, onCeaseAck, onHello, onIHeardYou, answersPoll, onPoll, onUpdate, onStart, onStop}
+use Rattle.neighbour_machine.specs.Table.{followed, unanswered, answers, says, helloIf, doesA, doesB, ceases, repeatsCease, acquires, stray, onRequest, settles, onConfirm, onRefuse, onCease, onCeaseAck, onHello, onIHeardYou, answersPoll, onPoll, onUpdate, onStart, onStop}
 use Rattle.neighbour_machine.specs.Tick.{expired, repeats, listens, polls, pollsOnEntry, takesT2, pollsInUp, tickOn, tickOutside, onTick}
 use Rattle.neighbour_machine.specs.Step.{onMessage, stepOf}
 use Rattle.neighbour_machine.specs.Laws.{short, ourUpdate, maySend, StepSends, NoThird}
@@ -75,21 +75,21 @@ module _ (g : Settings) where
   each Up a b c d e p q r s t = s
   each Cease a b c d e p q r s t = t
 
-  quiet-sends : (n : Neighbour) → Sends (quiet n)
-  unfolding Sends quiet
-  quiet-sends n = refl
+  unanswered-sends : (n : Neighbour) → Sends (unanswered n)
+  unfolding Sends unanswered
+  unanswered-sends n = refl
 
   stray-sends : (n : Neighbour) → Sends (stray g n)
   unfolding stray
-  stray-sends n = quiet-sends n
+  stray-sends n = unanswered-sends n
 
   answers-sends : (n : Neighbour) (m : Message) → short m ≡ true → Sends (answers n m)
   unfolding Sends answers
   answers-sends n m e = rw e
 
-  quiet-roomy : (n : Neighbour) → Roomy (quiet n)
-  unfolding Roomy quiet roomy
-  quiet-roomy n = refl
+  unanswered-roomy : (n : Neighbour) → Roomy (unanswered n)
+  unfolding Roomy unanswered roomy
+  unanswered-roomy n = refl
 
   answers-roomy : (n : Neighbour) (m : Message) → short m ≡ true → Roomy (answers n m)
   unfolding Roomy answers roomy
@@ -123,19 +123,19 @@ module _ (g : Settings) where
 
   b-sends : (n : Neighbour) (hello poll : ℕ) (mode : Mode) → Sends (doesB g n hello poll mode)
   unfolding doesB
-  b-sends n hello poll mode = hello-sends _ _ (quiet-roomy _)
+  b-sends n hello poll mode = hello-sends _ _ (unanswered-roomy _)
 
   request-sends : (n : Neighbour) (sequence : ℕ) (offer : Offer) → Sends (onRequest g n sequence offer)
   unfolding onRequest repeatsCease ceases
   request-sends n sequence (Acceptable hello poll mode) =
       each (n .phase) _ _ _ _ _ (a-sends _ hello poll mode) (a-sends n hello poll mode) (a-sends n hello poll mode) (a-sends n hello poll mode) (answers-sends n _ refl)
   request-sends n sequence Unacceptable =
-      each (n .phase) _ _ _ _ _ (answers-sends n _ refl) (quiet-sends _) (answers-sends _ _ refl) (answers-sends _ _ refl) (answers-sends n _ refl)
+      each (n .phase) _ _ _ _ _ (answers-sends n _ refl) (unanswered-sends _) (answers-sends _ _ refl) (answers-sends _ _ refl) (answers-sends n _ refl)
 
   settles-sends : (n : Neighbour) (offer : Offer) → Sends (settles g n offer)
   unfolding settles
   settles-sends n (Acceptable hello poll mode) = b-sends n hello poll mode
-  settles-sends n Unacceptable = quiet-sends _
+  settles-sends n Unacceptable = unanswered-sends _
 
   -- a Poll in Up: our Update has the status of Up
   answers-poll-sends : (n : Neighbour) (net : ℕ) (head : Head) → Sends (answersPoll g (at n Up) net head)
@@ -146,53 +146,53 @@ module _ (g : Settings) where
   poll-sends : (n : Neighbour) (net : ℕ) (head : Head) (p : Phase) → Sends (onPoll g (at n p) net head)
   unfolding onPoll under
   poll-sends n net head Idle = stray-sends _
-  poll-sends n net head Acquisition = quiet-sends _
-  poll-sends n net head Down = quiet-sends _
+  poll-sends n net head Acquisition = unanswered-sends _
+  poll-sends n net head Down = unanswered-sends _
   poll-sends n net head Up = answers-poll-sends n net head
-  poll-sends n net head Cease = quiet-sends _
+  poll-sends n net head Cease = unanswered-sends _
 
   message-sends : (asn : ℕ) (n : Neighbour) (m : Message) (head : Head) → Sends (onMessage g asn n m head)
   unfolding onMessage onConfirm onRefuse onCease onCeaseAck onHello onIHeardYou onUpdate
   message-sends asn n (M.Request a q s hello poll) head = request-sends n q (offerOf g asn s hello poll)
   message-sends asn n (M.Confirm a q s hello poll) head =
-      each (n .phase) _ _ _ _ _ (stray-sends n) (settles-sends n (offerOf g asn s hello poll)) (quiet-sends n) (quiet-sends n) (quiet-sends n)
+      each (n .phase) _ _ _ _ _ (stray-sends n) (settles-sends n (offerOf g asn s hello poll)) (unanswered-sends n) (unanswered-sends n) (unanswered-sends n)
   message-sends asn n (M.Refuse a q s) head =
-      each (n .phase) _ _ _ _ _ (stray-sends n) (quiet-sends _) (quiet-sends n) (quiet-sends n) (quiet-sends n)
+      each (n .phase) _ _ _ _ _ (stray-sends n) (unanswered-sends _) (unanswered-sends n) (unanswered-sends n) (unanswered-sends n)
   message-sends asn n (M.Cease a q s) head = answers-sends _ _ refl
   message-sends asn n (M.CeaseAck a q s) head =
-      each (n .phase) _ _ _ _ _ (quiet-sends n) (quiet-sends n) (quiet-sends n) (quiet-sends n) (quiet-sends _)
+      each (n .phase) _ _ _ _ _ (unanswered-sends n) (unanswered-sends n) (unanswered-sends n) (unanswered-sends n) (unanswered-sends _)
   message-sends asn n (M.Hello a q s) head =
-      each (n .phase) _ _ _ _ _ (stray-sends n) (quiet-sends n) (answers-sends n _ refl) (answers-sends n _ refl) (quiet-sends n)
+      each (n .phase) _ _ _ _ _ (stray-sends n) (unanswered-sends n) (answers-sends n _ refl) (answers-sends n _ refl) (unanswered-sends n)
   message-sends asn n (M.IHeardYou a q s) head =
-      each (n .phase) _ _ _ _ _ (stray-sends n) (quiet-sends n) (quiet-sends n) (quiet-sends n) (quiet-sends n)
+      each (n .phase) _ _ _ _ _ (stray-sends n) (unanswered-sends n) (unanswered-sends n) (unanswered-sends n) (unanswered-sends n)
   message-sends asn n (M.Poll a q s net) head = poll-sends n net head (n .phase)
   message-sends asn n (M.Update a q s net) head =
-      each (n .phase) _ _ _ _ _ (stray-sends n) (quiet-sends n) (quiet-sends n) (quiet-sends n) (quiet-sends n)
-  message-sends asn n (M.Error a q s reason x y z) head = quiet-sends n
+      each (n .phase) _ _ _ _ _ (stray-sends n) (unanswered-sends n) (unanswered-sends n) (unanswered-sends n) (unanswered-sends n)
+  message-sends asn n (M.Error a q s reason x y z) head = unanswered-sends n
 
   start-sends : (n : Neighbour) → Sends (onStart g n)
   unfolding onStart acquires
   start-sends n =
-      each (n .phase) _ _ _ _ _ (answers-sends _ _ refl) (answers-sends _ _ refl) (answers-sends _ _ refl) (answers-sends _ _ refl) (quiet-sends n)
+      each (n .phase) _ _ _ _ _ (answers-sends _ _ refl) (answers-sends _ _ refl) (answers-sends _ _ refl) (answers-sends _ _ refl) (unanswered-sends n)
 
   stop-sends : (n : Neighbour) → Sends (onStop g n)
   unfolding onStop ceases
-  stop-sends n = each (n .phase) _ _ _ _ _ (quiet-sends n) (quiet-sends _) (answers-sends _ _ refl) (answers-sends _ _ refl) (quiet-sends _)
+  stop-sends n = each (n .phase) _ _ _ _ _ (unanswered-sends n) (unanswered-sends _) (answers-sends _ _ refl) (answers-sends _ _ refl) (unanswered-sends _)
 
   -- the tick: before a Poll at most a Hello was said
-  hello-roomy : (mode : Mode) (n : Neighbour) → Roomy (helloIf mode g (quiet n))
-  unfolding helloIf says quiet followed Roomy roomy
+  hello-roomy : (mode : Mode) (n : Neighbour) → Roomy (helloIf mode g (unanswered n))
+  unfolding helloIf says unanswered followed Roomy roomy
   hello-roomy Unset n = refl
   hello-roomy Active n = refl
   hello-roomy Passive n = refl
 
   listens-roomy : (n : Neighbour) → Roomy (listens g n)
   unfolding listens
-  listens-roomy n = cond-elim Roomy (eqb (n .t1 - 1) 0) _ _ (λ _. hello-roomy _ (judged (shifted n))) (λ _. quiet-roomy _)
+  listens-roomy n = cond-elim Roomy (eqb (n .t1 - 1) 0) _ _ (λ _. hello-roomy _ (judged (shifted n))) (λ _. unanswered-roomy _)
 
   repeats-sends : (n : Neighbour) (m : Message) → short m ≡ true → Sends (repeats n m)
   unfolding repeats
-  repeats-sends n m e = cond-elim Sends (eqb (n .t1 - 1) 0) _ _ (λ _. answers-sends _ m e) (λ _. quiet-sends _)
+  repeats-sends n m e = cond-elim Sends (eqb (n .t1 - 1) 0) _ _ (λ _. answers-sends _ m e) (λ _. unanswered-sends _)
 
   polls-sends : (x : After) → Roomy x → Sends (polls g x)
   unfolding polls says Roomy Sends
@@ -215,7 +215,7 @@ module _ (g : Settings) where
   runs-sends : (n : Neighbour) → Sends (tickOn g n)
   unfolding tickOn
   runs-sends n =
-      each (n .phase) _ _ _ _ _ (quiet-sends n) (repeats-sends n _ refl) (entry-sends _ (listens-roomy n)) (up-sends _ (listens-roomy n))
+      each (n .phase) _ _ _ _ _ (unanswered-sends n) (repeats-sends n _ refl) (entry-sends _ (listens-roomy n)) (up-sends _ (listens-roomy n))
       (repeats-sends n _ refl)
 
   outside-sends : (n : Neighbour) → Sends (tickOutside g n)
@@ -224,7 +224,7 @@ module _ (g : Settings) where
 
   tick-sends : (n : Neighbour) → Sends (onTick g n)
   unfolding onTick
-  tick-sends n = cond-elim Sends (isIdle (n .phase)) _ _ (λ _. quiet-sends n) (λ _. outside-sends (aged n))
+  tick-sends n = cond-elim Sends (isIdle (n .phase)) _ _ (λ _. unanswered-sends n) (λ _. outside-sends (aged n))
 
   event-sends : (asn : ℕ) (n : Neighbour) (event : Event) (head : Head) → Sends (stepOf g asn n event head)
   unfolding stepOf

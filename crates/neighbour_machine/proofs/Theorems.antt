@@ -27,7 +27,7 @@ use Rattle.neighbour_machine.specs.declared.Event.the-variants.{Received
 use Rattle.neighbour_machine.specs.declared.Reply.{Reply}
 use Rattle.neighbour_machine.specs.declared.Reply.the-variants.{Nothing, One, Two}
 use Rattle.neighbour_machine.specs.declared.After.{After}
-use Rattle.neighbour_machine.specs.Table.{followed, quiet, answers, says, helloIf, doesA, doesB, ceases, repeatsCease, acquires, stray, onRequest, settles, onConfirm, onRefuse, onCease, onCeaseAck, onHello, onIHeardYou, answersPoll, onPoll, onUpdate, onStart, onStop}
+use Rattle.neighbour_machine.specs.Table.{followed, unanswered, answers, says, helloIf, doesA, doesB, ceases, repeatsCease, acquires, stray, onRequest, settles, onConfirm, onRefuse, onCease, onCeaseAck, onHello, onIHeardYou, answersPoll, onPoll, onUpdate, onStart, onStop}
 use Rattle.neighbour_machine.specs.Tick.{expired, repeats, listens, polls, pollsOnEntry, takesT2, pollsInUp, tickOn, tickOutside, onTick}
 use Rattle.neighbour_machine.specs.Step.{onMessage, stepOf}
 use Rattle.neighbour_machine.specs.Laws.{isPoll, sendsPoll, brought, isTick, Lawful, StepLawful, IdleIsZero, T2OnlyInUp, ErrorIgnored, UpdateStaysUp}
@@ -70,7 +70,7 @@ module _ (g : Settings) where
 
   does-b : (n : Neighbour) (tick : Bool) (p : Phase) → isIdle p ≡ false → (h q : ℕ) (m : Mode)
       → 32 ≤ h → h ≤ 122 → 122 ≤ q → q ≤ 482 → isUnset m ≡ false → Lawful p (n .s) (n .r) tick (doesB g n h q m)
-  unfolding doesB quiet says followed helloIf initialised
+  unfolding doesB unanswered says followed helloIf initialised
   does-b n tick p i h q Unset a b c d e = moves n tick p i (initialised n h q Unset) refl refl refl refl (initialised-ok n h q Unset a b c d e) Nothing refl
   does-b n tick p i h q Active a b c d e = moves n tick p i (initialised n h q Active) refl refl refl refl (initialised-ok n h q Active a b c d e) (One _) refl
   does-b n tick p i h q Passive a b c d e = moves n tick p i (initialised n h q Passive) refl refl refl refl (initialised-ok n h q Passive a b c d e) Nothing refl
@@ -100,7 +100,7 @@ module _ (g : Settings) where
   module _ (n : Neighbour) where
     request-row : (sequence : ℕ) (asn status hello poll : ℕ) (p : Phase) → isIdle p ≡ false → wellFormed (at n p) ≡ true
         → Lawful p (n .s) (n .r) false (onRequest g (at n p) sequence (offerOf g asn status hello poll))
-    unfolding onRequest repeatsCease quiet answers under
+    unfolding onRequest repeatsCease unanswered answers under
     request-row sequence asn status hello poll Idle i h = never i
     request-row sequence asn status hello poll Acquisition i h =
         offer-elim g asn status hello poll (λ o. Lawful Acquisition (n .s) (n .r) false (onRequest g (at n Acquisition) sequence o))
@@ -117,7 +117,7 @@ module _ (g : Settings) where
 
     confirm-row : (asn status hello poll : ℕ) (p : Phase) → isIdle p ≡ false → wellFormed (at n p) ≡ true
         → Lawful p (n .s) (n .r) false (onConfirm g (at n p) (offerOf g asn status hello poll))
-    unfolding onConfirm settles quiet under
+    unfolding onConfirm settles unanswered under
     confirm-row asn status hello poll Idle i h = never i
     confirm-row asn status hello poll Acquisition i h =
         offer-elim g asn status hello poll (λ o. Lawful Acquisition (n .s) (n .r) false (onConfirm g (at n Acquisition) o))
@@ -127,7 +127,7 @@ module _ (g : Settings) where
     confirm-row asn status hello poll Cease i h = stays n false Cease i h Nothing refl
 
     refuse-row : (p : Phase) → isIdle p ≡ false → wellFormed (at n p) ≡ true → Lawful p (n .s) (n .r) false (onRefuse g (at n p))
-    unfolding onRefuse quiet under
+    unfolding onRefuse unanswered under
     refuse-row Idle i h = never i
     refuse-row Acquisition i h = gone Acquisition (n .s) (n .r) false Nothing
     refuse-row Down i h = stays n false Down i h Nothing refl
@@ -135,7 +135,7 @@ module _ (g : Settings) where
     refuse-row Cease i h = stays n false Cease i h Nothing refl
 
     cease-ack-row : (p : Phase) → isIdle p ≡ false → wellFormed (at n p) ≡ true → Lawful p (n .s) (n .r) false (onCeaseAck (at n p))
-    unfolding onCeaseAck quiet under
+    unfolding onCeaseAck unanswered under
     cease-ack-row Idle i h = never i
     cease-ack-row Acquisition i h = stays n false Acquisition i h Nothing refl
     cease-ack-row Down i h = stays n false Down i h Nothing refl
@@ -143,7 +143,7 @@ module _ (g : Settings) where
     cease-ack-row Cease i h = gone Cease (n .s) (n .r) false Nothing
 
     hello-row : (p : Phase) → isIdle p ≡ false → wellFormed (at n p) ≡ true → Lawful p (n .s) (n .r) false (onHello g (at n p))
-    unfolding onHello quiet answers under
+    unfolding onHello unanswered answers under
     hello-row Idle i h = never i
     hello-row Acquisition i h = stays n false Acquisition i h Nothing refl
     hello-row Down i h = stays n false Down i h (One _) refl
@@ -151,7 +151,7 @@ module _ (g : Settings) where
     hello-row Cease i h = stays n false Cease i h Nothing refl
 
     i-heard-you-row : (p : Phase) → isIdle p ≡ false → wellFormed (at n p) ≡ true → Lawful p (n .s) (n .r) false (onIHeardYou g (at n p))
-    unfolding onIHeardYou quiet under
+    unfolding onIHeardYou unanswered under
     i-heard-you-row Idle i h = never i
     i-heard-you-row Acquisition i h = stays n false Acquisition i h Nothing refl
     i-heard-you-row Down i h = stays n false Down i h Nothing refl
@@ -160,7 +160,7 @@ module _ (g : Settings) where
 
     poll-row : (net : ℕ) (head : Head) (p : Phase) → isIdle p ≡ false → wellFormed (at n p) ≡ true
         → Lawful p (n .s) (n .r) false (onPoll g (at n p) net head)
-    unfolding onPoll answersPoll quiet answers under
+    unfolding onPoll answersPoll unanswered answers under
     poll-row net head Idle i h = never i
     poll-row net head Acquisition i h = stays n false Acquisition i h Nothing refl
     poll-row net head Down i h = stays n false Down i h Nothing refl
@@ -175,7 +175,7 @@ module _ (g : Settings) where
 
   message-lawful : (asn : ℕ) (n : Neighbour) (p : Phase) (m : Message) (head : Head) → isIdle p ≡ false → wellFormed (at n p) ≡ true
       → Lawful p (n .s) (n .r) false (onMessage g asn (at n p) m head)
-  unfolding onMessage onCease answers quiet
+  unfolding onMessage onCease answers unanswered
   message-lawful asn n p (M.Request a q s h o) head i f = request-row n q asn s h o p i f
   message-lawful asn n p (M.Confirm a q s h o) head i f = confirm-row n asn s h o p i f
   message-lawful asn n p (M.Refuse a q s) head i f = refuse-row n p i f
@@ -228,7 +228,7 @@ module _ (g : Settings) where
 
   -- the idle record
   idle-received : (asn : ℕ) (m : Message) (head : Head) → Lawful Idle 0 (brought (Received m) 0) false (stepOf g asn idle (Received m) head)
-  unfolding stepOf recounted noted commanded idle onMessage onRequest onConfirm onRefuse onCease onCeaseAck onHello onIHeardYou onPoll onUpdate stray quiet answers under
+  unfolding stepOf recounted noted commanded idle onMessage onRequest onConfirm onRefuse onCease onCeaseAck onHello onIHeardYou onPoll onUpdate stray unanswered answers under
   idle-received asn (M.Request a q s h o) head =
       offer-elim g asn s h o (λ k. Lawful Idle 0 q false (onRequest g idle q k)) (leaves-idle q) (gone Idle 0 q false (One _))
   idle-received asn (M.Confirm a q s h o) head = gone Idle 0 0 false Nothing
@@ -242,7 +242,7 @@ module _ (g : Settings) where
   idle-received asn (M.Error a q s r x y z) head = gone Idle 0 0 false Nothing
 
   idle-lawful : (asn : ℕ) (event : Event) (head : Head) → Lawful Idle 0 (brought event 0) (isTick event) (stepOf g asn idle event head)
-  unfolding stepOf onStart onStop onTick acquires answers waiting leftIdle withNumbers idle quiet under
+  unfolding stepOf onStart onStop onTick acquires answers waiting leftIdle withNumbers idle unanswered under
   idle-lawful asn (Received m) head = idle-received asn m head
   idle-lawful asn Start head = record { formed = acquisition-ok (leftIdle 0) idle-ok; s-moves = refl; r-moves = refl; up-entered = refl }
   idle-lawful asn Stop head = gone Idle 0 0 false Nothing
@@ -254,7 +254,7 @@ module _ (g : Settings) where
   idle-all asn event head = idle-lawful asn event head
 
   start-lawful : (n : Neighbour) (p : Phase) → isIdle p ≡ false → wellFormed (at n p) ≡ true → Lawful p (n .s) (n .r) false (onStart g (at n p))
-  unfolding onStart quiet under
+  unfolding onStart unanswered under
   start-lawful n Idle i h = never i
   start-lawful n Acquisition i h = acquires-on (at n Acquisition) false Acquisition i h
   start-lawful n Down i h = acquires-on (at n Down) false Down i h
@@ -262,7 +262,7 @@ module _ (g : Settings) where
   start-lawful n Cease i h = stays n false Cease i h Nothing refl
 
   stop-lawful : (n : Neighbour) (tick : Bool) (p : Phase) → isIdle p ≡ false → wellFormed (at n p) ≡ true → Lawful p (n .s) (n .r) tick (onStop g (at n p))
-  unfolding onStop quiet under
+  unfolding onStop unanswered under
   stop-lawful n tick Idle i h = never i
   stop-lawful n tick Acquisition i h = gone Acquisition (n .s) (n .r) tick Nothing
   stop-lawful n tick Down i h = ceases-5 (at n Down) tick Down i h
@@ -278,7 +278,7 @@ module _ (g : Settings) where
 
   repeats-lawful : (n : Neighbour) (p : Phase) (m : Message) → isPoll m ≡ false → isIdle p ≡ false → wellFormed (at n p) ≡ true
       → Lawful p (n .s) (n .r) true (repeats (at n p) m)
-  unfolding repeats answers quiet withTimers
+  unfolding repeats answers unanswered withTimers
   repeats-lawful n p m e i h =
       let t = timer-bounds n p i h in
       cond-elim (Lawful p (n .s) (n .r) true) (eqb (n .t1 - 1) 0) _ _
@@ -340,12 +340,12 @@ module _ (g : Settings) where
     unfolding judged under
     judged-down P a b = cond-elim P (goesUp (k .mode) (onesOf (k .register))) (enterUp (at k Down)) (at k Down) (λ _. a) (λ _. b)
 
-    down-judged : Lawful Down (k .s) (k .r) true (pollsOnEntry g (helloIf ((judged (at k Down)) .mode) g (quiet (judged (at k Down)))))
-    unfolding quiet says followed
+    down-judged : Lawful Down (k .s) (k .r) true (pollsOnEntry g (helloIf ((judged (at k Down)) .mode) g (unanswered (judged (at k Down)))))
+    unfolding unanswered says followed
     down-judged =
-        hello-elim (λ x. Lawful Down (k .s) (k .r) true (pollsOnEntry g x)) ((judged (at k Down)) .mode) (quiet (judged (at k Down)))
-        (judged-down (λ j. Lawful Down (k .s) (k .r) true (pollsOnEntry g (quiet j))) (enters-up Nothing (λ _. refl)) (stays-down Nothing refl))
-        (judged-down (λ j. Lawful Down (k .s) (k .r) true (pollsOnEntry g (says (quiet j) (helloMessage g j))))
+        hello-elim (λ x. Lawful Down (k .s) (k .r) true (pollsOnEntry g x)) ((judged (at k Down)) .mode) (unanswered (judged (at k Down)))
+        (judged-down (λ j. Lawful Down (k .s) (k .r) true (pollsOnEntry g (unanswered j))) (enters-up Nothing (λ _. refl)) (stays-down Nothing refl))
+        (judged-down (λ j. Lawful Down (k .s) (k .r) true (pollsOnEntry g (says (unanswered j) (helloMessage g j))))
         (enters-up (One _) (λ _. refl)) (stays-down (One _) refl))
 
   -- Up likewise
@@ -363,16 +363,16 @@ module _ (g : Settings) where
     unfolding judged under
     judged-up P c d = cond-elim P (goesDown (k .mode) (onesOf (k .register))) (leaveUp (at k Up)) (at k Up) (λ _. c) (λ _. d)
 
-    up-judged : Lawful Up (k .s) (k .r) true (pollsInUp g (helloIf ((judged (at k Up)) .mode) g (quiet (judged (at k Up)))))
-    unfolding quiet says followed
+    up-judged : Lawful Up (k .s) (k .r) true (pollsInUp g (helloIf ((judged (at k Up)) .mode) g (unanswered (judged (at k Up)))))
+    unfolding unanswered says followed
     up-judged =
-        hello-elim (λ x. Lawful Up (k .s) (k .r) true (pollsInUp g x)) ((judged (at k Up)) .mode) (quiet (judged (at k Up)))
-        (judged-up (λ j. Lawful Up (k .s) (k .r) true (pollsInUp g (quiet j))) (leaves-up Nothing refl) (stays-up Nothing refl (λ _. refl)))
-        (judged-up (λ j. Lawful Up (k .s) (k .r) true (pollsInUp g (says (quiet j) (helloMessage g j))))
+        hello-elim (λ x. Lawful Up (k .s) (k .r) true (pollsInUp g x)) ((judged (at k Up)) .mode) (unanswered (judged (at k Up)))
+        (judged-up (λ j. Lawful Up (k .s) (k .r) true (pollsInUp g (unanswered j))) (leaves-up Nothing refl) (stays-up Nothing refl (λ _. refl)))
+        (judged-up (λ j. Lawful Up (k .s) (k .r) true (pollsInUp g (says (unanswered j) (helloMessage g j))))
         (leaves-up (One _) refl) (stays-up (One _) refl (λ _. refl)))
 
   runs-lawful : (n : Neighbour) (p : Phase) → isIdle p ≡ false → wellFormed (at n p) ≡ true → Lawful p (n .s) (n .r) true (tickOn g (at n p))
-  unfolding tickOn listens shifted withReach withTimers quiet followed under
+  unfolding tickOn listens shifted withReach withTimers unanswered followed under
   runs-lawful n Idle i h = never i
   runs-lawful n Acquisition i h = repeats-lawful n Acquisition _ refl i h
   runs-lawful n Down i h =
@@ -454,12 +454,12 @@ same-either true n = refl
 same-either false n = refl
 
 pub error-ignored : ErrorIgnored
-unfolding stepOf onMessage commanded noted recounted quiet
+unfolding stepOf onMessage commanded noted recounted unanswered
 error-ignored g asn n a sequence status reason first second third head =
-    rw (and-false (not (isIdle (n .phase))), error-silent (n .mode) status, and-false (acquired (n .phase))) (ap quiet (same-either (acquired (n .phase)) n))
+    rw (and-false (not (isIdle (n .phase))), error-silent (n .mode) status, and-false (acquired (n .phase))) (ap unanswered (same-either (acquired (n .phase)) n))
 
 pub update-stays-up : UpdateStaysUp
-unfolding stepOf onMessage commanded noted recounted heardFrom withReach withTimers onUpdate quiet under
+unfolding stepOf onMessage commanded noted recounted heardFrom withReach withTimers onUpdate unanswered under
 update-stays-up g asn n a sequence status net head e =
     rw (and-false (not (isIdle (n .phase)))) (go (n .phase) e (indicates (n .mode) K.Update status))
   where

@@ -20,7 +20,7 @@ use Rattle.neighbour_machine.specs.declared.Event.the-variants.{Received
 use Rattle.neighbour_machine.specs.declared.Reply.{Reply}
 use Rattle.neighbour_machine.specs.declared.Reply.the-variants.{Nothing, One, Two}
 use Rattle.neighbour_machine.specs.declared.After.{After}
-use Rattle.neighbour_machine.specs.Table.{overfull, quiet}
+use Rattle.neighbour_machine.specs.Table.{overfull, unanswered}
 use Rattle.neighbour_machine.specs.Step.{stepOf}
 
 abbrev pub isDown : Phase → Bool
@@ -114,7 +114,7 @@ T2OnlyInUp = (n : Neighbour) → wellFormed n ≡ true → isUp (n .phase) ≡ f
 abbrev pub ErrorIgnored : Type 0
 ErrorIgnored =
     (g : Settings) (asn : ℕ) (n : Neighbour) (a sequence status reason first second third : ℕ) (head : Head)
-    → stepOf g asn n (Received (M.Error a sequence status reason first second third)) head ≡ quiet n
+    → stepOf g asn n (Received (M.Error a sequence status reason first second third)) head ≡ unanswered n
 
 -- 01: "replace rows": an Update finds its neighbour Up and leaves it Up, with nothing sent
 abbrev pub UpdateStaysUp : Type 0

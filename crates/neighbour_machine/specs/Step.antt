@@ -9,7 +9,7 @@ use Rattle.neighbour.specs.Rules.{offerOf, commanded, noted, recounted}
 use Rattle.neighbour_machine.specs.declared.Event.{Event}
 use Rattle.neighbour_machine.specs.declared.Event.the-variants.{Received, Start, Stop, Tick}
 use Rattle.neighbour_machine.specs.declared.After.{After}
-use Rattle.neighbour_machine.specs.Table.{quiet, onRequest, onConfirm, onRefuse, onCease, onCeaseAck, onHello, onIHeardYou, onPoll, onUpdate, onStart, onStop}
+use Rattle.neighbour_machine.specs.Table.{unanswered, onRequest, onConfirm, onRefuse, onCease, onCeaseAck, onHello, onIHeardYou, onPoll, onUpdate, onStart, onStop}
 use Rattle.neighbour_machine.specs.Tick.{onTick}
 
 -- the row of 01's table for a message; the neighbour's AS is `asn`
@@ -24,7 +24,7 @@ onMessage g asn n (M.IHeardYou a sequence status) head = onIHeardYou g n
 onMessage g asn n (M.Poll a sequence status net) head = onPoll g n net head
 onMessage g asn n (M.Update a sequence status net) head = onUpdate g n
 -- 01: "An Error received changes nothing."
-onMessage g asn n (M.Error a sequence status reason first second third) head = quiet n
+onMessage g asn n (M.Error a sequence status reason first second third) head = unanswered n
 
 -- 01: "An event is a message, Start, Stop or a tick". A command sets R first, an indication is noted, a Hello or a Poll
 -- starts its count anew, then the row is carried out.

@@ -31,8 +31,8 @@ followed (One first) m = Two first m
 followed (Two first second) m = overfull
 
 -- this record, and nothing sent
-unfoldable pub quiet : Neighbour → After
-quiet n = record { neighbour = n; reply = Nothing }
+unfoldable pub unanswered : Neighbour → After
+unanswered n = record { neighbour = n; reply = Nothing }
 
 -- this record, and one message sent
 unfoldable pub answers : Neighbour → Message → After
@@ -57,7 +57,7 @@ doesA g n period1 period2 mode =
     thenHello g (answers (initialised n period1 period2 mode) (confirmMessage g (initialised n period1 period2 mode)))
 
 unfoldable pub doesB : Settings → Neighbour → ℕ → ℕ → Mode → After
-doesB g n period1 period2 mode = thenHello g (quiet (initialised n period1 period2 mode))
+doesB g n period1 period2 mode = thenHello g (unanswered (initialised n period1 period2 mode))
 
 -- 01: "Cease n: enter Cease, send it with status n, keep n as cause for repeats."
 unfoldable pub ceases : Settings → Neighbour → ℕ → After
@@ -73,7 +73,7 @@ acquires g n = answers (waiting n Acquisition 0) (requestMessage g (waiting n Ac
 
 -- what Idle does with a stray Confirm, Refuse, Hello, I-H-U, Poll or Update: nothing, as 01's cells "-" say (I-H-U has no row)
 unfoldable pub stray : Settings → Neighbour → After
-stray g n = quiet n
+stray g n = unanswered n
 
 -- | Request, acceptable   | Down, A | Down, A | Down, A | Down, A | send Cease |
 -- | Request, unacceptable | send Refuse 6 | Idle | Cease 6 | Cease 6 | send Cease |
@@ -84,20 +84,20 @@ onRequest g n sequence (Acceptable period1 period2 mode) =
     (doesA g n period1 period2 mode) (doesA g n period1 period2 mode) (doesA g n period1 period2 mode)
     (repeatsCease g n)
 onRequest g n sequence Unacceptable =
-    under (n .phase) (answers n (refuseMessage g sequence 6)) (quiet idle) (ceases g n 6) (ceases g n 6) (repeatsCease g n)
+    under (n .phase) (answers n (refuseMessage g sequence 6)) (unanswered idle) (ceases g n 6) (ceases g n 6) (repeatsCease g n)
 
 -- 01: "Down, B, or Idle if unacceptable"
 unfoldable pub settles : Settings → Neighbour → Offer → After
 settles g n (Acceptable period1 period2 mode) = doesB g n period1 period2 mode
-settles g n Unacceptable = quiet idle
+settles g n Unacceptable = unanswered idle
 
 -- | Confirm | - | Down, B, or Idle if unacceptable | - | - | - |
 unfoldable pub onConfirm : Settings → Neighbour → Offer → After
-onConfirm g n offer = under (n .phase) (stray g n) (settles g n offer) (quiet n) (quiet n) (quiet n)
+onConfirm g n offer = under (n .phase) (stray g n) (settles g n offer) (unanswered n) (unanswered n) (unanswered n)
 
 -- | Refuse | - | Idle | - | - | - |
 unfoldable pub onRefuse : Settings → Neighbour → After
-onRefuse g n = under (n .phase) (stray g n) (quiet idle) (quiet n) (quiet n) (quiet n)
+onRefuse g n = under (n .phase) (stray g n) (unanswered idle) (unanswered n) (unanswered n) (unanswered n)
 
 -- | Cease | Idle, Cease-ack, in every state |
 unfoldable pub onCease : Settings → ℕ → After
@@ -105,16 +105,16 @@ onCease g sequence = answers idle (ceaseAckMessage g sequence)
 
 -- | Cease-ack | - | - | - | - | Idle |
 unfoldable pub onCeaseAck : Neighbour → After
-onCeaseAck n = under (n .phase) (quiet n) (quiet n) (quiet n) (quiet n) (quiet idle)
+onCeaseAck n = under (n .phase) (unanswered n) (unanswered n) (unanswered n) (unanswered n) (unanswered idle)
 
 -- | Hello | - | - | I-H-U | I-H-U | - |
 unfoldable pub onHello : Settings → Neighbour → After
 onHello g n =
-    under (n .phase) (stray g n) (quiet n) (answers n (iHeardYouMessage g n)) (answers n (iHeardYouMessage g n)) (quiet n)
+    under (n .phase) (stray g n) (unanswered n) (answers n (iHeardYouMessage g n)) (answers n (iHeardYouMessage g n)) (unanswered n)
 
 -- I-H-U has no row: it is an indication or nothing
 unfoldable pub onIHeardYou : Settings → Neighbour → After
-onIHeardYou g n = under (n .phase) (stray g n) (quiet n) (quiet n) (quiet n) (quiet n)
+onIHeardYou g n = under (n .phase) (stray g n) (unanswered n) (unanswered n) (unanswered n) (unanswered n)
 
 -- 01: "Update, or Error 3 for another net"
 unfoldable pub answersPoll : Settings → Neighbour → ℕ → Head → After
@@ -122,16 +122,16 @@ answersPoll g n net head = cond (eqb net (g .net)) (answers n (updateMessage g n
 
 -- | Poll | - | - | - | Update, or Error 3 for another net | - |
 unfoldable pub onPoll : Settings → Neighbour → ℕ → Head → After
-onPoll g n net head = under (n .phase) (stray g n) (quiet n) (quiet n) (answersPoll g n net head) (quiet n)
+onPoll g n net head = under (n .phase) (stray g n) (unanswered n) (unanswered n) (answersPoll g n net head) (unanswered n)
 
 -- | Update | - | - | - | replace rows | - |: the rows stand outside this record
 unfoldable pub onUpdate : Settings → Neighbour → After
-onUpdate g n = under (n .phase) (stray g n) (quiet n) (quiet n) (quiet n) (quiet n)
+onUpdate g n = under (n .phase) (stray g n) (unanswered n) (unanswered n) (unanswered n) (unanswered n)
 
 -- | Start | Acquisition, Request | same | same | same | - |
 unfoldable pub onStart : Settings → Neighbour → After
-onStart g n = under (n .phase) (acquires g (leftIdle 0)) (acquires g n) (acquires g n) (acquires g n) (quiet n)
+onStart g n = under (n .phase) (acquires g (leftIdle 0)) (acquires g n) (acquires g n) (acquires g n) (unanswered n)
 
 -- | Stop | - | Idle | Cease 5 | Cease 5 | Idle |
 unfoldable pub onStop : Settings → Neighbour → After
-onStop g n = under (n .phase) (quiet n) (quiet idle) (ceases g n 5) (ceases g n 5) (quiet idle)
+onStop g n = under (n .phase) (unanswered n) (unanswered idle) (ceases g n 5) (ceases g n 5) (unanswered idle)

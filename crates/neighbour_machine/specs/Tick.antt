@@ -9,7 +9,7 @@ use Rattle.neighbour.specs.Record.{P3, under, isIdle, withTimers, shifted, poll
 use Rattle.neighbour.specs.Rules.{judged}
 use Rattle.neighbour_messages.specs.Sent.{requestMessage, ceaseMessage, pollMessage}
 use Rattle.neighbour_machine.specs.declared.After.{After}
-use Rattle.neighbour_machine.specs.Table.{quiet, answers, says, thenHello, onStop}
+use Rattle.neighbour_machine.specs.Table.{unanswered, answers, says, thenHello, onStop}
 
 -- 01: "at 0 it is Stop"
 unfoldable pub expired : Settings → Neighbour → After
@@ -17,7 +17,7 @@ expired g n = onStop g n
 
 -- 01: "Take 1 from t1; at 0, ..": what is due at 0, and else the record with t1 one less
 abbrev pub takesT1 : Neighbour → After → After
-takesT1 n due = cond (eqb (n .t1 - 1) 0) due (quiet (withTimers n (n .t1 - 1) (n .t2) (n .t3)))
+takesT1 n due = cond (eqb (n .t1 - 1) 0) due (unanswered (withTimers n (n .t1 - 1) (n .t2) (n .t3)))
 
 -- 01: "at 0, Acquisition sends Request and Cease sends Cease, t1 = P3"
 unfoldable pub repeats : Neighbour → Message → After
@@ -26,7 +26,7 @@ repeats n m = takesT1 n (answers (withTimers n P3 (n .t2) (n .t3)) m)
 -- 01: "at 0, .. Down and Up shift heard into the register ..  With n ones, ..  Active then sends Hello with the new
 -- state."
 unfoldable pub listens : Settings → Neighbour → After
-listens g n = takesT1 n (thenHello g (quiet (judged (shifted n))))
+listens g n = takesT1 n (thenHello g (unanswered (judged (shifted n))))
 
 -- 01: "S goes up by one .. just before each Poll"; "Poll, t2 = T2"
 unfoldable pub polls : Settings → After → After
@@ -49,7 +49,7 @@ pollsInUp g x = under (x .neighbour .phase) x x x (takesT2 g x) x
 -- what follows once 1 is taken from t3
 unfoldable pub tickOn : Settings → Neighbour → After
 tickOn g n =
-    under (n .phase) (quiet n)
+    under (n .phase) (unanswered n)
     (repeats n (requestMessage g n))
     (pollsOnEntry g (listens g n))
     (pollsInUp g (listens g n))
@@ -62,4 +62,4 @@ tickOutside g n = cond (eqb (n .t3 - 1) 0) (expired g n) (tickOn g (withTimers n
 -- 01: "Tick: Idle does nothing."; 02, L5: "Every tick carried out outside Idle adds one to each", so also the one on
 -- which t3 ends; where it ends in Idle, Idle zeroes them
 unfoldable pub onTick : Settings → Neighbour → After
-onTick g n = cond (isIdle (n .phase)) (quiet n) (tickOutside g (aged n))
+onTick g n = cond (isIdle (n .phase)) (unanswered n) (tickOutside g (aged n))

@@ -13,7 +13,7 @@ use Rattle.neighbour.specs.declared.Phase.the-variants.{Up}
 use Rattle.neighbour.specs.Record.{under, isIdle, withTimers, shifted, aged}
 use Rattle.neighbour.specs.Rules.{judged}
 use Rattle.neighbour_machine.specs.declared.After.{After}
-use Rattle.neighbour_machine.specs.Table.{quiet, answers, helloIf}
+use Rattle.neighbour_machine.specs.Table.{unanswered, answers, helloIf}
 use Rattle.neighbour_machine.specs.Tick.{expired, repeats, listens, polls, takesT2, pollsInUp, tickOn, tickOutside, onTick}
 
 -- a timer at 1 or less reaches 0
@@ -28,20 +28,20 @@ module _ (n : Neighbour) where
   unfolding repeats
   repeats-now m h = rw (reaches (n .t1) h)
 
-  pub repeats-later : (m : Message) → 1 < n .t1 → quiet (withTimers n (n .t1 - 1) (n .t2) (n .t3)) ≡ repeats n m
+  pub repeats-later : (m : Message) → 1 < n .t1 → unanswered (withTimers n (n .t1 - 1) (n .t2) (n .t3)) ≡ repeats n m
   unfolding repeats
   repeats-later m h = rw (goes-on (n .t1) h)
 
   module _ (g : Settings) where
-    pub listens-now : n .t1 ≤ 1 → helloIf ((judged (shifted n)) .mode) g (quiet (judged (shifted n))) ≡ listens g n
-    unfolding listens quiet
+    pub listens-now : n .t1 ≤ 1 → helloIf ((judged (shifted n)) .mode) g (unanswered (judged (shifted n))) ≡ listens g n
+    unfolding listens unanswered
     listens-now h = rw (reaches (n .t1) h)
 
-    pub listens-later : 1 < n .t1 → quiet (withTimers n (n .t1 - 1) (n .t2) (n .t3)) ≡ listens g n
+    pub listens-later : 1 < n .t1 → unanswered (withTimers n (n .t1 - 1) (n .t2) (n .t3)) ≡ listens g n
     unfolding listens
     listens-later h = rw (goes-on (n .t1) h)
 
-    pub ticks-idle : isIdle (n .phase) ≡ true → quiet n ≡ onTick g n
+    pub ticks-idle : isIdle (n .phase) ≡ true → unanswered n ≡ onTick g n
     unfolding onTick
     ticks-idle e = rw e
 
@@ -78,11 +78,11 @@ unfolding under
 in-up p e a b c d f = rw e
 
 counts-outside : (n : Neighbour) (g : Settings) → n .phase ≡ Up → 1 < n .t1 → 1 < n .t2 → 1 < n .t3
-    → quiet (withTimers n (n .t1 - 1) (n .t2 - 1) (n .t3 - 1)) ≡ tickOutside g n
-unfolding tickOn pollsInUp quiet withTimers
+    → unanswered (withTimers n (n .t1 - 1) (n .t2 - 1) (n .t3 - 1)) ≡ tickOutside g n
+unfolding tickOn pollsInUp unanswered withTimers
 counts-outside n g up one two three =
     let m = withTimers n (n .t1) (n .t2) (n .t3 - 1) in
-    let x = quiet (withTimers n (n .t1 - 1) (n .t2) (n .t3 - 1)) in
+    let x = unanswered (withTimers n (n .t1 - 1) (n .t2) (n .t3 - 1)) in
     takes-one g x two
     ∙ in-up (n .phase) up _ _ _ _ _
     ∙ ap (pollsInUp g) (listens-later m g one)
@@ -90,7 +90,7 @@ counts-outside n g up one two three =
     ∙ ticks-on n g three
 
 pub only-counts : (n : Neighbour) (g : Settings) → n .phase ≡ Up → 1 < n .t1 → 1 < n .t2 → 1 < n .t3
-    → quiet (withTimers (aged n) (n .t1 - 1) (n .t2 - 1) (n .t3 - 1)) ≡ onTick g n
+    → unanswered (withTimers (aged n) (n .t1 - 1) (n .t2 - 1) (n .t3 - 1)) ≡ onTick g n
 unfolding aged
 only-counts n g up one two three =
     counts-outside (aged n) g up one two three ∙ ticks-outside n g (not-idle (n .phase) up)

@@ -2,7 +2,7 @@
 ghost use mathlib.Core.Path.{_≡_};
 ghost use mathlib.Core.Bool.{true};
 ghost use Prim.Native.Nat.{_<_};
-ghost use Rattle.neighbour_machine.specs.Table.{quiet};
+ghost use Rattle.neighbour_machine.specs.Table.{unanswered};
 ghost use Rattle.neighbour_machine.specs.Tick.{expired, repeats, listens, polls, pollsOnEntry, takesT2, pollsInUp, tickOn, tickOutside, onTick};
 use message::Message;
 use neighbour::Neighbour;
@@ -173,7 +173,7 @@ pub fn only_counts(n: Neighbour) -> bool
 // Such a tick, without the machine.
 pub fn count_down(n: Neighbour) -> Neighbour
     requires { ⌜ (n .phase ≡ Phase.Up) × (1 < n .t1) × (1 < n .t2) × (1 < n .t3) ⌝ }
-    ensures { λ r. ⌜ ((settings : Settings) → quiet r ≡ onTick settings n) ⌝ }
+    ensures { λ r. ⌜ ((settings : Settings) → unanswered r ≡ onTick settings n) ⌝ }
     ensures { λ r. ⌜ r .phase ≡ Phase.Up ⌝ }
 {
     let mut left = neighbour::age(n);

@@ -1,6 +1,6 @@
 // 01's table of one neighbour: what a message, Start or Stop makes of its record, row by row.
 ghost use mathlib.Core.Path.{_≡_};
-ghost use Rattle.neighbour_machine.specs.Table.{overfull, followed, quiet, answers, says, helloIf, doesA, doesB, ceases, repeatsCease, acquires, stray, onRequest, settles, onConfirm, onRefuse, onCease, onCeaseAck, onHello, onIHeardYou, answersPoll, onPoll, onStart, onStop};
+ghost use Rattle.neighbour_machine.specs.Table.{overfull, followed, unanswered, answers, says, helloIf, doesA, doesB, ceases, repeatsCease, acquires, stray, onRequest, settles, onConfirm, onRefuse, onCease, onCeaseAck, onHello, onIHeardYou, answersPoll, onPoll, onStart, onStop};
 ghost use Rattle.neighbour_machine.specs.Step.{onMessage};
 use message::Message;
 use neighbour::Mode;
@@ -38,7 +38,7 @@ fn follow(reply: Reply, m: Message) -> Reply
 
 // This record, and nothing sent.
 pub fn keep(n: Neighbour) -> After
-    ensures { λ r. ⌜ r ≡ quiet n ⌝ }
+    ensures { λ r. ⌜ r ≡ unanswered n ⌝ }
 {
     After {
         neighbour: n,

@@ -44,7 +44,7 @@ use Rattle.recording_lines.specs.Steps.{standsOn}
 use Rattle.gateway_rules.specs.Calls.{lentChecks}
 use Rattle.recording_player.specs.declared.Player.{Player}
 use Rattle.recording_player.specs.declared.Told.{Told}
-use Rattle.recording_player.specs.Player.{Step, nextLine, holding, breaking, due, settled, having, roomy, lineFits, callChecks, formedCheck, reportCheck, given, reported, withUsed, badStep, brokenStep, quietStep, withAs, withOwn, withCapability, withNet, settingStep, freshStep, netStep, headStep, callStep, eventStep, eventChecked, lineStep, lineChecked, tickStep, endedLine, freeStep, turnChecked, turnStep, onlyHolds, heldOf, toldOf, closeStep, listedIn, finishStep}
+use Rattle.recording_player.specs.Player.{Step, nextLine, holding, breaking, due, settled, having, roomy, lineFits, callChecks, formedCheck, reportCheck, given, reported, withUsed, badStep, brokenStep, silentStep, withAs, withOwn, withCapability, withNet, settingStep, freshStep, netStep, headStep, callStep, eventStep, eventChecked, lineStep, lineChecked, tickStep, endedLine, freeStep, turnChecked, turnStep, onlyHolds, heldOf, toldOf, closeStep, listedIn, finishStep}
 use Rattle.recording_player.specs.declared.Heard.{Heard}
 use Rattle.recording_player.specs.declared.Heard.the-variants as H
 use Rattle.recording_player.specs.Steps.{heardOf, carriedTurn, usingOf}
@@ -64,11 +64,11 @@ on-false b x y e = rw e
 pub taken-as : {s s′ : Step} {r : Told} (old : List ℕ) {new : List ℕ} → s ≡ s′ → Taken s′ r old new → Taken s r old new
 taken-as old e h = rw e h
 
--- a quiet step leaves the output buffer alone
-pub quiet-taken : (s : Step) (p : Player) (table : List ℕ) (answer : ℕ) (r : Told) (out : List ℕ)
-    → s ≡ quietStep p table answer → r ≡ toldOf (quietStep p table answer) → Taken s r out out
-unfolding quietStep over
-quiet-taken s p table answer r out e h = rw e (h, refl)
+-- a silent step leaves the output buffer alone
+pub silent-taken : (s : Step) (p : Player) (table : List ℕ) (answer : ℕ) (r : Told) (out : List ℕ)
+    → s ≡ silentStep p table answer → r ≡ toldOf (silentStep p table answer) → Taken s r out out
+unfolding silentStep over
+silent-taken s p table answer r out e h = rw e (h, refl)
 
 -- what holds for every table, for the answer and for the buffer
 pub for-each : {A B : List ℕ → Type 0} → ((table : List ℕ) → A table × B table) → ((table : List ℕ) → A table) × ((table : List ℕ) → B table)
@@ -119,14 +119,14 @@ module _ (p : Player) (table : List ℕ) (refusal : ℕ) (s : Step) where
   unfolding given ifOk
   given-whole e = on-true (eqb refusal 0) _ _ (eq-eqb refusal 0 e)
 
-  pub given-refused : (refusal ≡ 0 → ⊥) → given p table refusal s ≡ quietStep p table refusal
+  pub given-refused : (refusal ≡ 0 → ⊥) → given p table refusal s ≡ silentStep p table refusal
   unfolding given ifOk
   given-refused n = on-false (eqb refusal 0) _ _ (ne-eqb refusal 0 n)
 
 -- a report, and none for want of room
 module _ (p : Player) (table out : List ℕ) (used : ℕ) (s : Step) (r : Told) where
-  pub reported-not : length out < 65536 → (s .answer ≡ 0 → ⊥) → r ≡ toldOf (quietStep p table (s .answer)) → Taken (reported (roomy out) p table used s) r out out
-  unfolding roomy reported reportCheck check quietStep over
+  pub reported-not : length out < 65536 → (s .answer ≡ 0 → ⊥) → r ≡ toldOf (silentStep p table (s .answer)) → Taken (reported (roomy out) p table used s) r out out
+  unfolding roomy reported reportCheck check silentStep over
   reported-not h n e =
       taken-as out (ap (λ (b : Bool). given p table (cond b 0 (s .answer)) (withUsed used s)) (lt-leb 65536 (length out) h) ∙ given-refused p table (s .answer) (withUsed used s) n)
       (e, refl)
@@ -138,16 +138,16 @@ module _ (p : Player) (table out : List ℕ) (used : ℕ) (s : Step) (r : Told) 
       (e, f)
 
 -- what reports nothing needs no room
-pub reported-quiet : (room : Bool) (p q : Player) (table : List ℕ) (used : ℕ)
-    → reported room p table used (quietStep q table 0) ≡ withUsed used (quietStep q table 0)
-unfolding reported reportCheck check quietStep
-reported-quiet true p q table used = given-whole p table 0 _ refl
-reported-quiet false p q table used = given-whole p table 0 _ refl
+pub reported-silent : (room : Bool) (p q : Player) (table : List ℕ) (used : ℕ)
+    → reported room p table used (silentStep q table 0) ≡ withUsed used (silentStep q table 0)
+unfolding reported reportCheck check silentStep
+reported-silent true p q table used = given-whole p table 0 _ refl
+reported-silent false p q table used = given-whole p table 0 _ refl
 
-pub quiet-using : (s : Step) (p : Player) (table : List ℕ) (used : ℕ) (q r : Told) (out : List ℕ)
-    → s ≡ withUsed used (quietStep p table 0) → q ≡ toldOf (quietStep p table 0) → r ≡ usingOf q used → Taken s r out out
-unfolding quietStep withUsed usingOf toldOf over
-quiet-using s p table used q r out e h u = rw e (u ∙ ap (λ (t : Told). usingOf t used) h, refl)
+pub silent-using : (s : Step) (p : Player) (table : List ℕ) (used : ℕ) (q r : Told) (out : List ℕ)
+    → s ≡ withUsed used (silentStep p table 0) → q ≡ toldOf (silentStep p table 0) → r ≡ usingOf q used → Taken s r out out
+unfolding silentStep withUsed usingOf toldOf over
+silent-using s p table used q r out e h u = rw e (u ∙ ap (λ (t : Told). usingOf t used) h, refl)
 
 -- ---- bad lines
 
@@ -220,7 +220,7 @@ module _ (g : Settings) (lines : ℕ) (line : List ℕ) where
 module _ (p : Player) (table : List ℕ) where
   heardStep : Heard → Step
   heardStep H.Bad = brokenStep p table 19
-  heardStep (H.Part g) = quietStep (settled (nextLine p) g) table 0
+  heardStep (H.Part g) = silentStep (settled (nextLine p) g) table 0
   heardStep (H.Whole g) = freshStep p table g
 
   by-number : (one two three : Bool) (asn own capability net : Number)
@@ -251,7 +251,7 @@ module _ (p : Player) (table : List ℕ) where
     unfolding heardStep
     heard-bad k = heard-step ∙ ap heardStep k
 
-    pub heard-part : (g : Settings) → h ≡ H.Part g → headStep p table line ≡ quietStep (settled (nextLine p) g) table 0
+    pub heard-part : (g : Settings) → h ≡ H.Part g → headStep p table line ≡ silentStep (settled (nextLine p) g) table 0
     unfolding heardStep
     heard-part g k = heard-step ∙ ap heardStep k
 
@@ -264,7 +264,7 @@ module _ (p : Player) (table : List ℕ) (g : Settings) (o : Outcome) (e : o ≡
   unfolding freshStep
   fresh-refused n = rw (sym e, ne-eqb (o .answer) 0 n)
 
-  pub fresh-had : o .answer ≡ 0 → freshStep p table g ≡ quietStep (having (settled (nextLine p) g) (o .state)) table 0
+  pub fresh-had : o .answer ≡ 0 → freshStep p table g ≡ silentStep (having (settled (nextLine p) g) (o .state)) table 0
   unfolding freshStep
   fresh-had z = rw (sym e, eq-eqb (o .answer) 0 z)
 
@@ -275,12 +275,12 @@ reported-as room p table used e = ap (reported room p table used) e
 -- none of the four touches the table
 module _ (p : Player) (table : List ℕ) where
   setting-table : (value : Number) (put : Settings → ℕ → Settings) → (settingStep p table value put) .table ≡ table
-  unfolding settingStep whenNumber brokenStep quietStep
+  unfolding settingStep whenNumber brokenStep silentStep
   setting-table Bad put = refl
   setting-table (Is n) put = refl
 
   fresh-table : (g : Settings) → (freshStep p table g) .table ≡ table
-  unfolding freshStep brokenStep quietStep
+  unfolding freshStep brokenStep silentStep
   fresh-table g = cond-elim (λ (s : Step). s .table ≡ table) (eqb ((freshOf g) .answer) 0) _ _ (λ e. refl) (λ e. refl)
 
   net-table : (value : Number) → (netStep p table value) .table ≡ table
@@ -297,7 +297,7 @@ module _ (p : Player) (table : List ℕ) where
       (λ e. net-table (netOf line))))
 
   pub reported-table : (room : Bool) (used : ℕ) (line : List ℕ) → (reported room p table used (headStep p table line)) .table ≡ table
-  unfolding reported given ifOk quietStep withUsed
+  unfolding reported given ifOk silentStep withUsed
   reported-table room used line =
       cond-elim (λ (s : Step). s .table ≡ table) (eqb (reportCheck room ((headStep p table line) .answer)) 0) _ _ (λ e. head-table line) (λ e. refl)
 
@@ -353,10 +353,10 @@ Made s r table old new = (r ≡ toldOf s) × ((table ≡ s .table) × (new ≡ o
 pub made-as : {s s′ : Step} {r : Told} {table : List ℕ} (old : List ℕ) {new : List ℕ} → s ≡ s′ → Made s′ r table old new → Made s r table old new
 made-as old e h = rw e h
 
-pub quiet-made : (p : Player) (table : List ℕ) (answer : ℕ) (r : Told) (out : List ℕ)
-    → r ≡ toldOf (quietStep p table answer) → Made (quietStep p table answer) r table out out
-unfolding quietStep over
-quiet-made p table answer r out h = (h, (refl, refl))
+pub silent-made : (p : Player) (table : List ℕ) (answer : ℕ) (r : Told) (out : List ℕ)
+    → r ≡ toldOf (silentStep p table answer) → Made (silentStep p table answer) r table out out
+unfolding silentStep over
+silent-made p table answer r out h = (h, (refl, refl))
 
 -- with room, a bad line is reported
 pub bad-made : (p : Player) (table : List ℕ) (r : Told) (out new : List ℕ) → reportCheck (roomy out) 19 ≡ 0
@@ -407,7 +407,7 @@ module _ (p : Player) (table : List ℕ) (read : Read) (line : List ℕ) where
   unfolding eventStep meant
   event-stop a e = rw e
 
-  pub event-tick : (a count : ℕ) → read ≡ R.Tick a count → eventStep p table (meant read line) ≡ quietStep (due (nextLine p) a count) table 0
+  pub event-tick : (a count : ℕ) → read ≡ R.Tick a count → eventStep p table (meant read line) ≡ silentStep (due (nextLine p) a count) table 0
   unfolding eventStep meant
   event-tick a count e = rw e
 
@@ -476,10 +476,10 @@ module _ (p : Player) (table line out : List ℕ) (used : ℕ) (r : Told) where
         (on-false (ltb (p .lines) 4) _ _ t ∙ ap (eventChecked (roomy out) (p .state) (length table)) (sym m))
         (on-false (ltb (p .lines) 4) _ _ t ∙ ap (eventStep p table) (sym m))
 
-    pub line-refused : (refusal : ℕ) → refusal ≡ asked → (refusal ≡ 0 → ⊥) → r ≡ toldOf (quietStep p table refusal) → Made taken r table out out
+    pub line-refused : (refusal : ℕ) → refusal ≡ asked → (refusal ≡ 0 → ⊥) → r ≡ toldOf (silentStep p table refusal) → Made taken r table out out
     line-refused refusal e n f =
         made-as out (event-as ∙ ap (λ (k : ℕ). given p table k (withUsed used (eventStep p table (meant read line)))) (sym e) ∙ given-refused p table refusal _ n)
-        (quiet-made p table refusal r out f)
+        (silent-made p table refusal r out f)
 
     pub line-made : asked ≡ 0 → (after new : List ℕ) → Made (withUsed used (eventStep p table (meant read line))) r after out new → Made taken r after out new
     line-made e after new f = made-as out (event-as ∙ given-whole p table asked _ e) f
@@ -488,9 +488,9 @@ module _ (p : Player) (table out : List ℕ) (r : Told) (refusal : ℕ) (e : ref
   abbrev ticked : Step
   ticked = given p table (callChecks (roomy out) (p .state) (length table)) (tickStep p table)
 
-  pub tick-refused : (refusal ≡ 0 → ⊥) → r ≡ toldOf (quietStep p table refusal) → Made ticked r table out out
+  pub tick-refused : (refusal ≡ 0 → ⊥) → r ≡ toldOf (silentStep p table refusal) → Made ticked r table out out
   tick-refused n f =
-      made-as out (ap (λ (k : ℕ). given p table k (tickStep p table)) (sym e) ∙ given-refused p table refusal _ n) (quiet-made p table refusal r out f)
+      made-as out (ap (λ (k : ℕ). given p table k (tickStep p table)) (sym e) ∙ given-refused p table refusal _ n) (silent-made p table refusal r out f)
 
   pub tick-made : refusal ≡ 0 → (q : Player) → q ≡ due p (p .address) (p .ticks - 1)
       → (k : Called) (after new : List ℕ) → k ≡ calledOf (M.tick (p .address) lent) (on (p .state) table) → r ≡ carriedTurn q k
@@ -547,11 +547,11 @@ module _ (p : Player) (line table input out : List ℕ) (r : Told) where
       (m .0 ∙ ap toldOf (sym k), (sym h, (m .1 .0 ∙ ap (λ (x : Step). x .table) (sym k), m .1 .1 ∙ ap (λ (x : Step). over (x .text) out) (sym k))))
 
   -- a broken player uses the whole piece
-  pub turn-broken : p .broken ≡ true → (q : Told) → q ≡ toldOf (quietStep p table 0) → r ≡ usingOf q (length input) → Turned p line table input out r line table out
+  pub turn-broken : p .broken ≡ true → (q : Told) → q ≡ toldOf (silentStep p table 0) → r ≡ usingOf q (length input) → Turned p line table input out r line table out
   unfolding turnChecked freeStep
   turn-broken b q h u =
-      turned 0 (withUsed (length input) (quietStep p table 0)) line table out (on-true (p .broken) _ _ b) (on-true (p .broken) _ _ b) (held-broken p line input b)
-      (made-as out (given-whole p table 0 _ refl) (using-made (quietStep p table 0) (length input) q r table out out (quiet-made p table 0 q out h) u))
+      turned 0 (withUsed (length input) (silentStep p table 0)) line table out (on-true (p .broken) _ _ b) (on-true (p .broken) _ _ b) (held-broken p line input b)
+      (made-as out (given-whole p table 0 _ refl) (using-made (silentStep p table 0) (length input) q r table out out (silent-made p table 0 q out h) u))
 
   module _ (b : p .broken ≡ false) where
     -- one of the ticks that are due; of the piece nothing is used
@@ -565,28 +565,28 @@ module _ (p : Player) (line table input out : List ℕ) (r : Told) where
 
     module _ (t : p .ticks ≤ 0) where
       -- the line buffer is too short
-      pub turn-unfit : length line < 4118 → r ≡ toldOf (quietStep p table 3) → Turned p line table input out r line table out
+      pub turn-unfit : length line < 4118 → r ≡ toldOf (silentStep p table 3) → Turned p line table input out r line table out
       unfolding turnChecked lineFits check
       turn-unfit h f =
           let k = le-ltb 0 (p .ticks) t in
           let l = lt-leb 4118 (length line) h in
           turned 3 (freeStep p line table input) line table out
           (on-false (p .broken) _ _ b ∙ on-false (ltb 0 (p .ticks)) _ _ k ∙ on-false (leb 4118 (length line)) _ _ l) refl (held-unfit p line input b k l)
-          (made-as out (given-refused p table 3 _ (λ z. absurd (omega (arith, z)))) (quiet-made p table 3 r out f))
+          (made-as out (given-refused p table 3 _ (λ z. absurd (omega (arith, z)))) (silent-made p table 3 r out f))
 
       module _ (fits : 4118 ≤ length line) (g : Gathered) (e : g ≡ gathered 0 (p .held) input) where
         -- the piece ends no line
-        pub turn-held : g .ended ≡ false → (q : Told) → q ≡ toldOf (quietStep (holding p (g .held)) table 0) → r ≡ usingOf q (g .used)
+        pub turn-held : g .ended ≡ false → (q : Told) → q ≡ toldOf (silentStep (holding p (g .held)) table 0) → r ≡ usingOf q (g .used)
             → (line′ : List ℕ) → line′ ≡ lineAfter (p .held) line input → Turned p line table input out r line′ table out
         unfolding turnChecked freeStep lineFits check
         turn-held n q h u line′ l =
             let k = le-ltb 0 (p .ticks) t in
             let m = le-leb 4118 (length line) fits in
-            turned 0 (withUsed (g .used) (quietStep (holding p (g .held)) table 0)) line′ table out
+            turned 0 (withUsed (g .used) (silentStep (holding p (g .held)) table 0)) line′ table out
             (on-false (p .broken) _ _ b ∙ on-false (ltb 0 (p .ticks)) _ _ k ∙ on-true (leb 4118 (length line)) _ _ m ∙ rw (sym e) (on-false (g .ended) _ _ n))
             (on-false (p .broken) _ _ b ∙ on-false (ltb 0 (p .ticks)) _ _ k ∙ rw (sym e) (ap (withUsed (g .used)) (on-false (g .ended) _ _ n)))
             (held-held p line input b k m (ap (λ (x : Gathered). x .ended) (sym e) ∙ n) ∙ sym l)
-            (made-as out (given-whole p table 0 _ refl) (using-made (quietStep (holding p (g .held)) table 0) (g .used) q r table out out (quiet-made (holding p (g .held)) table 0 q out h) u))
+            (made-as out (given-whole p table 0 _ refl) (using-made (silentStep (holding p (g .held)) table 0) (g .used) q r table out out (silent-made (holding p (g .held)) table 0 q out h) u))
 
         -- a line has ended
         pub turn-line : g .ended ≡ true → (whole : List ℕ) → whole ≡ lineAfter (p .held) (take 4118 line) input → (table′ out′ : List ℕ)
@@ -612,11 +612,11 @@ listed-as true answer st text out o new e f = rw (e, f, take-append-seam) (refl,
 listed-as false answer st text out o new e f = rw (e, f) (refl, refl)
 
 module _ (out : List ℕ) (p : Player) (table : List ℕ) where
-  pub finish-broken : p .broken ≡ true → finishStep out p table ≡ quietStep p table 0
+  pub finish-broken : p .broken ≡ true → finishStep out p table ≡ silentStep p table 0
   unfolding finishStep
   finish-broken b = rw b
 
-  pub finish-unbegun : p .broken ≡ false → p .lines < 4 → finishStep out p table ≡ quietStep p table 0
+  pub finish-unbegun : p .broken ≡ false → p .lines < 4 → finishStep out p table ≡ silentStep p table 0
   unfolding finishStep
   finish-unbegun b h = rw (b, lt-ltb (p .lines) 4 h)
 
@@ -633,7 +633,7 @@ module _ (out : List ℕ) (p : Player) (table : List ℕ) where
 -- ---- the end of the recording
 
 module _ (room : Bool) (p : Player) (table : List ℕ) where
-  pub close-broken : p .broken ≡ true → closeStep room p table ≡ quietStep p table 0
+  pub close-broken : p .broken ≡ true → closeStep room p table ≡ silentStep p table 0
   unfolding closeStep
   close-broken b = on-true (p .broken) _ _ b
 
@@ -646,7 +646,7 @@ module _ (room : Bool) (p : Player) (table : List ℕ) where
   close-unended b h k =
       on-false (p .broken) _ _ b ∙ on-false (ltb (p .lines) 4) _ _ (le-ltb (p .lines) 4 h) ∙ on-true (ltb 0 (p .held)) _ _ (lt-ltb 0 (p .held) k)
 
-  pub close-ended : p .broken ≡ false → 4 ≤ p .lines → p .held ≤ 0 → closeStep room p table ≡ quietStep p table 0
+  pub close-ended : p .broken ≡ false → 4 ≤ p .lines → p .held ≤ 0 → closeStep room p table ≡ silentStep p table 0
   unfolding closeStep
   close-ended b h k =
       on-false (p .broken) _ _ b ∙ on-false (ltb (p .lines) 4) _ _ (le-ltb (p .lines) 4 h) ∙ on-false (ltb 0 (p .held)) _ _ (le-ltb 0 (p .held) k)

@@ -117,8 +117,8 @@ pub record Step : Type 0 where
   pub text : List ℕ
 
 -- nothing is used or written
-unfoldable pub quietStep : Player → List ℕ → ℕ → Step
-quietStep p table answer = record { player = p; table = table; answer = answer; used = 0; text = [] }
+unfoldable pub silentStep : Player → List ℕ → ℕ → Step
+silentStep p table answer = record { player = p; table = table; answer = answer; used = 0; text = [] }
 
 -- the same step, with so many octets used
 unfoldable pub withUsed : ℕ → Step → Step
@@ -155,7 +155,7 @@ reportCheck room answer = check room answer 0
 -- everything is as given. 01: "Every refusal returns the state as given, keeps the table". Nothing of the recording is
 -- used, so the host can come back, and the turn is made then.
 unfoldable pub given : Player → List ℕ → ℕ → Step → Step
-given p table refusal s = ifOk refusal s (quietStep p table refusal)
+given p table refusal s = ifOk refusal s (silentStep p table refusal)
 
 -- a step whose report needs room, with so many octets used
 unfoldable pub reported : Bool → Player → List ℕ → ℕ → Step → Step
@@ -190,13 +190,13 @@ withNet g net = record { asn = g .asn; own = g .own; capability = g .capability;
 -- one of the first three: a setting, or the end
 unfoldable pub settingStep : Player → List ℕ → Number → (Settings → ℕ → Settings) → Step
 settingStep p table value set =
-    whenNumber value (brokenStep p table 19) (λ n. quietStep (settled (nextLine p) (set (p .settings) n)) table 0)
+    whenNumber value (brokenStep p table 19) (λ n. silentStep (settled (nextLine p) (set (p .settings) n)) table 0)
 
 -- fresh, once all four are read; its refusal is reported as the fourth line, and answered with its own number
 unfoldable pub freshStep : Player → List ℕ → Settings → Step
 freshStep p table g =
     cond (eqb ((freshOf g) .answer) 0)
-    (quietStep (having (settled (nextLine p) g) ((freshOf g) .state)) table 0)
+    (silentStep (having (settled (nextLine p) g) ((freshOf g) .state)) table 0)
     (brokenStep p table ((freshOf g) .answer))
 
 -- the fourth
@@ -231,7 +231,7 @@ eventStep p table (add a asn) = callStep (nextLine p) table (M.add a asn)
 eventStep p table (remove a) = callStep (nextLine p) table (M.remove a)
 eventStep p table (start a) = callStep (nextLine p) table (M.start a lent)
 eventStep p table (stop a) = callStep (nextLine p) table (M.stop a lent)
-eventStep p table (tick a count) = quietStep (due (nextLine p) a count) table 0
+eventStep p table (tick a count) = silentStep (due (nextLine p) a count) table 0
 eventStep p table (rx a octets) = callStep (nextLine p) table (M.receive a octets [] lent)
 
 -- what it asks for: a report or a call with replies needs room, add and remove do not, and a tick line writes nothing
@@ -267,11 +267,11 @@ endedLine p line input = lineHeld ((gathered 0 (p .held) input) .held) (lineAfte
 -- a broken player uses the piece and does nothing
 unfoldable pub freeStep : Player → List ℕ → List ℕ → List ℕ → Step
 freeStep p line table input =
-    cond (p .broken) (withUsed (length input) (quietStep p table 0))
+    cond (p .broken) (withUsed (length input) (silentStep p table 0))
     (cond (ltb 0 (p .ticks)) (tickStep p table)
     (withUsed ((gathered 0 (p .held) input) .used)
     (cond ((gathered 0 (p .held) input) .ended) (lineStep p table (endedLine p line input))
-    (quietStep (holding p ((gathered 0 (p .held) input) .held)) table 0))))
+    (silentStep (holding p ((gathered 0 (p .held) input) .held)) table 0))))
 
 -- what a turn asks for: a tick all that a call does, else the line buffer, and what the line asks for if one ends
 unfoldable pub turnChecked : Bool → Player → List ℕ → List ℕ → List ℕ → ℕ
@@ -297,10 +297,10 @@ heldOf p line input = cond (onlyHolds p line input) (lineAfter (p .held) line in
 -- "an unended last line is bad", and so is a missing one of the first four
 unfoldable pub closeStep : Bool → Player → List ℕ → Step
 closeStep room p table =
-    cond (p .broken) (quietStep p table 0)
+    cond (p .broken) (silentStep p table 0)
     (cond (ltb (p .lines) 4) (reported room p table 0 (brokenStep p table 19))
     (cond (ltb 0 (p .held)) (reported room p table 0 (badStep p table))
-    (quietStep p table 0)))
+    (silentStep p table 0)))
 
 -- the text of a listing in this buffer; none where it is refused
 unfoldable pub listedIn : List ℕ → Gateway → List ℕ
@@ -310,8 +310,8 @@ listedIn out b = take ((seenOf (M.listing out) b) .first) ((seenOf (M.listing ou
 -- good
 unfoldable pub finishStep : List ℕ → Player → List ℕ → Step
 finishStep out p table =
-    cond (p .broken) (quietStep p table 0)
-    (cond (ltb (p .lines) 4) (quietStep p table 0)
+    cond (p .broken) (silentStep p table 0)
+    (cond (ltb (p .lines) 4) (silentStep p table 0)
     (record {
       player = p;
       table = table;

@@ -14,7 +14,7 @@ ghost use lib.ListN.{length};
 ghost use Rattle.octets.specs.Buffer.{over};
 ghost use Rattle.recording_lines.specs.Meant.{meant};
 ghost use Rattle.recording_lines.specs.Steps.{standsOn};
-ghost use Rattle.recording_player.specs.Player.{beginning, nextLine, holding, breaking, due, settled, having, roomy, callChecks, formedCheck, reportCheck, reported, given, withUsed, badStep, brokenStep, quietStep, freshStep, headStep, eventStep, eventChecked, lineStep, lineChecked, tickStep, turnStep, heldOf, toldOf, closeStep, finishStep};
+ghost use Rattle.recording_player.specs.Player.{beginning, nextLine, holding, breaking, due, settled, having, roomy, callChecks, formedCheck, reportCheck, reported, given, withUsed, badStep, brokenStep, silentStep, freshStep, headStep, eventStep, eventChecked, lineStep, lineChecked, tickStep, turnStep, heldOf, toldOf, closeStep, finishStep};
 ghost use Rattle.recording_player.specs.Steps.{heardOf, carriedTurn, usingOf};
 
 // The least output buffer, as for a listing.
@@ -103,8 +103,8 @@ fn have(p: Player, st: State) -> Player
 }
 
 // A turn that uses and writes nothing: all is as given.
-fn quiet(p: Player, answer: u8) -> Told
-    ensures { λ r. ⌜ ((table : List ℕ) → r ≡ toldOf (quietStep p table answer)) ⌝ }
+fn silent(p: Player, answer: u8) -> Told
+    ensures { λ r. ⌜ ((table : List ℕ) → r ≡ toldOf (silentStep p table answer)) ⌝ }
 {
     Told {
         player: p,
@@ -164,7 +164,7 @@ fn skip_line(p: Player, out: &mut [u8]) -> Told
     ensures { λ _. ⌜ ((table : List ℕ) → now (out .exit) ≡ over ((reported (roomy (now (out .entry))) p table 0 (badStep p table)) .text) (now (out .entry))) ⌝ }
 {
     if out.len() < ROOM {
-        return quiet(p, 19);
+        return silent(p, 19);
     }
     let next = next_line(p);
     let written = recording_bad_line::put_bad(out, next.lines);
@@ -183,7 +183,7 @@ fn give_up(p: Player, answer: u8, used: usize, out: &mut [u8]) -> Told
     ensures { λ _. ⌜ ((table : List ℕ) → now (out .exit) ≡ over ((reported (roomy (now (out .entry))) p table used (brokenStep p table answer)) .text) (now (out .entry))) ⌝ }
 {
     if out.len() < ROOM {
-        return quiet(p, answer);
+        return silent(p, answer);
     }
     let next = next_line(p);
     let written = recording_bad_line::put_bad(out, next.lines);
@@ -247,7 +247,7 @@ fn begin_state(p: Player, settings: Settings, used: usize, out: &mut [u8]) -> To
         return give_up(p, o.answer, used, out);
     }
     let st = o.state;
-    with_used(quiet(have(settle(next_line(p), settings), st), 0), used)
+    with_used(silent(have(settle(next_line(p), settings), st), 0), used)
 }
 
 // One of the first four lines.
@@ -259,7 +259,7 @@ fn take_setting(p: Player, line: &[u8], used: usize, out: &mut [u8]) -> Told
     let heard = read_setting(settings, p.lines, line);
     match heard {
         Heard::Bad => give_up(p, 19, used, out),
-        Heard::Part(next) => with_used(quiet(settle(next_line(p), next), 0), used),
+        Heard::Part(next) => with_used(silent(settle(next_line(p), next), 0), used),
         Heard::Whole(next) => begin_state(p, next, used, out),
     }
 }
@@ -305,7 +305,7 @@ fn play_event(p: Player, read: Read, line: &[u8], table: &mut [u32], out: &mut [
         Read::Remove(a) => carry(next, recording_call::remove_neighbour(st, a)),
         Read::Start(a) => carry(next, recording_call::start_neighbour(st, table, out, a)),
         Read::Stop(a) => carry(next, recording_call::stop_neighbour(st, table, out, a)),
-        Read::Tick(a, count) => quiet(owe_ticks(next, a, count), 0),
+        Read::Tick(a, count) => silent(owe_ticks(next, a, count), 0),
         Read::Receive(a, at) => carry(
             next,
             recording_call::hear_neighbour(st, table, out, a, &line[at..]),
@@ -326,7 +326,7 @@ fn take_line(p: Player, line: &[u8], used: usize, table: &mut [u32], out: &mut [
     let st = p.state;
     let refusal = event_answer(st, read, table.len(), out.len());
     if refusal != 0 {
-        return quiet(p, refusal);
+        return silent(p, refusal);
     }
     with_used(play_event(p, read, line, table, out), used)
 }
@@ -341,7 +341,7 @@ fn make_tick(p: Player, table: &mut [u32], out: &mut [u8]) -> Told
     let st = p.state;
     let refusal = lent_answer(st, table.len(), out.len());
     if refusal != 0 {
-        return quiet(p, refusal);
+        return silent(p, refusal);
     }
     let next = owe_ticks(p, p.address, p.ticks - 1);
     carry(
@@ -383,19 +383,19 @@ pub fn turn(p: Player, line: &mut [u8], table: &mut [u32], input: &[u8], out: &m
     ensures { λ _. ⌜ now (out .exit) ≡ over ((turnStep (roomy (now (out .entry))) p (now (line .entry)) (now (table .entry)) (now (input .entry))) .text) (now (out .entry)) ⌝ }
 {
     if p.broken {
-        return with_used(quiet(p, 0), input.len());
+        return with_used(silent(p, 0), input.len());
     }
     if 0 < p.ticks {
         return make_tick(p, table, out);
     }
     if line.len() < 4118 {
-        return quiet(p, 3);
+        return silent(p, 3);
     }
     let mut whole = [0u8; 4118];
     let g = recording_gather::join_piece(&mut whole, line, p.held, input);
     if !g.ended {
         recording_gather::gather(line, p.held, input);
-        return with_used(quiet(hold(p, g.held), 0), g.used);
+        return with_used(silent(hold(p, g.held), 0), g.used);
     }
     take_line(
         p,
@@ -412,7 +412,7 @@ pub fn close(p: Player, out: &mut [u8]) -> Told
     ensures { λ _. ⌜ ((table : List ℕ) → now (out .exit) ≡ over ((closeStep (roomy (now (out .entry))) p table) .text) (now (out .entry))) ⌝ }
 {
     if p.broken {
-        return quiet(p, 0);
+        return silent(p, 0);
     }
     if p.lines < 4 {
         return give_up(p, 19, 0, out);
@@ -420,7 +420,7 @@ pub fn close(p: Player, out: &mut [u8]) -> Told
     if 0 < p.held {
         return skip_line(p, out);
     }
-    quiet(p, 0)
+    silent(p, 0)
 }
 
 // After that, the listing.
@@ -429,10 +429,10 @@ pub fn finish(p: Player, table: &[u32], out: &mut [u8]) -> Told
     ensures { λ _. ⌜ now (out .exit) ≡ over ((finishStep (now (out .entry)) p (now (table .entry))) .text) (now (out .entry)) ⌝ }
 {
     if p.broken {
-        return quiet(p, 0);
+        return silent(p, 0);
     }
     if p.lines < 4 {
-        return quiet(p, 0);
+        return silent(p, 0);
     }
     let st = p.state;
     let o = listing::listing(st, table, out);

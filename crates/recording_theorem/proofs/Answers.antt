@@ -21,7 +21,7 @@ use Rattle.model.specs.Theorem.{outcomeOf}
 use Rattle.recording_call.specs.Told.{on}
 use Rattle.gateway_rules.specs.Calls.{lentChecks}
 use Rattle.recording_player.specs.declared.Player.{Player}
-use Rattle.recording_player.specs.Player.{nextLine, Step, lineFits, callChecks, reportCheck, given, withUsed, quietStep, badStep, brokenStep, withNet, freshStep, netStep, headStep, callStep, eventStep, eventChecked, lineStep, lineChecked, endedLine, freeStep, turnChecked, turnStep}
+use Rattle.recording_player.specs.Player.{nextLine, Step, lineFits, callChecks, reportCheck, given, withUsed, silentStep, badStep, brokenStep, withNet, freshStep, netStep, headStep, callStep, eventStep, eventChecked, lineStep, lineChecked, endedLine, freeStep, turnChecked, turnStep}
 use Rattle.recording_theorem.specs.Output.{callsOf}
 use Rattle.recording_theorem.specs.Answers.{TakesLine, checksRoom, Answers, EveryAnswer}
 
@@ -70,7 +70,7 @@ module _ (p : Player) (line table input : List ℕ) (t : TakesLine p line input)
         (on-false (ltb (p .lines) 4) _ _ b ∙ ap (eventStep p table) k)
 
   bad-19 : (room : Bool) → (given p table (eventChecked room (p .state) (length table) bad) (withUsed used (eventStep p table bad))) .answer ≡ 19
-  unfolding given ifOk eventChecked reportCheck check withUsed eventStep badStep quietStep
+  unfolding given ifOk eventChecked reportCheck check withUsed eventStep badStep silentStep
   bad-19 true = refl
   bad-19 false = refl
 
@@ -90,7 +90,7 @@ module _ (p : Player) (line table input : List ℕ) (t : TakesLine p line input)
     reply-asks room (rx a octets) h = lent-is room
 
     short-3 : (e : Event) → checksRoom e ≡ true → (given p table (eventChecked false (p .state) (length table) e) (withUsed used (eventStep p table e))) .answer ≡ 3
-    unfolding given ifOk quietStep check
+    unfolding given ifOk silentStep check
     short-3 e h = ap (λ (n : ℕ). (given p table n (withUsed used (eventStep p table e))) .answer) (reply-asks false e h)
 
     headCall : M.Call → List M.Call → M.Call
@@ -115,12 +115,12 @@ module _ (p : Player) (line table input : List ℕ) (t : TakesLine p line input)
 
   -- the fourth line
   reported-answer : (room : Bool) (s : Step) → (given p table (reportCheck room (s .answer)) (withUsed used s)) .answer ≡ s .answer
-  unfolding given ifOk reportCheck check withUsed quietStep
+  unfolding given ifOk reportCheck check withUsed silentStep
   reported-answer true s = refl
   reported-answer false s = cond-elim (λ (x : Step). x .answer ≡ s .answer) (eqb (s .answer) 0) _ _ (λ e. refl) (λ e. refl)
 
   fresh-answer : (g : Settings) → (freshStep p table g) .answer ≡ (freshOf g) .answer
-  unfolding freshStep brokenStep quietStep
+  unfolding freshStep brokenStep silentStep
   fresh-answer g =
       cond-elim (λ (x : Step). x .answer ≡ (freshOf g) .answer)
       (eqb ((freshOf g) .answer) 0) _ _ (λ e. sym (eqb-true _ 0 e)) (λ e. refl)

@@ -21,7 +21,7 @@ use Rattle.model.proofs.Simulation.{represent}
 use Rattle.recording_call.specs.Told.{on}
 use Rattle.gateway_rules.specs.Calls.{lentChecks}
 use Rattle.recording_player.specs.declared.Player.{Player}
-use Rattle.recording_player.specs.Player.{beginning, due, having, holding, Step, roomy, lineFits, callChecks, formedCheck, reportCheck, given, withUsed, quietStep, callStep, eventChecked, lineChecked, tickStep, endedLine, freeStep, turnChecked, turnStep, heldOf}
+use Rattle.recording_player.specs.Player.{beginning, due, having, holding, Step, roomy, lineFits, callChecks, formedCheck, reportCheck, given, withUsed, silentStep, callStep, eventChecked, lineChecked, tickStep, endedLine, freeStep, turnChecked, turnStep, heldOf}
 use Rattle.recording_theorem.specs.Theorem as T
 use Rattle.recording_theorem.specs.Theorem.{Deck, Lent, stepOn, afterTurn, writing, drive, isDone, isPlenty, plenty, EveryRecordingEnds}
 use Rattle.recording_theorem.proofs.Held.{used-most, used-some}
@@ -114,8 +114,8 @@ module _ (d : Deck) (held : List ℕ) (ok : Sound d held) (room : Bool) (size : 
   short = length-take size input
 
   -- where nothing is done, room is wanting
-  idle-works : (answer : ℕ) → (room ≡ true → ⊥) → Working (quietStep p (d .table) answer)
-  unfolding quietStep
+  idle-works : (answer : ℕ) → (room ≡ true → ⊥) → Working (silentStep p (d .table) answer)
+  unfolding silentStep
   idle-works answer n = record { no-more = le-refl (work p input); less = λ e k w. absurd (n e) }
 
   given-works : (c : ℕ) (s : Step) → (room ≡ true → c ≡ 0) → Working s → Working (given p (d .table) c s)
@@ -123,8 +123,8 @@ module _ (d : Deck) (held : List ℕ) (ok : Sound d held) (room : Bool) (size : 
   given-works c s h w = cond-elim (λ (x : Step). Works p input room size x) (eqb c 0) s _ (λ e. w) (λ e. idle-works c (λ r. eqb-false c 0 e (h r)))
 
   -- a broken player uses what it is handed
-  broken-works : p .broken ≡ true → Working (withUsed (length piece) (quietStep p (d .table) 0))
-  unfolding withUsed quietStep
+  broken-works : p .broken ≡ true → Working (withUsed (length piece) (silentStep p (d .table) 0))
+  unfolding withUsed silentStep
   broken-works e =
       let a = work-broken p input e in
       let b = work-broken p (drop (length piece) input) e in
@@ -158,12 +158,12 @@ module _ (d : Deck) (held : List ℕ) (ok : Sound d held) (room : Bool) (size : 
           record { no-more = omega (arith, a, b, l, h, k, short, few); less = λ r o w. omega (arith, a, b, l, h, k, short, few) }
 
       -- no octet was handed over
-      none-free : freeStep p (d .line) (d .table) [] ≡ withUsed 0 (quietStep (holding p (p .held)) (d .table) 0)
+      none-free : freeStep p (d .line) (d .table) [] ≡ withUsed 0 (silentStep (holding p (p .held)) (d .table) 0)
       unfolding freeStep gathered
       none-free = on-false (p .broken) _ _ f ∙ on-false (ltb 0 (p .ticks)) _ _ not-due
 
-      none-works : piece ≡ [] → Working (withUsed 0 (quietStep (holding p (p .held)) (d .table) 0))
-      unfolding withUsed quietStep holding
+      none-works : piece ≡ [] → Working (withUsed 0 (silentStep (holding p (p .held)) (d .table) 0))
+      unfolding withUsed silentStep holding
       none-works e =
           let a = work-playing p input f in
           let b = work-playing (holding p (p .held)) input f in
@@ -203,7 +203,7 @@ module _ (d : Deck) (held : List ℕ) (ok : Sound d held) (room : Bool) (size : 
       go false f true e = lent-passes (p .state) (d .table) (ok .kept .stands f (late (ltb-true 0 (p .ticks) e) (ltb (p .lines) 4) refl))
       go false f false e = rw fits (line f ((gathered 0 (p .held) piece) .ended))
 
-  free-broken : p .broken ≡ true → free ≡ withUsed (length piece) (quietStep p (d .table) 0)
+  free-broken : p .broken ≡ true → free ≡ withUsed (length piece) (silentStep p (d .table) 0)
   unfolding freeStep
   free-broken e = on-true (p .broken) _ _ e
 

@@ -27,7 +27,7 @@ use Rattle.model.proofs.Simulation.{represent, good-step}
 use Rattle.model.proofs.Theorem.{step-is, begun-is, empty-good}
 use Rattle.recording_call.specs.Told.{lent, callText, on}
 use Rattle.recording_player.specs.declared.Player.{Player}
-use Rattle.recording_player.specs.Player.{nextLine, breaking, due, settled, having, Step, badStep, brokenStep, quietStep, withAs, withOwn, withCapability, withNet, settingStep, freshStep, netStep, headStep, callStep, eventStep, lineStep}
+use Rattle.recording_player.specs.Player.{nextLine, breaking, due, settled, having, Step, badStep, brokenStep, silentStep, withAs, withOwn, withCapability, withNet, settingStep, freshStep, netStep, headStep, callStep, eventStep, lineStep}
 use Rattle.recording_theorem.specs.Output.{RecordedLine, ended, eventIn, valueIn, Opening, broken, opened, takenBy, fromNet, fromCapability, fromOwn, openingOf, ticks, callsOf}
 use Rattle.recording_theorem.proofs.ByCalls.{badLine, callsTold, eventTold, toldText, openingText}
 use Rattle.recording_theorem.proofs.Short.{event-short, number-short}
@@ -93,7 +93,7 @@ module _ (p : Player) (l : List RecordedLine) (z : p .ticks ≡ 0) where
     setting-follows : (set : Settings → ℕ → Settings) (next : ℕ → Opening) → oneMore (p .lines) < 4
         → ((n : ℕ) → next n ≡ openingFrom (oneMore (p .lines)) (set (p .settings) n) l)
         → (value : Number) → Follows (settingStep p emptyTable value set) (openingDue (whenNumber value (broken (oneMore (p .lines))) next)) l
-    unfolding settingStep whenNumber quietStep settled nextLine saying
+    unfolding settingStep whenNumber silentStep settled nextLine saying
     setting-follows set next k h Bad = broken-follows 19
     setting-follows set next k h (Is n) =
         record {
@@ -119,14 +119,14 @@ module _ (p : Player) (l : List RecordedLine) (z : p .ticks ≡ 0) (f : p .broke
   net-broken answer = subst (λ (number : ℕ). Follows (brokenStep p emptyTable answer) (openingDue (broken number)) l) four (broken-follows p l z answer)
 
   fresh-follows : (g : Settings) → Follows (freshStep p emptyTable g) (openingDue (takenBy g l)) l
-  unfolding freshStep takenBy quietStep settled having nextLine saying ticks
+  unfolding freshStep takenBy silentStep settled having nextLine saying ticks
   fresh-follows g = go (eqb (fresh .answer) 0) refl
     where
       fresh : Outcome
       fresh = freshOf g
 
       go : (b : Bool) → eqb (fresh .answer) 0 ≡ b
-          → Follows (cond b (quietStep (having (settled (nextLine p) g) (fresh .state)) emptyTable 0) (brokenStep p emptyTable (fresh .answer)))
+          → Follows (cond b (silentStep (having (settled (nextLine p) g) (fresh .state)) emptyTable 0) (brokenStep p emptyTable (fresh .answer)))
           (openingDue (cond b (opened g l) (broken 4))) l
       go true e =
           record {
@@ -221,9 +221,9 @@ module _ (p : Player) (table : List ℕ) (l : List RecordedLine) (f : p .broken 
       }
 
   tick-follows : (a count : ℕ) → count ≤ 86400
-      → Follows (quietStep (due (nextLine p) a count) table 0)
+      → Follows (silentStep (due (nextLine p) a count) table 0)
       (saying (join (map toldText (callsTold here (ticks a count)))) (eventsDue lines (gatewayFrom here (ticks a count)) l)) l
-  unfolding quietStep due nextLine saying callsDue
+  unfolding silentStep due nextLine saying callsDue
   tick-follows a count few =
       record {
         kept = kept-late (due (nextLine p) a count) table late f few stand;

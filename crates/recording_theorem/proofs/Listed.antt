@@ -19,7 +19,7 @@ use Rattle.listing_lines.specs.Listing.{entries, listable, listingChecks, listi
 use Rattle.model.specs.Theorem.{Gateway, outcomeOf, bufferLeft, seenOf}
 use Rattle.recording_call.specs.Told.{on}
 use Rattle.recording_player.specs.declared.Player.{Player}
-use Rattle.recording_player.specs.Player.{Step, roomy, listedIn, quietStep, finishStep}
+use Rattle.recording_player.specs.Player.{Step, roomy, listedIn, silentStep, finishStep}
 use Rattle.recording_theorem.proofs.ByCalls.{listed}
 
 -- the text, where the call is carried out
@@ -61,4 +61,4 @@ choice-text false false q x y e = e
 pub finish-in : (out : List ℕ) (p : Player) (table : List ℕ) → roomy out ≡ true → (finishStep out p table) .text ≡ (finishStep (zeros 65536) p table) .text
 unfolding finishStep listed
 finish-in out p table h =
-    choice-text (p .broken) (ltb (p .lines) 4) (quietStep p table 0) _ _ (listed-in out (on (p .state) table) h)
+    choice-text (p .broken) (ltb (p .lines) 4) (silentStep p table 0) _ _ (listed-in out (on (p .state) table) h)

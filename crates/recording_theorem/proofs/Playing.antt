@@ -18,7 +18,7 @@ use Rattle.recording_bad_line.specs.BadLine.{badText, oneMore}
 use Rattle.model.specs.Theorem.{Gateway, gatewayFrom, run, emptyTable}
 use Rattle.recording_call.specs.Told.{on}
 use Rattle.recording_player.specs.declared.Player.{Player}
-use Rattle.recording_player.specs.Player.{beginning, roomy, lineFits, nextLine, breaking, reportCheck, given, withUsed, reported, badStep, brokenStep, quietStep, turnStep, heldOf, closeStep, finishStep}
+use Rattle.recording_player.specs.Player.{beginning, roomy, lineFits, nextLine, breaking, reportCheck, given, withUsed, reported, badStep, brokenStep, silentStep, turnStep, heldOf, closeStep, finishStep}
 use Rattle.recording_theorem.specs.Output.{RecordedLine, unended, linesFrom, linesOf, eventIn, valueIn, broken, opened, openingOf, fromOwn, fromCapability, fromNet, callsOf, goodCalls, outputOf}
 use Rattle.recording_theorem.proofs.ByCalls.{eventTold, toldFrom, toldText, eventsText, listed, openingText}
 use Rattle.recording_theorem.specs.Theorem.{Deck, freshDeck, Lent, stepOn, afterTurn, Driven, writing, drive, isDone, closed, finished, allText, EndsAs, Played, Recordings}
@@ -42,7 +42,7 @@ unfoldable pub endDue : Deck → Due
 endDue d = record { text = (closed d) .text ++ (finished (zeros 65536) d) .text; final = finalIn d }
 
 broken-end : (d : Deck) (held : List ℕ) → d .player .broken ≡ true → remaining (d .player) (d .table) (linesFrom held []) ≡ endDue d
-unfolding endDue closed finished closeStep finishStep finalIn quietStep silence
+unfolding endDue closed finished closeStep finishStep finalIn silentStep silence
 broken-end d held e = remaining-broken (d .player) (d .table) (linesFrom held []) e ∙ rw e
 
 -- one of the first four is missing, or has no end
@@ -64,7 +64,7 @@ module _ (d : Deck) (held : List ℕ) (f : d .player .broken ≡ false) where
   p = d .player
 
   early-end : p .lines < 4 → remaining p (d .table) (linesFrom held []) ≡ endDue d
-  unfolding linesFrom openingDue openingText finalOf endDue closed finished closeStep finishStep finalIn brokenStep reported reportCheck check given ifOk withUsed breaking nextLine quietStep
+  unfolding linesFrom openingDue openingText finalOf endDue closed finished closeStep finishStep finalIn brokenStep reported reportCheck check given ifOk withUsed breaking nextLine silentStep
   early-end k =
       remaining-early p (d .table) (linesFrom held []) f k ∙ ap openingDue (early-missing (p .lines) k (p .settings) held (eqb (length held) 0))
       ∙ rw (f, lt-ltb (p .lines) 4 k) (λ i. record { text = sym (append-nil (badText (oneMore (p .lines)))) i; final = unplayed })
@@ -79,7 +79,7 @@ module _ (d : Deck) (held : List ℕ) (f : d .player .broken ≡ false) where
         rw (e, f, le-ltb (p .lines) 4 late, lt-ltb 0 (p .held) k, le-ltb (oneMore (p .lines)) 4 (more-lines (p .lines) late), append-nil (badText (oneMore (p .lines))))
 
     ended-end : eqb (length held) 0 ≡ true → eventsDue (p .lines) (on (p .state) (d .table)) (linesFrom held []) ≡ endDue d
-    unfolding linesFrom endDue closed finished closeStep finishStep finalIn quietStep eventsDue eventsText toldFrom goodCalls gatewayFrom join listed
+    unfolding linesFrom endDue closed finished closeStep finishStep finalIn silentStep eventsDue eventsText toldFrom goodCalls gatewayFrom join listed
     ended-end e =
         let k : p .held ≡ 0 = omega (arith, counted, eqb-true (length held) 0 e) in
         let four = le-ltb (p .lines) 4 late in

@@ -17,7 +17,7 @@ use Rattle.recording_call.specs.Told.{lent, callText, on}
 use Rattle.recording_gather.specs.declared.Gathered.{Gathered}
 use Rattle.recording_gather.specs.Gathering.{gathered, lineAfter, lineHeld}
 use Rattle.recording_player.specs.declared.Player.{Player}
-use Rattle.recording_player.specs.Player.{holding, due, having, Step, lineFits, given, withUsed, quietStep, callStep, lineStep, tickStep, endedLine, freeStep, callChecks, lineChecked, turnChecked, turnStep, onlyHolds, heldOf}
+use Rattle.recording_player.specs.Player.{holding, due, having, Step, lineFits, given, withUsed, silentStep, callStep, lineStep, tickStep, endedLine, freeStep, callChecks, lineChecked, turnChecked, turnStep, onlyHolds, heldOf}
 use Rattle.recording_theorem.specs.Output.{RecordedLine, ended, linesFrom, ticks}
 use Rattle.recording_theorem.specs.Theorem.{Deck}
 use Rattle.recording_theorem.proofs.Held.{used-most, lineIn, linesAfter, lines-after, Holds, holds-none, holds-piece, holds-line, holds-front}
@@ -82,9 +82,9 @@ module _ (d : Deck) (held piece left : List ℕ) (ok : Sound d held) where
   fits = le-leb 4118 (length (d .line)) (ok .holds .room)
 
   broken-turn : p .broken ≡ true → Turned d held piece left free after
-  unfolding freeStep heldOf onlyHolds quietStep withUsed saying
+  unfolding freeStep heldOf onlyHolds silentStep withUsed saying
   broken-turn e =
-      by-step (withUsed (length piece) (quietStep p (d .table) 0)) (d .line) (rw e) (rw e) held ok
+      by-step (withUsed (length piece) (silentStep p (d .table) 0)) (d .line) (rw e) (rw e) held ok
       (remaining-broken p (d .table) (linesFrom held (piece ++ left)) e ∙ sym (remaining-broken p (d .table) (linesFrom held (drop (length piece) piece ++ left)) e))
 
   module _ (f : p .broken ≡ false) where
@@ -142,10 +142,10 @@ module _ (d : Deck) (held piece left : List ℕ) (ok : Sound d held) where
           (ap (remaining p (d .table)) (lines-after held (p .held) piece left ∙ rw e) ∙ follows .same)
 
       held-turn : g .ended ≡ false → Turned d held piece left free after
-      unfolding freeStep heldOf onlyHolds linesAfter quietStep withUsed holding saying remaining
+      unfolding freeStep heldOf onlyHolds linesAfter silentStep withUsed holding saying remaining
       held-turn e =
           let t : ltb 0 (p .ticks) ≡ false = rw z in
-          by-step (withUsed (g .used) (quietStep (holding p (g .held)) (d .table) 0)) (lineAfter (p .held) (d .line) piece) (rw (f, t, e)) (rw (f, t, fits, e)) (lineIn held piece)
+          by-step (withUsed (g .used) (silentStep (holding p (g .held)) (d .table) 0)) (lineAfter (p .held) (d .line) piece) (rw (f, t, e)) (rw (f, t, fits, e)) (lineIn held piece)
           (record {
             holds = holds-piece held (p .held) (d .line) piece (ok .holds);
             kept = record { idle = ok .kept .idle; early = ok .kept .early; still = ok .kept .still; stands = ok .kept .stands; few = ok .kept .few };
@@ -176,8 +176,8 @@ module _ (d : Deck) (held piece left : List ℕ) (ok : Sound d held) where
       go false e = playing-turn e
 
   -- refused: all is as given
-  refused-turn : (answer : ℕ) → after ≡ d .line → Turned d held piece left (quietStep p (d .table) answer) after
-  unfolding quietStep saying dueOf
+  refused-turn : (answer : ℕ) → after ≡ d .line → Turned d held piece left (silentStep p (d .table) answer) after
+  unfolding silentStep saying dueOf
   refused-turn answer e = rw e (record { next = held; sound = ok; same = refl })
 
   pub turned : (room : Bool) → Turned d held piece left (turnStep room p (d .line) (d .table) piece) after
@@ -194,6 +194,6 @@ free-within p line table piece =
     (λ e. cond-elim (λ (s : Step). s .used ≤ length piece) (ltb 0 (p .ticks)) _ _ (λ t. zero-le) (λ t. used-most (p .held) piece))
 
 pub used-within : (room : Bool) (p : Player) (line table piece : List ℕ) → (turnStep room p line table piece) .used ≤ length piece
-unfolding turnStep given ifOk quietStep
+unfolding turnStep given ifOk silentStep
 used-within room p line table piece =
     cond-elim (λ (s : Step). s .used ≤ length piece) (eqb (turnChecked room p line table piece) 0) _ _ (λ e. free-within p line table piece) (λ e. zero-le)

@@ -20,7 +20,7 @@ pub record PlayedCases : Type 0 where
   -- good lines, but fresh refuses: capability 3
   pub refused : outputOf (text "ownas=9\nown=128.9.0.1\ncap=3\nnet=128.9.0.0\nadd=128.9.0.5/7\n") ≡ text "bad=4\n"
   -- nothing happens
-  pub quiet : outputOf head ≡ text "neighbours=0\n"
+  pub eventless : outputOf head ≡ text "neighbours=0\n"
   -- line 5 is good, 6 bad, 7 good though its call is refused, 8 bad since it does not end
   pub some-bad :
       outputOf (head ++ text "add=128.9.0.5/7\nadd=128.9.0.6/08\nadd=128.9.0.5/7\nadd=128.9.0.6/8")

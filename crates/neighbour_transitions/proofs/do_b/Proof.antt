@@ -1,4 +1,4 @@
-use Rattle.neighbour_machine.specs.Table.{quiet, doesB}
+use Rattle.neighbour_machine.specs.Table.{unanswered, doesB}
 use Rattle.neighbour.specs.Record.{initialised}
 use borrow.Author.Needs.{needs}
 use Rattle.neighbour_transitions.proofs.do_b.Statement.{statement}
@@ -14,7 +14,7 @@ hello-if-requires : tie.Need-hello-if-requires
 hello-if-requires c κs = search needs
 
 returns : tie.Need-returns
-unfolding doesB quiet initialised
+unfolding doesB unanswered initialised
 returns c = rw (c .before .keep .ensures, c .before .before .initialise .ensures) at (c .hello-if .ensures)
 
 pub do-b-spec : {M : Type 1} → statement M

@@ -1,10 +1,10 @@
-use Rattle.neighbour_machine.specs.Table.{quiet}
+use Rattle.neighbour_machine.specs.Table.{unanswered}
 use mathlib.Core.Path.{refl}
 use Rattle.neighbour_transitions.proofs.keep.Statement.{statement}
 use Rattle.neighbour_transitions.proofs.keep.Tie as tie
 
 returns : tie.Need-returns
-unfolding quiet
+unfolding unanswered
 returns c = refl
 
 pub keep-spec : {M : Type 1} → statement M

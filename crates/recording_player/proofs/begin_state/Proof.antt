@@ -1,8 +1,8 @@
 -- `recording_player::begin_state` meets its contract. Assumes nothing.
 use mathlib.Core.Path.{ap, _∙_}
 use Rattle.recording_player.specs.declared.Player.{Player}
-use Rattle.recording_player.specs.Player.{nextLine, settled, having, roomy, quietStep, toldOf}
-use Rattle.recording_player.proofs.Laws.{for-each, taken-as, quiet-using, reported-as, reported-quiet, fresh-refused, fresh-had}
+use Rattle.recording_player.specs.Player.{nextLine, settled, having, roomy, silentStep, toldOf}
+use Rattle.recording_player.proofs.Laws.{for-each, taken-as, silent-using, reported-as, reported-silent, fresh-refused, fresh-had}
 use borrow.Author.Needs.{needs}
 use Rattle.recording_player.proofs.begin_state.Statement.{statement}
 use Rattle.recording_player.proofs.begin_state.Tie as tie
@@ -31,8 +31,8 @@ settle-requires c κs = search needs
 have-requires : tie.Need-have-requires
 have-requires c κs = search needs
 
-quiet-requires : tie.Need-quiet-requires
-quiet-requires c κs = search needs
+silent-requires : tie.Need-silent-requires
+silent-requires c κs = search needs
 
 with-used-requires : tie.Need-with-used-requires
 with-used-requires c κs = search needs
@@ -43,9 +43,9 @@ returns-2 c =
     let e = c .before .before .have .ensures ∙ ap (λ (x : Player). having x (c .before .before .before .before .before .before .before .before .fresh .result .state)) (c .before .before .before .settle .ensures ∙ ap (λ (x : Player). settled x (c .before .before .before .before .before .before .before .before .before .before .args .settings)) (c .before .before .before .before .next-line .ensures)) in
     for-each
     (λ table.
-    quiet-using _ q table (c .before .before .before .before .before .before .before .before .before .before .args .used) _ _ (c .before .before .before .before .before .before .before .before .before .before .args .out .now)
-    (reported-as (roomy (c .before .before .before .before .before .before .before .before .before .before .args .out .now)) (c .before .before .before .before .before .before .before .before .before .before .args .p) table (c .before .before .before .before .before .before .before .before .before .before .args .used) (fresh-had (c .before .before .before .before .before .before .before .before .before .before .args .p) table (c .before .before .before .before .before .before .before .before .before .before .args .settings) _ (c .before .before .before .before .before .before .before .before .fresh .ensures) (c .before .before .before .before .before .before .if1 .left)) ∙ reported-quiet (roomy (c .before .before .before .before .before .before .before .before .before .before .args .out .now)) (c .before .before .before .before .before .before .before .before .before .before .args .p) q table (c .before .before .before .before .before .before .before .before .before .before .args .used))
-    (c .before .quiet .ensures table ∙ ap (λ (x : Player). toldOf (quietStep x table 0)) e) (c .with-used .ensures))
+    silent-using _ q table (c .before .before .before .before .before .before .before .before .before .before .args .used) _ _ (c .before .before .before .before .before .before .before .before .before .before .args .out .now)
+    (reported-as (roomy (c .before .before .before .before .before .before .before .before .before .before .args .out .now)) (c .before .before .before .before .before .before .before .before .before .before .args .p) table (c .before .before .before .before .before .before .before .before .before .before .args .used) (fresh-had (c .before .before .before .before .before .before .before .before .before .before .args .p) table (c .before .before .before .before .before .before .before .before .before .before .args .settings) _ (c .before .before .before .before .before .before .before .before .fresh .ensures) (c .before .before .before .before .before .before .if1 .left)) ∙ reported-silent (roomy (c .before .before .before .before .before .before .before .before .before .before .args .out .now)) (c .before .before .before .before .before .before .before .before .before .before .args .p) q table (c .before .before .before .before .before .before .before .before .before .before .args .used))
+    (c .before .silent .ensures table ∙ ap (λ (x : Player). toldOf (silentStep x table 0)) e) (c .with-used .ensures))
 
 pub begin-state-spec : {M : Type 1} → statement M
 begin-state-spec =
@@ -58,6 +58,6 @@ begin-state-spec =
     next-line-requires
     settle-requires
     have-requires
-    quiet-requires
+    silent-requires
     with-used-requires
     returns-2)

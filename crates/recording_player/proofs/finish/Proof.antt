@@ -1,25 +1,25 @@
 -- `recording_player::finish` meets its contract. Assumes nothing.
 use denote.Ref.{now}
-use Rattle.recording_player.proofs.Laws.{quiet-taken, finish-broken, finish-unbegun, finish-listed}
+use Rattle.recording_player.proofs.Laws.{silent-taken, finish-broken, finish-unbegun, finish-listed}
 use borrow.Author.Needs.{needs}
 use Rattle.recording_player.proofs.finish.Statement.{statement}
 use Rattle.recording_player.proofs.finish.Tie as tie
 
-quiet-requires : tie.Need-quiet-requires
-quiet-requires c κs = search needs
+silent-requires : tie.Need-silent-requires
+silent-requires c κs = search needs
 
 returns : tie.Need-returns
 returns c =
     let a = c .before .before .before .before .args in
-    quiet-taken _ (a .p) (now (a .table)) 0 _ _ (finish-broken (now (a .out)) (a .p) (now (a .table)) (c .before .if1 .taken)) (c .quiet .ensures (now (a .table)))
+    silent-taken _ (a .p) (now (a .table)) 0 _ _ (finish-broken (now (a .out)) (a .p) (now (a .table)) (c .before .if1 .taken)) (c .silent .ensures (now (a .table)))
 
-quiet-requires-2 : tie.Need-quiet-requires-2
-quiet-requires-2 c κs = search needs
+silent-requires-2 : tie.Need-silent-requires-2
+silent-requires-2 c κs = search needs
 
 returns-2 : tie.Need-returns-2
 returns-2 c =
     let a = c .before .before .before .before .before .before .args in
-    quiet-taken _ (a .p) (now (a .table)) 0 _ _ (finish-unbegun (now (a .out)) (a .p) (now (a .table)) (c .before .before .before .if1 .left) (c .before .if2 .taken)) (c .quiet2 .ensures (now (a .table)))
+    silent-taken _ (a .p) (now (a .table)) 0 _ _ (finish-unbegun (now (a .out)) (a .p) (now (a .table)) (c .before .before .before .if1 .left) (c .before .if2 .taken)) (c .silent2 .ensures (now (a .table)))
 
 listing-requires : tie.Need-listing-requires
 listing-requires c κs = search needs
@@ -39,9 +39,9 @@ pub finish-spec : {M : Type 1} → statement M
 finish-spec =
     tie.close
     (tie.spec
-    quiet-requires
+    silent-requires
     returns
-    quiet-requires-2
+    silent-requires-2
     returns-2
     listing-requires
     cast-t9

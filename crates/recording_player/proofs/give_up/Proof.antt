@@ -5,13 +5,13 @@ use borrow.Author.Needs.{needs}
 use Rattle.recording_player.proofs.give_up.Statement.{statement}
 use Rattle.recording_player.proofs.give_up.Tie as tie
 
-quiet-requires : tie.Need-quiet-requires
-quiet-requires c κs = search needs
+silent-requires : tie.Need-silent-requires
+silent-requires c κs = search needs
 
 returns : tie.Need-returns
 unfolding brokenStep
 returns c =
-    for-each (λ table. reported-not (c .before .before .before .args .p) table (c .before .before .before .args .out .now) (c .before .before .before .args .used) (brokenStep (c .before .before .before .args .p) table (c .before .before .before .args .answer)) _ (c .before .if1 .taken) (c .before .before .before .pre) (c .quiet .ensures table))
+    for-each (λ table. reported-not (c .before .before .before .args .p) table (c .before .before .before .args .out .now) (c .before .before .before .args .used) (brokenStep (c .before .before .before .args .p) table (c .before .before .before .args .answer)) _ (c .before .if1 .taken) (c .before .before .before .pre) (c .silent .ensures table))
 
 next-line-requires : tie.Need-next-line-requires
 next-line-requires c κs = search needs
@@ -37,7 +37,7 @@ pub give-up-spec : {M : Type 1} → statement M
 give-up-spec =
     tie.close
     (tie.spec
-    quiet-requires
+    silent-requires
     returns
     next-line-requires
     put-bad-requires

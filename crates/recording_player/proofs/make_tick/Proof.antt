@@ -11,13 +11,13 @@ use Rattle.recording_player.proofs.make_tick.Tie as tie
 lent-answer-requires : tie.Need-lent-answer-requires
 lent-answer-requires c κs = search needs
 
-quiet-requires : tie.Need-quiet-requires
-quiet-requires c κs = search needs
+silent-requires : tie.Need-silent-requires
+silent-requires c κs = search needs
 
 returns : tie.Need-returns
 unfolding roomy
 returns c =
-    tick-refused (c .before .before .before .before .before .before .args .p) (c .before .before .before .before .before .before .args .table .now) (c .before .before .before .before .before .before .args .out .now) _ _ (c .before .before .lent-answer .ensures) (c .before .if1 .taken) (c .quiet .ensures (c .before .before .before .before .before .before .args .table .now))
+    tick-refused (c .before .before .before .before .before .before .args .p) (c .before .before .before .before .before .before .args .table .now) (c .before .before .before .before .before .before .args .out .now) _ _ (c .before .before .lent-answer .ensures) (c .before .if1 .taken) (c .silent .ensures (c .before .before .before .before .before .before .args .table .now))
 
 sub-owe-ticks : tie.Need-sub-owe-ticks
 sub-owe-ticks c = search needs
@@ -49,7 +49,7 @@ make-tick-spec =
     tie.close
     (tie.spec
     lent-answer-requires
-    quiet-requires
+    silent-requires
     returns
     sub-owe-ticks
     owe-ticks-requires

@@ -6,8 +6,8 @@ use Rattle.checks.proofs.Laws.{part-from}
 use Rattle.model.specs.Model as M
 use Rattle.recording_call.specs.Told.{lent}
 use Rattle.recording_player.specs.declared.Player.{Player}
-use Rattle.recording_player.specs.Player.{nextLine, due, roomy, quietStep, toldOf}
-use Rattle.recording_player.proofs.Laws.{lent-room, made-as, quiet-made, bad-made, call-made, add-made, remove-made, rx-made, asks-bad, asks-start, asks-stop, asks-rx, event-bad, event-add, event-remove, event-start, event-stop, event-tick, rx-stands}
+use Rattle.recording_player.specs.Player.{nextLine, due, roomy, silentStep, toldOf}
+use Rattle.recording_player.proofs.Laws.{lent-room, made-as, silent-made, bad-made, call-made, add-made, remove-made, rx-made, asks-bad, asks-start, asks-stop, asks-rx, event-bad, event-add, event-remove, event-start, event-stop, event-tick, rx-stands}
 use borrow.Author.Needs.{needs}
 use Rattle.recording_player.proofs.play_event.Statement.{statement}
 use Rattle.recording_player.proofs.play_event.Tie as tie
@@ -65,8 +65,8 @@ enum-known-read-5 c = search needs
 owe-ticks-requires : tie.Need-owe-ticks-requires
 owe-ticks-requires c κs = search needs
 
-quiet-requires : tie.Need-quiet-requires
-quiet-requires c κs = search needs
+silent-requires : tie.Need-silent-requires
+silent-requires c κs = search needs
 
 enum-known-read-6 : tie.Need-enum-known-read-6
 enum-known-read-6 c = search needs
@@ -133,8 +133,8 @@ returns-5 c =
 returns-6 : tie.Need-returns-6
 returns-6 c =
     made-as (c .before .before .before .before .before .before .before .before .before .before .args .out .now) (event-tick (c .before .before .before .before .before .before .before .before .before .before .args .p) (c .before .before .before .before .before .before .before .before .before .before .args .table .now) (c .before .before .before .before .before .before .before .before .before .before .args .read) (c .before .before .before .before .before .before .before .before .before .before .args .line .now) (c .before .before .before .read5 .given .0 .0) (c .before .before .before .read5 .given .0 .1 .0) (c .before .before .before .read5 .given .1))
-    (quiet-made (due (nextLine (c .before .before .before .before .before .before .before .before .before .before .args .p)) (c .before .before .before .read5 .given .0 .0) (c .before .before .before .read5 .given .0 .1 .0)) (c .before .before .before .before .before .before .before .before .before .before .args .table .now) 0 _ (c .before .before .before .before .before .before .before .before .before .before .args .out .now)
-    (c .quiet .ensures (c .before .before .before .before .before .before .before .before .before .before .args .table .now) ∙ ap (λ (q : Player). toldOf (quietStep q (c .before .before .before .before .before .before .before .before .before .before .args .table .now) 0)) (c .before .owe-ticks .ensures ∙ ap (λ (q : Player). due q (c .before .before .before .read5 .given .0 .0) (c .before .before .before .read5 .given .0 .1 .0)) (c .before .before .before .before .before .before .next-line .ensures))))
+    (silent-made (due (nextLine (c .before .before .before .before .before .before .before .before .before .before .args .p)) (c .before .before .before .read5 .given .0 .0) (c .before .before .before .read5 .given .0 .1 .0)) (c .before .before .before .before .before .before .before .before .before .before .args .table .now) 0 _ (c .before .before .before .before .before .before .before .before .before .before .args .out .now)
+    (c .silent .ensures (c .before .before .before .before .before .before .before .before .before .before .args .table .now) ∙ ap (λ (q : Player). toldOf (silentStep q (c .before .before .before .before .before .before .before .before .before .before .args .table .now) 0)) (c .before .owe-ticks .ensures ∙ ap (λ (q : Player). due q (c .before .before .before .read5 .given .0 .0) (c .before .before .before .read5 .given .0 .1 .0)) (c .before .before .before .before .before .before .next-line .ensures))))
 
 same-length-6 : tie.Need-same-length-6
 same-length-6 c = search needs
@@ -168,7 +168,7 @@ play-event-spec =
     carry-requires-4
     enum-known-read-5
     owe-ticks-requires
-    quiet-requires
+    silent-requires
     enum-known-read-6
     sub-hear-neighbour
     part-hear-neighbour-start

@@ -6,13 +6,13 @@ use borrow.Author.Needs.{needs}
 use Rattle.recording_player.proofs.skip_line.Statement.{statement}
 use Rattle.recording_player.proofs.skip_line.Tie as tie
 
-quiet-requires : tie.Need-quiet-requires
-quiet-requires c κs = search needs
+silent-requires : tie.Need-silent-requires
+silent-requires c κs = search needs
 
 returns : tie.Need-returns
 unfolding badStep
 returns c =
-    for-each (λ table. reported-not (c .before .before .before .args .p) table (c .before .before .before .args .out .now) 0 (badStep (c .before .before .before .args .p) table) _ (c .before .if1 .taken) (λ z. absurd (omega (arith, z))) (c .quiet .ensures table))
+    for-each (λ table. reported-not (c .before .before .before .args .p) table (c .before .before .before .args .out .now) 0 (badStep (c .before .before .before .args .p) table) _ (c .before .if1 .taken) (λ z. absurd (omega (arith, z))) (c .silent .ensures table))
 
 next-line-requires : tie.Need-next-line-requires
 next-line-requires c κs = search needs
@@ -33,4 +33,4 @@ returns-2 c =
 pub skip-line-spec : {M : Type 1} → statement M
 skip-line-spec =
     tie.close
-    (tie.spec quiet-requires returns next-line-requires put-bad-requires same-length returns-2)
+    (tie.spec silent-requires returns next-line-requires put-bad-requires same-length returns-2)

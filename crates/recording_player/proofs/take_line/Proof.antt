@@ -23,13 +23,13 @@ event-requires c κs = search needs
 event-answer-requires : tie.Need-event-answer-requires
 event-answer-requires c κs = search needs
 
-quiet-requires : tie.Need-quiet-requires
-quiet-requires c κs = search needs
+silent-requires : tie.Need-silent-requires
+silent-requires c κs = search needs
 
 returns-2 : tie.Need-returns-2
 unfolding roomy
 returns-2 c =
-    line-refused (c .before .before .before .before .before .before .before .before .before .before .args .p) (c .before .before .before .before .before .before .before .before .before .before .args .table .now) (c .before .before .before .before .before .before .before .before .before .before .args .line .now) (c .before .before .before .before .before .before .before .before .before .before .args .out .now) (c .before .before .before .before .before .before .before .before .before .before .args .used) _ _ (c .before .before .before .before .event .ensures .0) (c .before .before .before .before .before .if1 .left) _ (c .before .before .event-answer .ensures (c .before .before .before .before .before .before .before .before .before .before .args .line .now)) (c .before .if2 .taken) (c .quiet .ensures (c .before .before .before .before .before .before .before .before .before .before .args .table .now))
+    line-refused (c .before .before .before .before .before .before .before .before .before .before .args .p) (c .before .before .before .before .before .before .before .before .before .before .args .table .now) (c .before .before .before .before .before .before .before .before .before .before .args .line .now) (c .before .before .before .before .before .before .before .before .before .before .args .out .now) (c .before .before .before .before .before .before .before .before .before .before .args .used) _ _ (c .before .before .before .before .event .ensures .0) (c .before .before .before .before .before .if1 .left) _ (c .before .before .event-answer .ensures (c .before .before .before .before .before .before .before .before .before .before .args .line .now)) (c .before .if2 .taken) (c .silent .ensures (c .before .before .before .before .before .before .before .before .before .before .args .table .now))
 
 play-event-requires : tie.Need-play-event-requires
 unfolding roomy
@@ -60,7 +60,7 @@ take-line-spec =
     returns
     event-requires
     event-answer-requires
-    quiet-requires
+    silent-requires
     returns-2
     play-event-requires
     with-used-requires

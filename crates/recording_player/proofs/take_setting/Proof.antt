@@ -1,8 +1,8 @@
 -- `recording_player::take_setting` meets its contract. Assumes nothing.
 use mathlib.Core.Path.{ap, _∙_}
 use Rattle.recording_player.specs.declared.Player.{Player}
-use Rattle.recording_player.specs.Player.{nextLine, settled, roomy, quietStep, toldOf}
-use Rattle.recording_player.proofs.Laws.{for-each, taken-as, quiet-using, reported-as, reported-quiet, heard-bad, heard-part, heard-whole}
+use Rattle.recording_player.specs.Player.{nextLine, settled, roomy, silentStep, toldOf}
+use Rattle.recording_player.proofs.Laws.{for-each, taken-as, silent-using, reported-as, reported-silent, heard-bad, heard-part, heard-whole}
 use borrow.Author.Needs.{needs}
 use Rattle.recording_player.proofs.take_setting.Statement.{statement}
 use Rattle.recording_player.proofs.take_setting.Tie as tie
@@ -25,8 +25,8 @@ next-line-requires c κs = search needs
 settle-requires : tie.Need-settle-requires
 settle-requires c κs = search needs
 
-quiet-requires : tie.Need-quiet-requires
-quiet-requires c κs = search needs
+silent-requires : tie.Need-silent-requires
+silent-requires c κs = search needs
 
 with-used-requires : tie.Need-with-used-requires
 with-used-requires c κs = search needs
@@ -50,10 +50,10 @@ returns-2 : tie.Need-returns-2
 returns-2 c =
     for-each
     (λ table.
-    quiet-using _ (settled (nextLine (c .before .before .before .before .before .before .before .before .before .before .before .args .p)) (c .before .before .before .before .before .heard .given .0 .0)) table (c .before .before .before .before .before .before .before .before .before .before .before .args .used) _ _ (c .before .before .before .before .before .before .before .before .before .before .before .args .out .now)
+    silent-using _ (settled (nextLine (c .before .before .before .before .before .before .before .before .before .before .before .args .p)) (c .before .before .before .before .before .heard .given .0 .0)) table (c .before .before .before .before .before .before .before .before .before .before .before .args .used) _ _ (c .before .before .before .before .before .before .before .before .before .before .before .args .out .now)
     (reported-as (roomy (c .before .before .before .before .before .before .before .before .before .before .before .args .out .now)) (c .before .before .before .before .before .before .before .before .before .before .before .args .p) table (c .before .before .before .before .before .before .before .before .before .before .before .args .used) (heard-part (c .before .before .before .before .before .before .before .before .before .before .before .args .p) table (c .before .before .before .before .before .before .before .before .before .before .before .args .line .now) _ (c .before .before .before .before .before .before .before .read-setting .ensures) (c .before .before .before .before .before .heard .given .0 .0) (c .before .before .before .before .before .heard .given .1))
-    ∙ reported-quiet (roomy (c .before .before .before .before .before .before .before .before .before .before .before .args .out .now)) (c .before .before .before .before .before .before .before .before .before .before .before .args .p) (settled (nextLine (c .before .before .before .before .before .before .before .before .before .before .before .args .p)) (c .before .before .before .before .before .heard .given .0 .0)) table (c .before .before .before .before .before .before .before .before .before .before .before .args .used))
-    (c .before .quiet .ensures table ∙ ap (λ (q : Player). toldOf (quietStep q table 0)) (c .before .before .settle .ensures ∙ ap (λ (q : Player). settled q (c .before .before .before .before .before .heard .given .0 .0)) (c .before .before .before .next-line .ensures))) (c .with-used .ensures))
+    ∙ reported-silent (roomy (c .before .before .before .before .before .before .before .before .before .before .before .args .out .now)) (c .before .before .before .before .before .before .before .before .before .before .before .args .p) (settled (nextLine (c .before .before .before .before .before .before .before .before .before .before .before .args .p)) (c .before .before .before .before .before .heard .given .0 .0)) table (c .before .before .before .before .before .before .before .before .before .before .before .args .used))
+    (c .before .silent .ensures table ∙ ap (λ (q : Player). toldOf (silentStep q table 0)) (c .before .before .settle .ensures ∙ ap (λ (q : Player). settled q (c .before .before .before .before .before .heard .given .0 .0)) (c .before .before .before .next-line .ensures))) (c .with-used .ensures))
 
 same-length-2 : tie.Need-same-length-2
 same-length-2 c = search needs
@@ -74,7 +74,7 @@ take-setting-spec =
     enum-known-heard
     next-line-requires
     settle-requires
-    quiet-requires
+    silent-requires
     with-used-requires
     enum-known-heard-2
     begin-state-requires

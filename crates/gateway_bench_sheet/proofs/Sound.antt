@@ -214,13 +214,13 @@ same-slots (a ∷ l) (b ∷ m) e =
     rw (h, t)
 
 abbrev settingsFrom : List ℕ → Settings
-settingsFrom l = record { asn = at 0 l; own = at 1 l; capability = at 2 l; net = at 3 l }
+settingsFrom l = record { asn = at 0 l; own = at 1 l; capability = at 2 l; net = at 3 l; quiet = at 4 l }
 
 same-settings : (a b : Settings) → sameSettings a b ≡ true → a ≡ b
 unfolding sameSettings
 same-settings a b e =
     ap settingsFrom
-    (same-numbers (a .asn ∷ a .own ∷ a .capability ∷ a .net ∷ []) (b .asn ∷ b .own ∷ b .capability ∷ b .net ∷ []) e)
+    (same-numbers (a .asn ∷ a .own ∷ a .capability ∷ a .net ∷ a .quiet ∷ []) (b .asn ∷ b .own ∷ b .capability ∷ b .net ∷ b .quiet ∷ []) e)
 
 same-state : (a b : State) → sameState a b ≡ true → a ≡ b
 unfolding sameState

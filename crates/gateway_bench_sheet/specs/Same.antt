@@ -107,10 +107,10 @@ sameSlots [] (b ∷ bs) = false
 sameSlots (a ∷ as′) [] = false
 sameSlots (a ∷ as′) (b ∷ bs) = sameSlot a b && sameSlots as′ bs
 
--- the same own AS, own address, capability and common net
+-- the same own AS, own address, capability, common net and `quiet`
 unfoldable pub sameSettings : Settings → Settings → Bool
 sameSettings a b =
-    sameNumbers (a .asn ∷ a .own ∷ a .capability ∷ a .net ∷ []) (b .asn ∷ b .own ∷ b .capability ∷ b .net ∷ [])
+    sameNumbers (a .asn ∷ a .own ∷ a .capability ∷ a .net ∷ a .quiet ∷ []) (b .asn ∷ b .own ∷ b .capability ∷ b .net ∷ b .quiet ∷ [])
 
 -- the same settings and slots
 unfoldable pub sameState : State → State → Bool

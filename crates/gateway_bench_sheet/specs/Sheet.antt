@@ -38,10 +38,10 @@ cNet = 3221554688
 
 -- a gateway of AS 9 and one of AS 7, both of capability 0: 01's "both ends capability 0, AS 7 and 9"
 unfoldable pub nine : Settings
-nine = record { asn = 9; own = ours; capability = 0; net = common }
+nine = record { asn = 9; own = ours; capability = 0; net = common; quiet = 0 }
 
 unfoldable pub seven : Settings
-seven = record { asn = 7; own = theirs; capability = 0; net = common }
+seven = record { asn = 7; own = theirs; capability = 0; net = common; quiet = 0 }
 
 -- 02, L5: ticks since a Hello and since a Poll, "holding at 120", "zeroed in Idle"
 unfoldable pub settled : Phase → ℕ

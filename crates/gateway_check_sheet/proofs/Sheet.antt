@@ -20,6 +20,8 @@ check-sheet =
       writings = refl;
       listings = refl;
       effects = refl;
+      strays = refl;
+      refused-strays = refl;
       indications = refl;
       class-c = refl;
     }

@@ -5,7 +5,7 @@ use Rattle.neighbour.specs.declared.Phase.the-variants.{Idle, Acquisition, Down
 use Rattle.neighbour.specs.declared.Mode.the-variants.{Unset, Active, Passive}
 use Rattle.gateway_state.specs.declared.Slot.{Slot}
 use Rattle.gateway_state.specs.declared.State.{State}
-use Rattle.gateway_check_sheet.specs.Given.{ip, common, ours, theirs, others, set, nine, made, since, resting, asking, falling, reporting, slot, vacant, state, withoutNeighbours, nothing, inSlotTwo, full}
+use Rattle.gateway_check_sheet.specs.Given.{ip, common, ours, theirs, others, set, nine, nineWith, made, since, resting, asking, falling, reporting, slot, vacant, state, withoutNeighbours, nothing, inSlotTwo, full}
 use Rattle.gateway_check_sheet.specs.Line.{Line, remove}
 
 -- To remove address 0, which no used slot has, answers 1 where the state is not well formed, else 5.
@@ -35,6 +35,10 @@ forms =
     formed (withoutNeighbours (set 9 ours 2 common)) ∷
     unformed (withoutNeighbours (set 9 ours 3 common)) ∷
     unformed (withoutNeighbours (set 9 ours 255 common)) ∷
+    -- own values: `quiet` "is 0 or 1 (anything else is .. not well formed in a state)"
+    formed (withoutNeighbours (nineWith 1)) ∷
+    unformed (withoutNeighbours (nineWith 2)) ∷
+    unformed (withoutNeighbours (nineWith 255)) ∷
     -- own values: "a common net that isn't a left-justified class A, B or C net"
     formed (withoutNeighbours (set 9 (ip 127 255 255 255) 0 (ip 127 0 0 0))) ∷
     unformed (withoutNeighbours (set 9 (ip 127 0 0 1) 0 (ip 127 0 0 1))) ∷

@@ -51,9 +51,13 @@ others = ip 128 9 0 6
 unfoldable pub nobody : ℕ
 nobody = ip 128 9 0 7
 
--- own AS, own address, capability, common net
+-- own AS, own address, capability, common net; stray messages are answered
 unfoldable pub set : ℕ → ℕ → ℕ → ℕ → Settings
-set asn own capability net = record { asn = asn; own = own; capability = capability; net = net }
+set asn own capability net = record { asn = asn; own = own; capability = capability; net = net; quiet = 0 }
+
+-- AS 9 at 128.9.0.1 on 128.9.0.0, capability 0, and this `quiet`
+unfoldable pub nineWith : ℕ → Settings
+nineWith quiet = record { asn = 9; own = ours; capability = 0; net = common; quiet = quiet }
 
 unfoldable pub nine : Settings
 nine = set 9 ours 0 common

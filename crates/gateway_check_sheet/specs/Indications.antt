@@ -81,9 +81,9 @@ indicationLines =
     hearsUpdate activeDown "02 01 00 80 7C 6B 00 07 00 03 01 00 80 09 00 00 00" 0 "" (inSlotTwo (made Down 3 5 32 122 Active 20 0 3600 0 1 0) 0) ∷
     hearsUpdate activeDown "02 01 00 81 7C 6A 00 07 00 03 01 00 80 09 00 00 00" 0 "" (inSlotTwo (made Down 3 5 32 122 Active 20 0 3600 0 1 0) 0) ∷
     hearsUpdate activeDown "02 01 00 82 7C 69 00 07 00 03 01 00 80 09 00 00 00" 0 "" (inSlotTwo (made Down 3 5 32 122 Active 20 0 3600 0 1 0) 0) ∷
-    -- Idle, Acquisition and Cease note nothing
-    hearsUpdate (inSlotTwo resting 0) "02 01 00 01 7D EA 00 07 00 03 00 00 80 09 00 00" 0 "" (inSlotTwo resting 0) ∷
-    hearsUpdate (inSlotTwo resting 0) "02 01 00 81 7D 6A 00 07 00 03 00 00 80 09 00 00" 0 "" (inSlotTwo resting 0) ∷
+    -- Idle, Acquisition and Cease note nothing; Idle answers with a Cease (02, L6)
+    hearsUpdate (inSlotTwo resting 0) "02 01 00 01 7D EA 00 07 00 03 00 00 80 09 00 00" 0 "02 03 03 07 FA EC 00 09 00 00" (inSlotTwo resting 0) ∷
+    hearsUpdate (inSlotTwo resting 0) "02 01 00 81 7D 6A 00 07 00 03 00 00 80 09 00 00" 0 "02 03 03 07 FA EC 00 09 00 00" (inSlotTwo resting 0) ∷
     hearsUpdate (inSlotTwo asking 0) "02 01 00 01 7D EA 00 07 00 03 00 00 80 09 00 00" 0 "" (inSlotTwo asking 0) ∷
     hearsUpdate (inSlotTwo asking 0) "02 01 00 81 7D 6A 00 07 00 03 00 00 80 09 00 00" 0 "" (inSlotTwo asking 0) ∷
     hearsUpdate (inSlotTwo ceasing 0) "02 01 00 01 7D EA 00 07 00 03 00 00 80 09 00 00" 0 "" (inSlotTwo ceasing 0) ∷

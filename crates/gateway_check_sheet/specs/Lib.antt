@@ -14,4 +14,5 @@ pub mod Listings
 pub mod Effects
 pub mod Indications
 pub mod Spacings
+pub mod Strays
 pub mod Sheet

@@ -103,22 +103,24 @@ numbers =
     -- tick 5: "no used slot has this address", 0 included
     event Tick inIdle 3072 2048 nobody 5 0 0 [] ∷
     event Tick inIdle 3072 2048 0 5 0 0 [] ∷
-    -- message 0: "the call was carried out, even if it changes nothing"
-    heard inIdle "02 05 00 00 FD EA 00 07 00 09" 0 0 0 "" ∷
-    message inIdle 3072 2049 [] theirs (hex "02 05 00 00 FD EA 00 07 00 09") 0 0 0 [] ∷
-    message full 3072 2048 [] (ip 128 9 0 17) (hex "02 05 00 00 FD E0 00 11 00 09") 0 0 0 [] ∷
+    -- message 0: "the call was carried out, even if it changes nothing"; a Hello in Idle draws the Cease of 02, L6
+    heard inIdle "02 05 00 00 FD EA 00 07 00 09" 0 10 0 "02 03 03 07 FA EC 00 09 00 00" ∷
+    message inIdle 3072 2049 [] theirs (hex "02 05 00 00 FD EA 00 07 00 09") 0 10 0 (hex "02 03 03 07 FA EC 00 09 00 00") ∷
+    message full 3072 2048 [] (ip 128 9 0 17) (hex "02 05 00 00 FD E0 00 11 00 09") 0 10 0 (hex "02 03 03 07 FA EC 00 09 00 00") ∷
     -- message 1: "state not well formed"
     heard unsound "02 05 00 00 FD EA 00 07 00 09" 1 0 0 "" ∷
     -- message 2: "table not 3,072 numbers"
     message inIdle 3071 2048 [] theirs (hex "02 05 00 00 FD EA 00 07 00 09") 2 0 0 [] ∷
     message inIdle 3073 2048 [] theirs (hex "02 05 00 00 FD EA 00 07 00 09") 2 0 0 [] ∷
     message inIdle 1024 2048 [] theirs (hex "02 05 00 00 FD EA 00 07 00 09") 2 0 0 [] ∷
-    -- message 3: "reply .. buffer too short", though nothing would be sent
+    -- message 3: "reply .. buffer too short": a Hello, and a Cease-ack, to which nothing would be sent
     message inIdle 3072 2047 [] theirs (hex "02 05 00 00 FD EA 00 07 00 09") 3 0 0 [] ∷
     message inIdle 3072 32 [] theirs (hex "02 05 00 00 FD EA 00 07 00 09") 3 0 0 [] ∷
+    message inIdle 3072 2047 [] theirs (hex "02 03 04 00 F9 EC 00 07 00 09") 3 0 0 [] ∷
+    message inIdle 3072 32 [] theirs (hex "02 03 04 00 F9 EC 00 07 00 09") 3 0 0 [] ∷
     -- message 4: "bad home list"; a good one of one row
     message inIdle 3072 2048 (ip 10 0 0 0 ∷ ours ∷ 256 ∷ []) theirs (hex "02 05 00 00 FD EA 00 07 00 09") 4 0 0 [] ∷
-    message inIdle 3072 2048 (ip 10 0 0 0 ∷ ours ∷ 255 ∷ []) theirs (hex "02 05 00 00 FD EA 00 07 00 09") 0 0 0 [] ∷
+    message inIdle 3072 2048 (ip 10 0 0 0 ∷ ours ∷ 255 ∷ []) theirs (hex "02 05 00 00 FD EA 00 07 00 09") 0 10 0 (hex "02 03 03 07 FA EC 00 09 00 00") ∷
     -- message 5: "no used slot has this address", 0 included
     message inIdle 3072 2048 [] nobody (hex "02 05 00 00 FD EA 00 07 00 09") 5 0 0 [] ∷
     message inIdle 3072 2048 [] 0 (hex "02 05 00 00 FD EA 00 07 00 09") 5 0 0 [] ∷

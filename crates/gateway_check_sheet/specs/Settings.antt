@@ -1,6 +1,6 @@
 -- 16 from fresh and add, and the slot that add takes.
 use mathlib.Core.List.{List, [], _∷_}
-use Rattle.gateway_check_sheet.specs.Given.{ip, common, ours, theirs, others, nobody, set, nine, resting, reporting, slot, vacant, state, withoutNeighbours, nothing, inIdle, inUp}
+use Rattle.gateway_check_sheet.specs.Given.{ip, common, ours, theirs, others, nobody, set, nine, nineWith, resting, reporting, slot, vacant, state, withoutNeighbours, nothing, inIdle, inUp}
 use Rattle.gateway_check_sheet.specs.Line.{Line, fresh, add}
 
 -- 01: "Fresh refuses 16 for own AS 0, capability above 2, a common net that isn't a left-justified class A, B or C net,
@@ -17,6 +17,11 @@ settingLines =
     fresh (set 9 ours 2 common) 0 (withoutNeighbours (set 9 ours 2 common)) ∷
     fresh (set 9 ours 3 common) 16 nothing ∷
     fresh (set 9 ours 255 common) 16 nothing ∷
+    -- fresh: `quiet` "is 0 or 1 (anything else is 16 from fresh ..)"
+    fresh (nineWith 0) 0 (withoutNeighbours (set 9 ours 0 common)) ∷
+    fresh (nineWith 1) 0 (withoutNeighbours (nineWith 1)) ∷
+    fresh (nineWith 2) 16 nothing ∷
+    fresh (nineWith 255) 16 nothing ∷
     -- fresh: "a left-justified class A .. net"; 0.0.0.0 is one, and own address 0 is on it
     fresh (set 9 0 0 0) 0 (withoutNeighbours (set 9 0 0 0)) ∷
     fresh (set 9 (ip 0 255 255 255) 0 0) 0 (withoutNeighbours (set 9 (ip 0 255 255 255) 0 0)) ∷

@@ -18,6 +18,7 @@ use Rattle.gateway_check_sheet.specs.Writings.{writings}
 use Rattle.gateway_check_sheet.specs.Listings.{listings}
 use Rattle.gateway_check_sheet.specs.Effects.{effects, readOnC, writtenOnC}
 use Rattle.gateway_check_sheet.specs.Effects as Effects
+use Rattle.gateway_check_sheet.specs.Strays.{strays, refusedStrays}
 use Rattle.gateway_check_sheet.specs.Indications.{indicationLines}
 use Rattle.gateway_check_sheet.specs.Indications as Indications
 
@@ -49,6 +50,10 @@ pub record CheckSheet : Type 0 where
   pub listings : map computed listings ≡ map written listings
   -- what a call that is carried out leaves in the state, the buffer and the table
   pub effects : map Effects.computed effects ≡ map Effects.written effects
+  -- what a stray message to an idle neighbour draws, with `quiet` 0 and 1
+  pub strays : map Effects.computed strays ≡ map Effects.written strays
+  -- and that a check that refuses it comes first
+  pub refused-strays : map computed refusedStrays ≡ map written refusedStrays
   -- which Update is an indication, and that a refused one is none
   pub indications : map Indications.computed indicationLines ≡ map Indications.written indicationLines
   -- an Update read on a net of class C

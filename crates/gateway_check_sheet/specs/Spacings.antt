@@ -133,7 +133,7 @@ spacings =
     -- a refusal keeps heard and t3 of the last one carried out
     hears (inSlotTwo (since 1 83 (made Up 3 5 32 122 Passive 20 60 3600 7 1 0)) 2) "02 05 00 01 FD EC 00 07 00 06" 21 "02 08 00 01 FD E4 00 09 00 05 00 04 02 05 00 01 FD EC 00 07 00 06 00 00"
     (inSlotTwo (since 1 83 (made Up 3 5 32 122 Passive 20 60 3600 7 1 0)) 2) ∷
-    -- outside Down and Up no Hello and no Poll comes too soon, and the counts stay
+    -- outside Down and Up no Hello and no Poll comes too soon, and the counts stay; Idle answers with a Cease (02, L6)
     hears (inSlotTwo (since 0 1 (made Acquisition 3 5 0 0 Unset 20 0 100 0 0 0)) 0) "02 05 00 01 FD E9 00 07 00 09" 0 ""
     (inSlotTwo (since 0 1 (made Acquisition 3 9 0 0 Unset 20 0 100 0 0 0)) 0) ∷
     hears (inSlotTwo (since 0 1 (made Acquisition 3 5 0 0 Unset 20 0 100 0 0 0)) 0) "02 02 00 01 7D E3 00 07 00 09 00 00 80 09 00 00" 0 ""
@@ -142,9 +142,9 @@ spacings =
     (inSlotTwo (since 0 1 (made Cease 3 9 0 0 Unset 20 0 100 0 0 6)) 0) ∷
     hears (inSlotTwo (since 0 1 (made Cease 3 5 0 0 Unset 20 0 100 0 0 6)) 0) "02 02 00 01 7D E3 00 07 00 09 00 00 80 09 00 00" 0 ""
     (inSlotTwo (since 0 1 (made Cease 3 9 0 0 Unset 20 0 100 0 0 6)) 0) ∷
-    hears (inSlotTwo resting 0) "02 05 00 01 FD E9 00 07 00 09" 0 ""
+    hears (inSlotTwo resting 0) "02 05 00 01 FD E9 00 07 00 09" 0 "02 03 03 07 FA EC 00 09 00 00"
     (inSlotTwo resting 0) ∷
-    hears (inSlotTwo resting 0) "02 02 00 01 7D E3 00 07 00 09 00 00 80 09 00 00" 0 ""
+    hears (inSlotTwo resting 0) "02 02 00 01 7D E3 00 07 00 09 00 00 80 09 00 00" 0 "02 03 03 07 FA EC 00 09 00 00"
     (inSlotTwo resting 0) ∷
     -- the checks before it answer first: a status not allowed, a length wrong, another AS, a checksum wrong
     hears (inSlotTwo (since 0 0 (made Up 3 5 32 122 Active 20 60 100 7 0 0)) 2) "02 05 00 03 FD E7 00 07 00 09" 11 "02 08 00 01 FD E7 00 09 00 05 00 01 02 05 00 03 FD E7 00 07 00 09 00 00"

@@ -23,13 +23,14 @@ emptyState g = record { settings = g; slots = freeSlots }
 
 -- before anything is set
 abbrev pub noSettings : Settings
-noSettings = record { asn = 0; own = 0; capability = 0; net = 0 }
+noSettings = record { asn = 0; own = 0; capability = 0; net = 0; quiet = 0 }
 
 -- 01: "the all-zero state"
 unfoldable pub zeroState : State
 zeroState = emptyState noSettings
 
--- 01: "Fresh refuses 16 for own AS 0, capability above 2, a common net that isn't .., or an own address off that net"
+-- 01: "Fresh refuses 16 for own AS 0, capability above 2, a common net that isn't .., or an own address off that net";
+-- 02: the setting "is 0 or 1 (anything else is 16 from fresh ..)"
 unfoldable pub freshAnswer : Settings → ℕ
 freshAnswer g = check (goodSettings g) 16 0
 

@@ -35,6 +35,7 @@ pub fn fresh(settings: Settings) -> Outcome
             own: 0,
             capability: 0,
             net: 0,
+            quiet: 0,
         };
         return gateway_state::refused(empty(none), 16);
     }

@@ -99,6 +99,7 @@ formed-settings st f =
     record {
       asn = eqb-false ((st .settings) .asn) 0 (not-true _ (search (and-left, and-right)));
       capability = leb-true _ _ (search (and-left, and-right));
+      quiet = leb-true _ _ (search (and-left, and-right));
       net = search (and-left, and-right);
       own = search (and-left, and-right);
     }

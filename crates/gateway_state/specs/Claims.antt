@@ -44,6 +44,7 @@ SlotStays =
 pub record SettingsGood (g : Settings) : Type 0 where
   pub asn : g .asn ≡ 0 → ⊥
   pub capability : g .capability ≤ 2
+  pub quiet : g .quiet ≤ 1
   pub net : goodNet (g .net) ≡ true
   pub own : onNet (g .net) (g .own) ≡ true
 

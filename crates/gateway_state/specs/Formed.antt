@@ -13,9 +13,10 @@ use Rattle.gateway_state.specs.declared.State.{State}
 use Rattle.gateway_state.specs.Slots.{addresses, apart}
 use Rattle.gateway_state.specs.Places.{slotRows}
 
--- 01: "Fresh refuses 16 for own AS 0, capability above 2, a common net that isn't a left-justified class A, B or C net, or an own address off that net"
+-- 01: "Fresh refuses 16 for own AS 0, capability above 2, a common net that isn't a left-justified class A, B or C net, or an own address off that net".
+-- 02: "The setting is 0 or 1 (anything else is 16 from fresh and not well formed in a state)"
 unfoldable pub goodSettings : Settings → Bool
-goodSettings g = not (eqb (g .asn) 0) && leb (g .capability) 2 && goodNet (g .net) && onNet (g .net) (g .own)
+goodSettings g = not (eqb (g .asn) 0) && leb (g .capability) 2 && leb (g .quiet) 1 && goodNet (g .net) && onNet (g .net) (g .own)
 
 -- 01: "Add refuses 16 for AS 0 or own AS, or an address that is 0, our own"; "or present" is judged of the state
 unfoldable pub goodPeer : Settings → ℕ → ℕ → Bool

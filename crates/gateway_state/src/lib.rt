@@ -134,6 +134,9 @@ pub fn good_settings(settings: Settings) -> bool
     if 2 < settings.capability {
         return false;
     }
+    if 1 < settings.quiet {
+        return false;
+    }
     if !nets::good_net(settings.net) {
         return false;
     }

@@ -23,7 +23,7 @@ use Rattle.listing_lines.specs.Listing.{entries, listingChecks, listingO
 
 -- own AS 9, own address 128.9.0.1, on 128.9.0.0
 unfoldable pub caseSettings : Settings
-caseSettings = record { asn = 9; own = 2148073473; capability = 0; net = 2148073472 }
+caseSettings = record { asn = 9; own = 2148073473; capability = 0; net = 2148073472; quiet = 0 }
 
 -- 01: T1 32, T2 122, as the least offer gives
 unfoldable pub acquiredNeighbour : Phase → Mode → ℕ → Neighbour

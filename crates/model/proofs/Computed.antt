@@ -5,7 +5,7 @@ use mathlib.Core.Bool.{Bool, true, false, _&&_}
 use mathlib.Core.List.{List, [], _∷_, _++_}
 use lib.Dec.{ltb, eqb}
 use lib.ListN.{length}
-use Rattle.neighbour.specs.declared.Phase.the-variants.{Up}
+use Rattle.neighbour.specs.declared.Phase.the-variants.{Idle, Up}
 use Rattle.neighbour.specs.declared.Mode.the-variants.{Passive}
 use Rattle.neighbour.specs.declared.Neighbour.{Neighbour}
 use Rattle.neighbour.specs.Record.{isUp, acquired, withNumbers, withTimers, withReach, initialised}
@@ -20,7 +20,7 @@ use Rattle.model.specs.Theorem.{cell, stateOf, rowsHeld}
 use Rattle.model.specs.Windows.{recordIn, brings, restartsNone, windows, latest}
 use Rattle.model.specs.Corollaries.{reports}
 use Rattle.model.specs.Quick.{helloComes, isOtherHello, helloEveryTick}
-use Rattle.model.specs.Example.{someSettings, lentBuffer, classA, tickSeconds, saysHello, reportingCalls, eight, pollRounds, almostUp, acquiredCalls, greeted, helloSeconds, slow, lateFirst}
+use Rattle.model.specs.Example.{someSettings, quietSettings, lentBuffer, classA, tickSeconds, saysHello, reportingCalls, eight, pollRounds, almostUp, acquiredCalls, greeted, abandoned, helloSeconds, slow, lateFirst}
 use Rattle.model.proofs.Unfolded.{opened}
 
 -- ---- what is claimed of a model: single fields, so that others may be added to a record
@@ -78,6 +78,12 @@ greetedFacts m =
     eqb ((cell (slotIn m 0)) .asn) 7
     && (acquired ((recordIn m 0) .phase) && (ltb ((recordIn m 0) .sincehello) 30 && ltb ((recordIn m 0) .sincepoll) 120))
 
+-- the first is Idle, at address 1 with AS 7
+pub record IdleAgain (m : Model) : Type 0 where
+  pub address : (cell (slotIn m 0)) .address ≡ 1
+  pub asn : (cell (slotIn m 0)) .asn ≡ 7
+  pub phase : (recordIn m 0) .phase ≡ Idle
+
 pub record Computed : Type 0 where
   pub all-up : eightFacts (modelFrom (empty someSettings) eight) ≡ true
   pub silent : silentFacts (modelFrom (empty someSettings) (eight ++ tickSeconds 1 609)) ≡ true
@@ -106,6 +112,9 @@ pub record Computed : Type 0 where
   pub both-heard : windows (modelFrom (empty someSettings) (acquiredCalls ++ (saysHello 1 ∷ []))) 0 true (helloSeconds 1 64) ≡ true ∷ true ∷ []
   pub other : brings isOtherHello (modelFrom (empty someSettings) acquiredCalls) 0 (receive 1 (messageOctets (Hello 7 0 2) []) [] lentBuffer) ≡ true
   pub greeted-so : greetedFacts (modelFrom (empty someSettings) greeted) ≡ true
+  -- the one that was given up
+  pub idle-again : IdleAgain (modelFrom (empty someSettings) abandoned)
+  pub idle-quietly : IdleAgain (modelFrom (empty quietSettings) abandoned)
 
 pub computed : Computed
 unfolding opened entered isFull allReport fallsSilent eightFacts silentFacts atRest alone greetedFacts
@@ -133,4 +142,6 @@ computed =
       both-heard = refl;
       other = refl;
       greeted-so = refl;
+      idle-again = record { address = refl; asn = refl; phase = refl };
+      idle-quietly = record { address = refl; asn = refl; phase = refl };
     }

@@ -19,7 +19,7 @@ use Rattle.nets.specs.Rows.{Row}
 use Rattle.update_rows.specs.Storing as Storing
 use Rattle.message.specs.Kinds as Kinds
 use Rattle.message.specs.declared.Message.{Message}
-use Rattle.message.specs.declared.Message.the-variants.{Request, Cease, Hello, Poll, Update}
+use Rattle.message.specs.declared.Message.the-variants.{Request, Confirm, Refuse, Cease, CeaseAck, Hello, IHeardYou, Poll, Update, Error}
 use Rattle.message_reading.specs.Reading as Wire
 use Rattle.message_reading.specs.Reading.{headerAnswer, asnAt, decodeOf}
 use Rattle.message_writing.specs.Writing as Writing
@@ -35,26 +35,27 @@ use Rattle.neighbour.specs.Rules.{onesOf, goesDown}
 use Rattle.gateway_state.specs.Outcomes as Outcomes
 use Rattle.gateway_state.specs.Formed as Formed
 use Rattle.gateway_state.specs.Formed.{stateFormed}
-use Rattle.gateway_state.specs.declared.State.{State}
 use Rattle.gateway_state.specs.declared.Slot as Stored
 use Rattle.gateway_state.specs.Slots.{slotAt}
 use Rattle.gateway_state.proofs.ListLaws.{every-set, every-in}
 use Rattle.gateway_slots.specs.Calls as Slots
 use Rattle.gateway_rules.specs.Home as Home
 use Rattle.gateway_rules.specs.Home.{goodHome}
-use Rattle.model.specs.Model.{Call, tick, Slot, free, used, Model, slotIn, put, step, model, modelFrom, empty}
+use Rattle.model.specs.Model.{Call, tick, Slot, free, used, Model, slotIn, put, model, modelFrom, empty}
 use Rattle.model.specs.Theorem.{Gateway, outcomeOf, listsNothing, gatewayStep, run, cell, stateOf, rowsHeld, rowsAt, Sensible}
 use Rattle.model.specs.Corollaries.{Taken, slotOn, isUpOn, reports, BothReport, Says, SaysRows}
 use Rattle.model.specs.History.{isUpSlot}
 use Rattle.model.specs.Windows.{recordIn, windows, anyOf, firstFour, oneInFour}
-use Rattle.model.specs.Example.{someSettings, lentBuffer, classA, tickSeconds, saysHello, reportingCalls, eight, pollRounds, lastNumber, almostUp, acquiredCalls, greeted, slow, late, lateFirst, overdue, EightMet, TimeOutMet, FullMet, LastNumberMet, QuietMet, IndicationMet, EverySecondMet, UnheardMet, TooQuickMet}
+use Rattle.model.specs.Strays.{ceaseSeven}
+use Rattle.model.specs.Example.{someSettings, quietSettings, lentBuffer, classA, tickSeconds, saysHello, reportingCalls, eight, pollRounds, lastNumber, almostUp, acquiredCalls, greeted, abandoned, slow, late, lateFirst, overdue, EightMet, TimeOutMet, FullMet, LastNumberMet, QuietMet, IndicationMet, EverySecondMet, UnheardMet, TooQuickMet, CallsOn, StrayMet}
 use Rattle.model.proofs.Represent.{sound, Good, sound-at}
 use Rattle.model.proofs.Simulation.{represent, simulates}
-use Rattle.model.proofs.History.{model-append, step-settings}
-use Rattle.model.proofs.Theorem.{step-is, rows-read, run-is, run-state, model-good, last}
+use Rattle.model.proofs.History.{model-append}
+use Rattle.model.proofs.Theorem.{step-is, rows-read, run-is, model-good, last}
 use Rattle.model.proofs.Corollaries.{slot-is, good-sensible}
 use Rattle.model.proofs.Quiet.{slot-run, up-run}
-use Rattle.model.proofs.Computed.{isFull, allReport, fallsSilent, eightFacts, silentFacts, atRest, alone, Rests, entered, greetedFacts, computed}
+use Rattle.model.proofs.Strays.{settings-stay}
+use Rattle.model.proofs.Computed.{isFull, allReport, fallsSilent, eightFacts, silentFacts, atRest, alone, Rests, entered, greetedFacts, IdleAgain, computed}
 
 some-taken : Taken someSettings
 unfolding someSettings Slots.freshOf Slots.freshAnswer Outcomes.silentOf check Formed.goodSettings Classes.goodNet Classes.onNet Classes.netWidth Classes.hostSpan
@@ -67,15 +68,8 @@ rows-of calls j j8 =
     ap (λ (b : Gateway). rowsAt b j) (run-is someSettings some-taken calls)
     ∙ rows-read (model someSettings calls) (model-good someSettings some-taken calls) j j8
 
-settings-from : (m : Model) (calls : List Call) → (modelFrom m calls) .settings ≡ m .settings
-unfolding modelFrom
-settings-from m [] = refl
-settings-from m (call ∷ rest) = settings-from ((step call m) .model) rest ∙ step-settings call m
-
 run-settings : (calls : List Call) → (run someSettings calls) .state .settings ≡ someSettings
-unfolding stateOf model empty
-run-settings calls =
-    ap (λ (s : State). s .settings) (run-state someSettings some-taken calls) ∙ settings-from (empty someSettings) calls
+run-settings calls = settings-stay someSettings some-taken calls
 
 -- ---- eight neighbours
 
@@ -191,6 +185,18 @@ pub record ReadBack : Type 0 where
   pub hello : Reads (messageOctets (Hello 7 0 1) []) (Hello 7 0 1)
   pub poll : Reads (messageOctets (Poll 7 0 1 2148073472) []) (Poll 7 0 1 2148073472)
 
+-- and of these
+pub record StraysBack : Type 0 where
+  pub confirm : Reads (messageOctets (Confirm 7 4 0 30 120) []) (Confirm 7 4 0 30 120)
+  pub refuse : Reads (messageOctets (Refuse 7 4 6) []) (Refuse 7 4 6)
+  pub hello : Reads (messageOctets (Hello 7 4 1) []) (Hello 7 4 1)
+  pub i-heard-you : Reads (messageOctets (IHeardYou 7 4 1) []) (IHeardYou 7 4 1)
+  pub poll : Reads (messageOctets (Poll 7 4 1 2148073472) []) (Poll 7 4 1 2148073472)
+  pub update : Reads (messageOctets (Update 7 4 1 2148073472) (classA 10 1)) (Update 7 4 1 2148073472)
+  pub bad-body : Reads (messageOctets (Update 7 4 1 2148073472) [] ++ (0 ∷ [])) (Update 7 4 1 2148073472)
+  pub cease-ack : Reads (messageOctets (CeaseAck 7 4 0) []) (CeaseAck 7 4 0)
+  pub error : Reads (messageOctets (Error 7 4 1 2 0 0 0) []) (Error 7 4 1 2 0 0 0)
+
 read-back : ReadBack
 unfolding check Wire.headerAnswer Wire.meaningOf Wire.decodeAs Wire.decodeOf Wire.decodedNumber Writing.headOf Octets.plainOctets Blocks.sideRows Blocks.joined Blocks.runs Blocks.each Blocks.addressOctets Blocks.netOctets Blocks.hostOctets Blocks.netsOctets Blocks.groupOctets Blocks.groupsOctets Blocks.blockOctets Blocks.sideOctets Blocks.blocksWritten Blocks.internalBlocks Blocks.externalBlocks Kinds.kindAt Kinds.plainStatus Kinds.refusalStatus Kinds.markedStatus Checksum.onesAdd Checksum.onesSum Checksum.checksumOf Checksum.sealed Checksum.wordTotal Checksum.folded Octets.messageOctets Classes.netWidth Classes.hostSpan Classes.goodNet Classes.onNet Body.extended Body.many Body.leftJustified Body.rowOfWidth Body.netRow Body.groupRows Body.hostWidth Body.gatewayOf Body.blockRows Body.groupAt Body.blockAt Body.sidesAt Body.groupsHold Body.blocksHold Body.sidesHold Body.readAs Body.bothSides Body.nothingLeft Body.bodyOf Body.further Body.netAt Body.walkedBlocks Body.readWithin Body.updateOf Body.updateNumber Body.rowsRead classA someSettings join
 read-back =
@@ -205,6 +211,21 @@ read-back =
       marked-update = record { header = refl; from = refl; meaning = refl };
       hello = record { header = refl; from = refl; meaning = refl };
       poll = record { header = refl; from = refl; meaning = refl };
+    }
+
+strays-back : StraysBack
+unfolding check Wire.headerAnswer Wire.meaningOf Wire.decodeAs Wire.decodeOf Wire.decodedNumber Writing.headOf Octets.plainOctets Blocks.sideRows Blocks.joined Blocks.runs Blocks.each Blocks.addressOctets Blocks.netOctets Blocks.hostOctets Blocks.netsOctets Blocks.groupOctets Blocks.groupsOctets Blocks.blockOctets Blocks.sideOctets Blocks.blocksWritten Blocks.internalBlocks Blocks.externalBlocks Kinds.kindAt Kinds.plainStatus Kinds.refusalStatus Kinds.markedStatus Checksum.onesAdd Checksum.onesSum Checksum.checksumOf Checksum.sealed Checksum.wordTotal Checksum.folded Octets.messageOctets Classes.netWidth Classes.hostSpan Classes.goodNet Classes.onNet Body.extended Body.many Body.leftJustified Body.rowOfWidth Body.netRow Body.groupRows Body.hostWidth Body.gatewayOf Body.blockRows Body.groupAt Body.blockAt Body.sidesAt Body.groupsHold Body.blocksHold Body.sidesHold Body.readAs Body.bothSides Body.nothingLeft Body.bodyOf Body.further Body.netAt Body.walkedBlocks Body.readWithin Body.updateOf Body.updateNumber Body.rowsRead classA someSettings join
+strays-back =
+    record {
+      confirm = record { header = refl; from = refl; meaning = refl };
+      refuse = record { header = refl; from = refl; meaning = refl };
+      hello = record { header = refl; from = refl; meaning = refl };
+      i-heard-you = record { header = refl; from = refl; meaning = refl };
+      poll = record { header = refl; from = refl; meaning = refl };
+      update = record { header = refl; from = refl; meaning = refl };
+      bad-body = record { header = refl; from = refl; meaning = refl };
+      cease-ack = record { header = refl; from = refl; meaning = refl };
+      error = record { header = refl; from = refl; meaning = refl };
     }
 
 -- the record in the first slot of a run
@@ -537,3 +558,60 @@ too-quick-met =
       poll = says-greeted _ _ (read-back .poll);
       as-soon = subst (λ (n : Neighbour). n .sincepoll < 120) is (poll-soon _ greeted-facts);
     }
+
+-- ---- a neighbour that was given up
+
+quiet-taken : Taken quietSettings
+unfolding quietSettings Slots.freshOf Slots.freshAnswer Outcomes.silentOf check Formed.goodSettings Classes.goodNet Classes.onNet Classes.netWidth Classes.hostSpan
+quiet-taken = refl
+
+home-quietly : goodHome quietSettings [] ≡ true
+unfolding Home.goodHome Home.ownFirst Rows.rowsOf every
+home-quietly = refl
+
+module _ (g : Settings) (taken : Taken g) (quiet : ℕ) (setting : g .quiet ≡ quiet) (nine : g .asn ≡ 9) (home : goodHome g [] ≡ true) (so : IdleAgain (model g abandoned)) where
+  calls-on : (o : List ℕ) (x : Message) → Reads o x → CallsOn g o x
+  unfolding recordIn
+  calls-on o x r =
+      let is = slot-run g taken abandoned 0 in
+      record {
+        known = λ e. absurd (omega (arith, so .address, sym (ap (λ (s : Stored.Slot). s .address) is) ∙ e));
+        idle = ap (λ (s : Stored.Slot). s .neighbour .phase) is ∙ so .phase;
+        says =
+            record {
+              room = enough;
+              good-home = ap (λ (h : Settings). goodHome h []) (settings-stay g taken abandoned) ∙ home;
+              header = r .header;
+              from = r .from ∙ sym (ap (λ (s : Stored.Slot). s .asn) is ∙ so .asn);
+              meaning = r .meaning;
+            };
+      }
+
+  drawn-is : ceaseSeven (g .asn) ≡ 2 ∷ 3 ∷ 3 ∷ 7 ∷ 250 ∷ 236 ∷ 0 ∷ 9 ∷ 0 ∷ 0 ∷ []
+  unfolding ceaseSeven Checksum.sealed Checksum.checksumOf Checksum.onesSum Checksum.onesAdd
+  drawn-is = ap ceaseSeven nine
+
+  stray-met : StrayMet g quiet
+  stray-met =
+      record {
+        taken = taken;
+        setting = setting;
+        confirm = calls-on _ _ (strays-back .confirm);
+        refuse = calls-on _ _ (strays-back .refuse);
+        hello = calls-on _ _ (strays-back .hello);
+        i-heard-you = calls-on _ _ (strays-back .i-heard-you);
+        poll = calls-on _ _ (strays-back .poll);
+        update = calls-on _ _ (strays-back .update);
+        bad-body = calls-on _ _ (strays-back .bad-body);
+        cease-ack = calls-on _ _ (strays-back .cease-ack);
+        error = calls-on _ _ (strays-back .error);
+        drawn = drawn-is;
+      }
+
+pub stray-answered-met : StrayMet someSettings 0
+unfolding model someSettings
+stray-answered-met = stray-met someSettings some-taken 0 refl refl home-empty (computed .idle-again)
+
+pub stray-ignored-met : StrayMet quietSettings 1
+unfolding model quietSettings
+stray-ignored-met = stray-met quietSettings quiet-taken 1 refl refl home-quietly (computed .idle-quietly)

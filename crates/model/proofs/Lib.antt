@@ -18,6 +18,7 @@ pub mod Quiet
 pub mod Quick
 pub mod QuickRuns
 pub mod TooQuick
+pub mod Strays
 pub mod Unfolded
 pub mod Computed
 pub mod Example

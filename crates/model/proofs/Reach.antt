@@ -124,18 +124,22 @@ module _ (P : Neighbour → Type 0) (g : Settings) (n : Neighbour) (same : P n) 
   unfolding answersPoll answers
   poll-answered net head = cond-elim Ends (eqb net (g .net)) _ _ (λ _. same) (λ _. same)
 
+  strayed : Ends (stray g n)
+  unfolding stray unanswered answers
+  strayed = cond-elim Ends (eqb (g .quiet) 1) _ _ (λ _. same) (λ _. same)
+
   message-elim : (asn : ℕ) (m : Message) (head : Head) → Ends (onMessage g asn n m head)
-  unfolding onMessage onConfirm onRefuse onCease onCeaseAck onHello onIHeardYou onPoll onUpdate stray unanswered answers
+  unfolding onMessage onConfirm onRefuse onCease onCeaseAck onHello onIHeardYou onPoll onUpdate unanswered answers
   message-elim asn (M.Request a q s hello poll) head = request-row q (offerOf g asn s hello poll)
   message-elim asn (M.Confirm a q s hello poll) head =
-      under-elim Ends (n .phase) _ _ _ _ _ (λ _. same) (λ _. settled (offerOf g asn s hello poll)) (λ _. same) (λ _. same) (λ _. same)
-  message-elim asn (M.Refuse a q s) head = under-elim Ends (n .phase) _ _ _ _ _ (λ _. same) (λ _. idles) (λ _. same) (λ _. same) (λ _. same)
+      under-elim Ends (n .phase) _ _ _ _ _ (λ _. strayed) (λ _. settled (offerOf g asn s hello poll)) (λ _. same) (λ _. same) (λ _. same)
+  message-elim asn (M.Refuse a q s) head = under-elim Ends (n .phase) _ _ _ _ _ (λ _. strayed) (λ _. idles) (λ _. same) (λ _. same) (λ _. same)
   message-elim asn (M.Cease a q s) head = idles
   message-elim asn (M.CeaseAck a q s) head = under-elim Ends (n .phase) _ _ _ _ _ (λ _. same) (λ _. same) (λ _. same) (λ _. same) (λ _. idles)
-  message-elim asn (M.Hello a q s) head = under-elim Ends (n .phase) _ _ _ _ _ (λ _. same) (λ _. same) (λ _. same) (λ _. same) (λ _. same)
-  message-elim asn (M.IHeardYou a q s) head = under-elim Ends (n .phase) _ _ _ _ _ (λ _. same) (λ _. same) (λ _. same) (λ _. same) (λ _. same)
-  message-elim asn (M.Poll a q s net) head = under-elim Ends (n .phase) _ _ _ _ _ (λ _. same) (λ _. same) (λ _. same) (λ _. poll-answered net head) (λ _. same)
-  message-elim asn (M.Update a q s net) head = under-elim Ends (n .phase) _ _ _ _ _ (λ _. same) (λ _. same) (λ _. same) (λ _. same) (λ _. same)
+  message-elim asn (M.Hello a q s) head = under-elim Ends (n .phase) _ _ _ _ _ (λ _. strayed) (λ _. same) (λ _. same) (λ _. same) (λ _. same)
+  message-elim asn (M.IHeardYou a q s) head = under-elim Ends (n .phase) _ _ _ _ _ (λ _. strayed) (λ _. same) (λ _. same) (λ _. same) (λ _. same)
+  message-elim asn (M.Poll a q s net) head = under-elim Ends (n .phase) _ _ _ _ _ (λ _. strayed) (λ _. same) (λ _. same) (λ _. poll-answered net head) (λ _. same)
+  message-elim asn (M.Update a q s net) head = under-elim Ends (n .phase) _ _ _ _ _ (λ _. strayed) (λ _. same) (λ _. same) (λ _. same) (λ _. same)
   message-elim asn (M.Error a q s reason x y z) head = same
 
 -- a command's number and an indication

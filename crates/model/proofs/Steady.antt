@@ -120,7 +120,7 @@ module _ (m : Model) where
 
 -- ---- refused
 
-put-same : (m : Model) (i : ℕ) → put m i (slotIn m i) ≡ m
+pub put-same : (m : Model) (i : ℕ) → put m i (slotIn m i) ≡ m
 unfolding put slotIn
 put-same m i = let e = set-getD (m .slots) i free in λ k. record { settings = m .settings; slots = e k }
 

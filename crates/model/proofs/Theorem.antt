@@ -234,6 +234,6 @@ list-of-calls g z calls =
     }
 
 -- there are settings that fresh takes: AS 9 at 128.9.0.1 on 128.9.0.0
-pub some-settings : (freshOf (record { asn = 9; own = 2148073473; capability = 0; net = 2148073472 })) .answer ≡ 0
+pub some-settings : (freshOf (record { asn = 9; own = 2148073473; capability = 0; net = 2148073472; quiet = 0 })) .answer ≡ 0
 unfolding freshOf silentOf freshAnswer check goodSettings goodNet onNet netWidth hostSpan
 some-settings = refl

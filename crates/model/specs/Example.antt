@@ -1,6 +1,6 @@
 -- An example, so that no corollary's premise is one that nothing meets: neighbours that come Up, report 128 nets each,
--- fall silent, poll 65,535 times, are heard of by their Updates alone, and say Hello every second; and one that no run
--- comes to, its t3 run out.
+-- fall silent, poll 65,535 times, are heard of by their Updates alone, say Hello every second, and call on when we gave
+-- them up; and one that no run comes to, its t3 run out.
 use Prim.Native.Nat.{ℕ, zero, suc, _+_, _*_, _%_, _<_}
 use mathlib.Core.Path.{_≡_}
 use mathlib.Core.Bool.{true, false}
@@ -9,7 +9,8 @@ use lib.Dec.{leb}
 use lib.ListN.{length}
 use Rattle.nets.specs.Rows.{Row}
 use Rattle.update_rows.specs.Storing.{zeros}
-use Rattle.message.specs.declared.Message.the-variants.{Request, Cease, Hello, Poll, Update}
+use Rattle.message.specs.declared.Message.{Message}
+use Rattle.message.specs.declared.Message.the-variants.{Request, Confirm, Refuse, Cease, CeaseAck, Hello, IHeardYou, Poll, Update, Error}
 use Rattle.message_reading.specs.Reading.{decodeOf}
 use Rattle.message_reading.specs.declared.Decoded.the-variants as D
 use Rattle.codec_writing.specs.Octets.{messageOctets}
@@ -17,16 +18,21 @@ use Rattle.neighbour.specs.declared.Mode.the-variants.{Passive}
 use Rattle.neighbour.specs.declared.Settings.{Settings}
 use Rattle.neighbour.specs.Record.{acquired, withTimers}
 use Rattle.neighbour.specs.Rules.{onesOf, goesDown}
-use Rattle.model.specs.Model.{Call, add, tick, receive, peerWith, Slot, free, used, Model, slotIn, put, model}
+use Rattle.model.specs.Model.{Call, add, stop, tick, receive, peerWith, Slot, free, used, Model, slotIn, put, model}
 use Rattle.model.specs.History.{accepts, lastAccepted}
 use Rattle.model.specs.Theorem.{Gateway, gatewayStep, run, stateOf, tableOf, Sensible}
 use Rattle.model.specs.Windows.{brings, restartsNone, windows, oneInFour, latest}
 use Rattle.model.specs.Corollaries.{Taken, slotOn, isUpOn, BothReport, Says, SaysRows, EnteredUp}
 use Rattle.model.specs.Quick.{isOtherHello, helloEveryTick, HelloCarriedOut}
+use Rattle.model.specs.Strays.{ceaseSeven, IdleSays}
 
 -- AS 9 at 128.9.0.1 on 128.9.0.0, passive only
 unfoldable pub someSettings : Settings
-someSettings = record { asn = 9; own = 2148073473; capability = 2; net = 2148073472 }
+someSettings = record { asn = 9; own = 2148073473; capability = 2; net = 2148073472; quiet = 0 }
+
+-- the same with `quiet` 1
+unfoldable pub quietSettings : Settings
+quietSettings = record { asn = 9; own = 2148073473; capability = 2; net = 2148073472; quiet = 1 }
 
 -- a reply buffer
 unfoldable pub lentBuffer : List ℕ
@@ -80,6 +86,10 @@ acquiredCalls = add 1 7 ∷ receive 1 (messageOctets (Request 7 0 0 30 120) []) 
 -- then a Hello and a Poll, both carried out
 unfoldable pub greeted : List Call
 greeted = acquiredCalls ++ (saysHello 1 ∷ receive 1 (messageOctets (Poll 7 0 1 2148073472) []) [] lentBuffer ∷ [])
+
+-- then stopped, and stopped again before its Cease-ack: Idle, while it may think that it is still acquired
+unfoldable pub abandoned : List Call
+abandoned = greeted ++ (stop 1 lentBuffer ∷ stop 1 lentBuffer ∷ [])
 
 -- n seconds, a Hello of status 1 after each
 unfoldable pub helloSeconds : ℕ → ℕ → List Call
@@ -179,3 +189,22 @@ pub record TooQuickMet : Type 0 where
   pub soon : (slotOn (run someSettings greeted) 0) .neighbour .sincehello < 30
   pub poll : Says (run someSettings greeted) 0 (messageOctets (Poll 7 0 1 2148073472) []) [] lentBuffer (Poll 7 0 1 2148073472)
   pub as-soon : (slotOn (run someSettings greeted) 0) .neighbour .sincepoll < 120
+
+-- that neighbour calls on
+abbrev pub CallsOn : Settings → List ℕ → Message → Type 0
+CallsOn g o m = IdleSays (run g abandoned) 0 o [] lentBuffer m
+
+-- by each of the six kinds, the last time with an octet left over; by Cease-ack and Error too. The Cease in octets.
+pub record StrayMet (g : Settings) (quiet : ℕ) : Type 0 where
+  pub taken : Taken g
+  pub setting : g .quiet ≡ quiet
+  pub confirm : CallsOn g (messageOctets (Confirm 7 4 0 30 120) []) (Confirm 7 4 0 30 120)
+  pub refuse : CallsOn g (messageOctets (Refuse 7 4 6) []) (Refuse 7 4 6)
+  pub hello : CallsOn g (messageOctets (Hello 7 4 1) []) (Hello 7 4 1)
+  pub i-heard-you : CallsOn g (messageOctets (IHeardYou 7 4 1) []) (IHeardYou 7 4 1)
+  pub poll : CallsOn g (messageOctets (Poll 7 4 1 2148073472) []) (Poll 7 4 1 2148073472)
+  pub update : CallsOn g (messageOctets (Update 7 4 1 2148073472) (classA 10 1)) (Update 7 4 1 2148073472)
+  pub bad-body : CallsOn g (messageOctets (Update 7 4 1 2148073472) [] ++ (0 ∷ [])) (Update 7 4 1 2148073472)
+  pub cease-ack : CallsOn g (messageOctets (CeaseAck 7 4 0) []) (CeaseAck 7 4 0)
+  pub error : CallsOn g (messageOctets (Error 7 4 1 2 0 0 0) []) (Error 7 4 1 2 0 0 0)
+  pub drawn : ceaseSeven (g .asn) ≡ 2 ∷ 3 ∷ 3 ∷ 7 ∷ 250 ∷ 236 ∷ 0 ∷ 9 ∷ 0 ∷ 0 ∷ []

@@ -5,4 +5,5 @@ pub mod Theorem
 pub mod Windows
 pub mod Corollaries
 pub mod Quick
+pub mod Strays
 pub mod Example

@@ -6,6 +6,7 @@ use Rattle.neighbour.specs.declared.Phase.{Phase}
 use Rattle.neighbour.specs.declared.Phase.the-variants.{Idle, Acquisition, Down, Up, Cease}
 use Rattle.neighbour.specs.declared.Mode.{Mode}
 use Rattle.neighbour.specs.declared.Mode.the-variants.{Unset, Active, Passive}
+use Rattle.neighbour.specs.declared.Settings.{Settings}
 use Rattle.neighbour.specs.declared.Neighbour.{Neighbour}
 
 -- 01: "P1 30, P2 120, P3 30, P4 3,600, P5 120, all seconds."
@@ -203,3 +204,7 @@ oneMore count = cond (ltb count holdsAt) (count + 1) count
 -- 02, L5: "Every tick carried out outside Idle adds one to each below 120"
 unfoldable pub aged : Neighbour → Neighbour
 aged n = withCounts n (oneMore (n .sincehello)) (oneMore (n .sincepoll))
+
+-- the same settings but for `quiet`
+abbrev pub withQuiet : Settings → ℕ → Settings
+withQuiet g quiet = record { asn = g .asn; own = g .own; capability = g .capability; net = g .net; quiet = quiet }

@@ -31,7 +31,7 @@ isCommand kind = oneOf kind (K.Request ∷ K.Cease ∷ K.Hello ∷ K.Poll ∷ []
 abbrev pub mustCarryS : Kind → Bool
 mustCarryS kind = oneOf kind (K.Confirm ∷ K.Refuse ∷ K.CeaseAck ∷ K.IHeardYou ∷ K.Update ∷ [])
 
--- 01: "must carry S, except in Idle, where they are ignored with answer 0"
+-- 01: "must carry S, except in Idle", where any number is answered 0
 unfoldable pub inSequence : Neighbour → Message → Bool
 inSequence n m = isIdle (n .phase) || not (mustCarryS (kindOf m)) || eqb (sequenceOf m) (n .s)
 

@@ -35,11 +35,14 @@ pub enum Mode {
     Passive,
 }
 
-// What a gateway is told when its state is made. Capability is a number, since a bad one must be refused.
+// What a gateway is told when its state is made, in an order that leaves no gap: a state is handed on by value.
 pub struct Settings {
     pub asn: u16,
-    pub own: u32,
+    // Which modes we can take; a number, since a bad one must be refused.
     pub capability: u8,
+    // 1 if Idle leaves stray messages unanswered, else 0; a number for the same reason.
+    pub quiet: u8,
+    pub own: u32,
     pub net: u32,
 }
 

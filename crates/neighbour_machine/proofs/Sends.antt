@@ -79,13 +79,13 @@ module _ (g : Settings) where
   unfolding Sends unanswered
   unanswered-sends n = refl
 
-  stray-sends : (n : Neighbour) → Sends (stray g n)
-  unfolding stray
-  stray-sends n = unanswered-sends n
-
   answers-sends : (n : Neighbour) (m : Message) → short m ≡ true → Sends (answers n m)
   unfolding Sends answers
   answers-sends n m e = rw e
+
+  stray-sends : (n : Neighbour) → Sends (stray g n)
+  unfolding stray
+  stray-sends n = cond-elim Sends (eqb (g .quiet) 1) _ _ (λ _. unanswered-sends n) (λ _. answers-sends n _ refl)
 
   unanswered-roomy : (n : Neighbour) → Roomy (unanswered n)
   unfolding Roomy unanswered roomy

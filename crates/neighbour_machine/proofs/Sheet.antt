@@ -1,7 +1,7 @@
 -- The machine sheet, computed. Assumes nothing.
 use mathlib.Core.Path.{_≡_, refl}
 use mathlib.Core.List.{List, map}
-use Rattle.neighbour_machine.specs.Sheet.{Line, computed, written, acceptableRow, unacceptableRow, confirmRow, refuseRow, ceaseRow, ceaseAckRow, helloRow, pollRow, updateRow, startRow, stopRow, iHeardYouReceived, errorReceived, intervals, modes, indications, tickIdle, tickT3, tickRetry, tickListening, registers, tickPoll, tickS, tickCounts, sheet, MachineSheet}
+use Rattle.neighbour_machine.specs.Sheet.{Line, computed, written, acceptableRow, unacceptableRow, confirmRow, refuseRow, ceaseRow, ceaseAckRow, helloRow, pollRow, updateRow, startRow, stopRow, iHeardYouReceived, strays, errorReceived, intervals, modes, indications, tickIdle, tickT3, tickRetry, tickListening, registers, tickPoll, tickS, tickCounts, sheet, MachineSheet}
 use Rattle.neighbour_machine.proofs.Unfolded.{opened}
 
 -- what a part of the sheet says
@@ -58,6 +58,10 @@ i-heard-you-received-ok : Comes iHeardYouReceived
 unfolding opened
 i-heard-you-received-ok = refl
 
+strays-ok : Comes strays
+unfolding opened
+strays-ok = refl
+
 error-received-ok : Comes errorReceived
 unfolding opened
 error-received-ok = refl
@@ -108,4 +112,4 @@ tick-counts-ok = refl
 
 pub machine-sheet : MachineSheet
 unfolding sheet
-machine-sheet = rw (acceptable-row-ok, unacceptable-row-ok, confirm-row-ok, refuse-row-ok, cease-row-ok, cease-ack-row-ok, hello-row-ok, poll-row-ok, update-row-ok, start-row-ok, stop-row-ok, i-heard-you-received-ok, error-received-ok, intervals-ok, modes-ok, indications-ok, tick-idle-ok, tick-t3-ok, tick-retry-ok, tick-listening-ok, registers-ok, tick-poll-ok, tick-s-ok, tick-counts-ok)
+machine-sheet = rw (acceptable-row-ok, unacceptable-row-ok, confirm-row-ok, refuse-row-ok, cease-row-ok, cease-ack-row-ok, hello-row-ok, poll-row-ok, update-row-ok, start-row-ok, stop-row-ok, i-heard-you-received-ok, strays-ok, error-received-ok, intervals-ok, modes-ok, indications-ok, tick-idle-ok, tick-t3-ok, tick-retry-ok, tick-listening-ok, registers-ok, tick-poll-ok, tick-s-ok, tick-counts-ok)

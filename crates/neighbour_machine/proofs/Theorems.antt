@@ -16,8 +16,10 @@ use Rattle.neighbour.specs.declared.Mode.{Mode}
 use Rattle.neighbour.specs.declared.Mode.the-variants.{Unset, Active, Passive}
 use Rattle.neighbour.specs.declared.Settings.{Settings}
 use Rattle.neighbour.specs.declared.Neighbour.{Neighbour}
+use Rattle.neighbour.specs.declared.Offer.{Offer}
+use Rattle.neighbour.specs.declared.Offer.the-variants.{Acceptable, Unacceptable}
 use Rattle.neighbour_messages.specs.declared.Head.{Head}
-use Rattle.neighbour.specs.Record.{under, isIdle, acquired, idle, leftIdle, waiting, initialised, withNumbers, withTimers, withReach, withCounts, heardFrom, shifted, enterUp, leaveUp, polled, oneMore, aged, isUp}
+use Rattle.neighbour.specs.Record.{under, isIdle, acquired, idle, leftIdle, waiting, initialised, withNumbers, withTimers, withReach, withCounts, heardFrom, shifted, enterUp, leaveUp, polled, oneMore, aged, isUp, withQuiet}
 use Rattle.neighbour.specs.Rules.{same, isCommand, commanded, indicates, noted, recounted, offerOf, goesUp, goesDown, onesOf, judged}
 use Rattle.neighbour_messages.specs.Sent.{helloMessage, pollMessage}
 use Rattle.neighbour_wellformed.specs.Formed.{isUnset, wellFormed}
@@ -28,9 +30,9 @@ use Rattle.neighbour_machine.specs.declared.Reply.{Reply}
 use Rattle.neighbour_machine.specs.declared.Reply.the-variants.{Nothing, One, Two}
 use Rattle.neighbour_machine.specs.declared.After.{After}
 use Rattle.neighbour_machine.specs.Table.{followed, unanswered, answers, says, helloIf, doesA, doesB, ceases, repeatsCease, acquires, stray, onRequest, settles, onConfirm, onRefuse, onCease, onCeaseAck, onHello, onIHeardYou, answersPoll, onPoll, onUpdate, onStart, onStop}
-use Rattle.neighbour_machine.specs.Tick.{expired, repeats, listens, polls, pollsOnEntry, takesT2, pollsInUp, tickOn, tickOutside, onTick}
+use Rattle.neighbour_machine.specs.Tick.{takesT1, expired, repeats, listens, polls, pollsOnEntry, takesT2, pollsInUp, tickOn, tickOutside, onTick}
 use Rattle.neighbour_machine.specs.Step.{onMessage, stepOf}
-use Rattle.neighbour_machine.specs.Laws.{isPoll, sendsPoll, brought, isTick, Lawful, StepLawful, IdleIsZero, T2OnlyInUp, ErrorIgnored, UpdateStaysUp}
+use Rattle.neighbour_machine.specs.Laws.{isPoll, sendsPoll, brought, isTick, Lawful, StepLawful, IdleIsZero, T2OnlyInUp, ErrorIgnored, isStray, StrayAnswered, StrayUnanswered, bringsStray, QuietElsewhere, UpdateStaysUp}
 
 never : {A : Type 0} → true ≡ false → A
 never e = let z : _≡_ {A = ℕ} 0 1 = cc in absurd (omega arith)
@@ -226,19 +228,25 @@ module _ (g : Settings) where
       go true = noted-lawful asn (withNumbers n (n .s) (sequenceOf m)) p m head i (numbers-ok n (n .s) (sequenceOf m) p i f)
       go false = noted-lawful asn n p m head i f
 
+  -- a stray message leaves the idle record, answered or not
+  stray-idle : (q : ℕ) → Lawful Idle 0 q false (stray g idle)
+  unfolding stray unanswered answers
+  stray-idle q =
+      cond-elim (Lawful Idle 0 q false) (eqb (g .quiet) 1) _ _ (λ _. gone Idle 0 q false Nothing) (λ _. gone Idle 0 q false (One _))
+
   -- the idle record
   idle-received : (asn : ℕ) (m : Message) (head : Head) → Lawful Idle 0 (brought (Received m) 0) false (stepOf g asn idle (Received m) head)
-  unfolding stepOf recounted noted commanded idle onMessage onRequest onConfirm onRefuse onCease onCeaseAck onHello onIHeardYou onPoll onUpdate stray unanswered answers under
+  unfolding stepOf recounted noted commanded idle onMessage onRequest onConfirm onRefuse onCease onCeaseAck onHello onIHeardYou onPoll onUpdate unanswered answers under
   idle-received asn (M.Request a q s h o) head =
       offer-elim g asn s h o (λ k. Lawful Idle 0 q false (onRequest g idle q k)) (leaves-idle q) (gone Idle 0 q false (One _))
-  idle-received asn (M.Confirm a q s h o) head = gone Idle 0 0 false Nothing
-  idle-received asn (M.Refuse a q s) head = gone Idle 0 0 false Nothing
+  idle-received asn (M.Confirm a q s h o) head = stray-idle 0
+  idle-received asn (M.Refuse a q s) head = stray-idle 0
   idle-received asn (M.Cease a q s) head = gone Idle 0 q false (One _)
   idle-received asn (M.CeaseAck a q s) head = gone Idle 0 0 false Nothing
-  idle-received asn (M.Hello a q s) head = gone Idle 0 q false Nothing
-  idle-received asn (M.IHeardYou a q s) head = gone Idle 0 0 false Nothing
-  idle-received asn (M.Poll a q s net) head = gone Idle 0 q false Nothing
-  idle-received asn (M.Update a q s net) head = gone Idle 0 0 false Nothing
+  idle-received asn (M.Hello a q s) head = stray-idle q
+  idle-received asn (M.IHeardYou a q s) head = stray-idle 0
+  idle-received asn (M.Poll a q s net) head = stray-idle q
+  idle-received asn (M.Update a q s net) head = stray-idle 0
   idle-received asn (M.Error a q s r x y z) head = gone Idle 0 0 false Nothing
 
   idle-lawful : (asn : ℕ) (event : Event) (head : Head) → Lawful Idle 0 (brought event 0) (isTick event) (stepOf g asn idle event head)
@@ -457,6 +465,118 @@ pub error-ignored : ErrorIgnored
 unfolding stepOf onMessage commanded noted recounted unanswered
 error-ignored g asn n a sequence status reason first second third head =
     rw (and-false (not (isIdle (n .phase))), error-silent (n .mode) status, and-false (acquired (n .phase))) (ap unanswered (same-either (acquired (n .phase)) n))
+
+-- in Idle a stray message's row is `stray`: no command sets R there, nothing is noted, no count starts anew
+stray-row : (g : Settings) (asn : ℕ) (n : Neighbour) (m : Message) (head : Head) → n .phase ≡ Idle → isStray m ≡ true
+    → stepOf g asn n (Received m) head ≡ stray g n
+unfolding stepOf recounted noted commanded onMessage onConfirm onRefuse onHello onIHeardYou onPoll onUpdate under
+stray-row g asn n m head e t = go (n .phase) e m t
+  where
+    go : (p : Phase) → p ≡ Idle → (m : Message) → isStray m ≡ true → stepOf g asn (at n p) (Received m) head ≡ stray g (at n p)
+    go Idle e (M.Request a q s h o) t = never (sym t)
+    go Idle e (M.Confirm a q s h o) t = refl
+    go Idle e (M.Refuse a q s) t = refl
+    go Idle e (M.Cease a q s) t = never (sym t)
+    go Idle e (M.CeaseAck a q s) t = never (sym t)
+    go Idle e (M.Hello a q s) t = refl
+    go Idle e (M.IHeardYou a q s) t = refl
+    go Idle e (M.Poll a q s net) t = refl
+    go Idle e (M.Update a q s net) t = refl
+    go Idle e (M.Error a q s r x y z) t = never (sym t)
+    go Acquisition e m t = never (sym (ap isIdle e))
+    go Down e m t = never (sym (ap isIdle e))
+    go Up e m t = never (sym (ap isIdle e))
+    go Cease e m t = never (sym (ap isIdle e))
+
+pub stray-answered : StrayAnswered
+unfolding stray answers
+stray-answered g asn n m head i t q = stray-row g asn n m head i t ∙ rw q
+
+pub stray-unanswered : StrayUnanswered
+unfolding stray unanswered
+stray-unanswered g asn n m head i t q = stray-row g asn n m head i t ∙ rw q
+
+-- everything else reads the other four settings alone
+module _ (g : Settings) (quiet : ℕ) where
+  hello-same : (mode : Mode) (x : After) → helloIf mode (withQuiet g quiet) x ≡ helloIf mode g x
+  unfolding helloIf
+  hello-same Unset x = refl
+  hello-same Active x = refl
+  hello-same Passive x = refl
+
+  a-same : (n : Neighbour) (h q : ℕ) (m : Mode) → doesA (withQuiet g quiet) n h q m ≡ doesA g n h q m
+  unfolding doesA
+  a-same n h q m = hello-same _ _
+
+  b-same : (n : Neighbour) (h q : ℕ) (m : Mode) → doesB (withQuiet g quiet) n h q m ≡ doesB g n h q m
+  unfolding doesB
+  b-same n h q m = hello-same _ _
+
+  request-same : (n : Neighbour) (sequence : ℕ) (offer : Offer) → onRequest (withQuiet g quiet) n sequence offer ≡ onRequest g n sequence offer
+  unfolding onRequest ceases repeatsCease
+  request-same n sequence (Acceptable h q m) = rw (a-same n h q m, a-same (leftIdle sequence) h q m)
+  request-same n sequence Unacceptable = refl
+
+  settles-same : (n : Neighbour) (offer : Offer) → settles (withQuiet g quiet) n offer ≡ settles g n offer
+  unfolding settles
+  settles-same n (Acceptable h q m) = b-same n h q m
+  settles-same n Unacceptable = refl
+
+  listens-same : (n : Neighbour) → listens (withQuiet g quiet) n ≡ listens g n
+  unfolding listens
+  listens-same n = ap (takesT1 n) (hello-same _ (unanswered (judged (shifted n))))
+
+  tick-on-same : (n : Neighbour) → tickOn (withQuiet g quiet) n ≡ tickOn g n
+  unfolding tickOn pollsOnEntry takesT2 pollsInUp polls
+  tick-on-same n = rw (listens-same n)
+
+  -- outside Idle a row does not come to its first cell
+  outside : (p : Phase) (a b c d e f : After) → (isIdle p && true) ≡ false → under p a c d e f ≡ under p b c d e f
+  unfolding under
+  outside Idle a b c d e f i = never i
+  outside Acquisition a b c d e f i = refl
+  outside Down a b c d e f i = refl
+  outside Up a b c d e f i = refl
+  outside Cease a b c d e f i = refl
+
+  message-same : (asn : ℕ) (n : Neighbour) (m : Message) (head : Head) → (isIdle (n .phase) && isStray m) ≡ false
+      → onMessage (withQuiet g quiet) asn n m head ≡ onMessage g asn n m head
+  unfolding onMessage offerOf onConfirm onRefuse onCease onHello onIHeardYou answersPoll onPoll onUpdate
+  message-same asn n (M.Request a q s h o) head i = request-same n q (offerOf g asn s h o)
+  message-same asn n (M.Confirm a q s h o) head i = rw (settles-same n (offerOf g asn s h o)) (outside (n .phase) _ _ _ _ _ _ i)
+  message-same asn n (M.Refuse a q s) head i = outside (n .phase) _ _ _ _ _ _ i
+  message-same asn n (M.Cease a q s) head i = refl
+  message-same asn n (M.CeaseAck a q s) head i = refl
+  message-same asn n (M.Hello a q s) head i = outside (n .phase) _ _ _ _ _ _ i
+  message-same asn n (M.IHeardYou a q s) head i = outside (n .phase) _ _ _ _ _ _ i
+  message-same asn n (M.Poll a q s net) head i = outside (n .phase) _ _ _ _ _ _ i
+  message-same asn n (M.Update a q s net) head i = outside (n .phase) _ _ _ _ _ _ i
+  message-same asn n (M.Error a q s r x y z) head i = refl
+
+-- what a message does before its row leaves the state
+phase-stays : (n : Neighbour) (m : Message) → (recounted (noted (commanded n m) m) m) .phase ≡ n .phase
+unfolding recounted noted commanded heardFrom withNumbers withTimers withReach
+phase-stays n m = recounted-stays (noted (commanded n m) m) ∙ (noted-stays (commanded n m) ∙ commanded-stays)
+  where
+    recounted-stays : (k : Neighbour) → (recounted k m) .phase ≡ k .phase
+    recounted-stays k = cond-elim (λ (x : Neighbour). x .phase ≡ k .phase) (acquired (k .phase)) _ _ (λ _. refl) (λ _. refl)
+
+    noted-stays : (k : Neighbour) → (noted k m) .phase ≡ k .phase
+    noted-stays k =
+        cond-elim (λ (x : Neighbour). x .phase ≡ k .phase) (acquired (k .phase) && indicates (k .mode) (kindOf m) (statusOf m)) _ _
+        (λ _. refl) (λ _. refl)
+
+    commanded-stays : (commanded n m) .phase ≡ n .phase
+    commanded-stays =
+        cond-elim (λ (x : Neighbour). x .phase ≡ n .phase) (not (isIdle (n .phase)) && isCommand (kindOf m)) _ _ (λ _. refl) (λ _. refl)
+
+pub quiet-elsewhere : QuietElsewhere
+unfolding stepOf onStart onStop onTick acquires ceases expired tickOutside
+quiet-elsewhere g quiet asn n (Received m) head i =
+    message-same g quiet asn _ m head (ap (λ (p : Phase). isIdle p && isStray m) (phase-stays n m) ∙ i)
+quiet-elsewhere g quiet asn n Start head i = refl
+quiet-elsewhere g quiet asn n Stop head i = refl
+quiet-elsewhere g quiet asn n Tick head i = rw (tick-on-same g quiet (withTimers (aged n) ((aged n) .t1) ((aged n) .t2) ((aged n) .t3 - 1)))
 
 pub update-stays-up : UpdateStaysUp
 unfolding stepOf onMessage commanded noted recounted heardFrom withReach withTimers onUpdate unanswered under

@@ -12,7 +12,7 @@ use Rattle.neighbour.specs.declared.Phase.the-variants.{Idle, Acquisition, Down
 use Rattle.neighbour.specs.declared.Settings.{Settings}
 use Rattle.neighbour.specs.declared.Neighbour.{Neighbour}
 use Rattle.neighbour_messages.specs.declared.Head.{Head}
-use Rattle.neighbour.specs.Record.{isIdle, idle, isUp}
+use Rattle.neighbour.specs.Record.{isIdle, idle, isUp, withQuiet}
 use Rattle.neighbour.specs.Rules.{same, isCommand}
 use Rattle.neighbour_wellformed.specs.Formed.{wellFormed}
 use Rattle.neighbour_machine.specs.declared.Event.{Event}
@@ -115,6 +115,46 @@ abbrev pub ErrorIgnored : Type 0
 ErrorIgnored =
     (g : Settings) (asn : ℕ) (n : Neighbour) (a sequence status reason first second third : ℕ) (head : Head)
     → stepOf g asn n (Received (M.Error a sequence status reason first second third)) head ≡ unanswered n
+
+-- the six kinds that are stray in Idle
+abbrev pub isStray : Message → Bool
+isStray (M.Request a q s hello poll) = false
+isStray (M.Confirm a q s hello poll) = true
+isStray (M.Refuse a q s) = true
+isStray (M.Cease a q s) = false
+isStray (M.CeaseAck a q s) = false
+isStray (M.Hello a q s) = true
+isStray (M.IHeardYou a q s) = true
+isStray (M.Poll a q s net) = true
+isStray (M.Update a q s net) = true
+isStray (M.Error a q s reason x y z) = false
+
+-- 02: "a Cease, status 7, sequence 0, answer 0, the neighbour staying Idle", whatever else its record holds
+abbrev pub StrayAnswered : Type 0
+StrayAnswered =
+    (g : Settings) (asn : ℕ) (n : Neighbour) (m : Message) (head : Head)
+    → n .phase ≡ Idle → isStray m ≡ true → g .quiet ≡ 0
+    → stepOf g asn n (Received m) head ≡ record { neighbour = n; reply = One (M.Cease (g .asn) 0 7) }
+
+-- 02: "`quiet=1` .. keeps the old behaviour"
+abbrev pub StrayUnanswered : Type 0
+StrayUnanswered =
+    (g : Settings) (asn : ℕ) (n : Neighbour) (m : Message) (head : Head)
+    → n .phase ≡ Idle → isStray m ≡ true → g .quiet ≡ 1
+    → stepOf g asn n (Received m) head ≡ record { neighbour = n; reply = Nothing }
+
+abbrev pub bringsStray : Event → Bool
+bringsStray (Received m) = isStray m
+bringsStray Start = false
+bringsStray Stop = false
+bringsStray Tick = false
+
+-- the setting says nothing of any other event, and nothing outside Idle
+abbrev pub QuietElsewhere : Type 0
+QuietElsewhere =
+    (g : Settings) (quiet asn : ℕ) (n : Neighbour) (event : Event) (head : Head)
+    → (isIdle (n .phase) && bringsStray event) ≡ false
+    → stepOf (withQuiet g quiet) asn n event head ≡ stepOf g asn n event head
 
 -- 01: "replace rows": an Update finds its neighbour Up and leaves it Up, with nothing sent
 abbrev pub UpdateStaysUp : Type 0

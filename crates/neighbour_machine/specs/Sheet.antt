@@ -60,13 +60,17 @@ tenNet = 167772160
 
 -- our settings with capability 0, 1 and 2; our AS is 9
 unfoldable pub g0 : Settings
-g0 = record { asn = 9; own = ours; capability = 0; net = common }
+g0 = record { asn = 9; own = ours; capability = 0; net = common; quiet = 0 }
 
 unfoldable pub g1 : Settings
-g1 = record { asn = 9; own = ours; capability = 1; net = common }
+g1 = record { asn = 9; own = ours; capability = 1; net = common; quiet = 0 }
 
 unfoldable pub g2 : Settings
-g2 = record { asn = 9; own = ours; capability = 2; net = common }
+g2 = record { asn = 9; own = ours; capability = 2; net = common; quiet = 0 }
+
+-- the second again, and Idle leaves stray messages unanswered
+unfoldable pub q1 : Settings
+q1 = record { asn = 9; own = ours; capability = 1; net = common; quiet = 1 }
 
 -- the first twelve octets of whatever is received, as three words
 unfoldable pub words : Head
@@ -201,14 +205,14 @@ unacceptableRow =
     (at Cease 4 21 0 0 19 0 50 Unset 0 0 6 47 83) (One (M.Cease 9 4 6)) ∷
     []
 
--- 01: | Confirm | - | Down, B, or Idle if unacceptable | - | - | - |
+-- 01, and 02 for Idle: | Confirm | stray | Down, B, or Idle if unacceptable | - | - | - |
 -- In active mode it is an indication in Down and Up, whatever it offers; outside them it is none.
 unfoldable pub confirmRow : List Line
 confirmRow =
     line "Confirm, acceptable: Idle" g1 7 (at Idle 0 0 0 0 0 0 0 Unset 0 0 0 0 0) (Received (M.Confirm 7 21 1 60 200))
-    (at Idle 0 0 0 0 0 0 0 Unset 0 0 0 0 0) Nothing ∷
+    (at Idle 0 0 0 0 0 0 0 Unset 0 0 0 0 0) (One (M.Cease 9 0 7)) ∷
     line "Confirm, unacceptable: Idle" g1 7 (at Idle 0 0 0 0 0 0 0 Unset 0 0 0 0 0) (Received (M.Confirm 7 21 1 121 200))
-    (at Idle 0 0 0 0 0 0 0 Unset 0 0 0 0 0) Nothing ∷
+    (at Idle 0 0 0 0 0 0 0 Unset 0 0 0 0 0) (One (M.Cease 9 0 7)) ∷
     line "Confirm, acceptable: Acquisition, active" g1 7 (at Acquisition 4 17 0 0 19 0 50 Unset 0 0 0 47 83) (Received (M.Confirm 7 4 0 60 200))
     (at Down 4 17 62 202 62 0 120 Active 0 0 0 120 120) (One (M.Hello 9 4 2)) ∷
     line "Confirm, acceptable: Acquisition, passive" g2 7 (at Acquisition 4 17 0 0 19 0 50 Unset 0 0 0 47 83) (Received (M.Confirm 7 4 1 60 200))
@@ -237,11 +241,11 @@ confirmRow =
     (at Cease 4 17 0 0 19 0 50 Unset 0 0 6 47 83) Nothing ∷
     []
 
--- 01: | Refuse | - | Idle | - | - | - |
+-- 01, and 02 for Idle: | Refuse | stray | Idle | - | - | - |
 unfoldable pub refuseRow : List Line
 refuseRow =
     line "Refuse: Idle" g1 7 (at Idle 0 0 0 0 0 0 0 Unset 0 0 0 0 0) (Received (M.Refuse 7 21 6))
-    (at Idle 0 0 0 0 0 0 0 Unset 0 0 0 0 0) Nothing ∷
+    (at Idle 0 0 0 0 0 0 0 Unset 0 0 0 0 0) (One (M.Cease 9 0 7)) ∷
     line "Refuse, status 0: Acquisition" g1 7 (at Acquisition 4 17 0 0 19 0 50 Unset 0 0 0 47 83) (Received (M.Refuse 7 4 0))
     (at Idle 0 0 0 0 0 0 0 Unset 0 0 0 0 0) Nothing ∷
     line "Refuse, status 3: Acquisition" g1 7 (at Acquisition 4 17 0 0 19 0 50 Unset 0 0 0 47 83) (Received (M.Refuse 7 4 3))
@@ -312,13 +316,13 @@ ceaseAckRow =
     (at Idle 0 0 0 0 0 0 0 Unset 0 0 0 0 0) Nothing ∷
     []
 
--- 01: | Hello | - | - | I-H-U | I-H-U | - |
+-- 01, and 02 for Idle: | Hello | stray | - | I-H-U | I-H-U | - |
 -- A command sets R even where its cell is "-", but not in Idle. "We send status 2 in Down and 1 in Up on Hello, I-H-U,
 -- Poll, Update and Error"
 unfoldable pub helloRow : List Line
 helloRow =
     line "Hello: Idle" g1 7 (at Idle 0 0 0 0 0 0 0 Unset 0 0 0 0 0) (Received (M.Hello 7 21 1))
-    (at Idle 0 0 0 0 0 0 0 Unset 0 0 0 0 0) Nothing ∷
+    (at Idle 0 0 0 0 0 0 0 Unset 0 0 0 0 0) (One (M.Cease 9 0 7)) ∷
     line "Hello: Acquisition" g1 7 (at Acquisition 4 17 0 0 19 0 50 Unset 0 0 0 47 83) (Received (M.Hello 7 21 1))
     (at Acquisition 4 21 0 0 19 0 50 Unset 0 0 0 47 83) Nothing ∷
     line "Hello: Down, active" g1 7 (at Down 4 17 40 130 19 0 50 Active 10 1 0 47 83) (Received (M.Hello 7 21 2))
@@ -335,12 +339,12 @@ helloRow =
     (at Cease 4 21 0 0 19 0 50 Unset 0 0 6 47 83) Nothing ∷
     []
 
--- 01: | Poll | - | - | - | Update, or Error 3 for another net | - |
+-- 01, and 02 for Idle: | Poll | stray | - | - | Update, or Error 3 for another net | - |
 -- "Error carries R and the first 12 octets, zero-filled." Another net's Poll is carried out: R is set first.
 unfoldable pub pollRow : List Line
 pollRow =
     line "Poll: Idle" g1 7 (at Idle 0 0 0 0 0 0 0 Unset 0 0 0 0 0) (Received (M.Poll 7 21 1 common))
-    (at Idle 0 0 0 0 0 0 0 Unset 0 0 0 0 0) Nothing ∷
+    (at Idle 0 0 0 0 0 0 0 Unset 0 0 0 0 0) (One (M.Cease 9 0 7)) ∷
     line "Poll: Acquisition" g1 7 (at Acquisition 4 17 0 0 19 0 50 Unset 0 0 0 47 83) (Received (M.Poll 7 21 1 common))
     (at Acquisition 4 21 0 0 19 0 50 Unset 0 0 0 47 83) Nothing ∷
     line "Poll: Down, active" g1 7 (at Down 4 17 40 130 19 0 50 Active 10 1 0 47 83) (Received (M.Poll 7 21 2 common))
@@ -373,12 +377,12 @@ pollRow =
     (at Cease 4 21 0 0 19 0 50 Unset 0 0 6 47 83) Nothing ∷
     []
 
--- 01: | Update | - | - | - | replace rows | - |: the rows stand outside the record, which changes by the indication
+-- 01, and 02 for Idle: | Update | stray | - | - | replace rows | - |: the rows stand outside the record, which changes by the indication
 -- alone
 unfoldable pub updateRow : List Line
 updateRow =
     line "Update: Idle" g1 7 (at Idle 0 0 0 0 0 0 0 Unset 0 0 0 0 0) (Received (M.Update 7 21 1 common))
-    (at Idle 0 0 0 0 0 0 0 Unset 0 0 0 0 0) Nothing ∷
+    (at Idle 0 0 0 0 0 0 0 Unset 0 0 0 0 0) (One (M.Cease 9 0 7)) ∷
     line "Update: Acquisition" g1 7 (at Acquisition 4 17 0 0 19 0 50 Unset 0 0 0 47 83) (Received (M.Update 7 4 1 common))
     (at Acquisition 4 17 0 0 19 0 50 Unset 0 0 0 47 83) Nothing ∷
     line "Update: Down, active" g1 7 (at Down 4 17 40 130 19 0 50 Active 10 0 0 47 83) (Received (M.Update 7 4 1 common))
@@ -443,11 +447,11 @@ stopRow =
     (at Idle 0 0 0 0 0 0 0 Unset 0 0 0 0 0) Nothing ∷
     []
 
--- I-H-U has no row: it is an indication or nothing.
+-- I-H-U has no row: it is an indication, stray in Idle, or nothing.
 unfoldable pub iHeardYouReceived : List Line
 iHeardYouReceived =
     line "I-H-U: Idle" g1 7 (at Idle 0 0 0 0 0 0 0 Unset 0 0 0 0 0) (Received (M.IHeardYou 7 21 1))
-    (at Idle 0 0 0 0 0 0 0 Unset 0 0 0 0 0) Nothing ∷
+    (at Idle 0 0 0 0 0 0 0 Unset 0 0 0 0 0) (One (M.Cease 9 0 7)) ∷
     line "I-H-U: Acquisition" g1 7 (at Acquisition 4 17 0 0 19 0 50 Unset 0 0 0 47 83) (Received (M.IHeardYou 7 4 1))
     (at Acquisition 4 17 0 0 19 0 50 Unset 0 0 0 47 83) Nothing ∷
     line "I-H-U: Down, active" g1 7 (at Down 4 17 40 130 19 0 50 Active 10 0 0 47 83) (Received (M.IHeardYou 7 4 1))
@@ -462,6 +466,52 @@ iHeardYouReceived =
     (at Cease 4 17 0 0 19 0 50 Unset 0 0 5 47 83) Nothing ∷
     line "I-H-U: Cease, cause 6" g1 7 (at Cease 4 17 0 0 19 0 50 Unset 0 0 6 47 83) (Received (M.IHeardYou 7 4 1))
     (at Cease 4 17 0 0 19 0 50 Unset 0 0 6 47 83) Nothing ∷
+    []
+
+-- 02, L6: Idle answers Confirm, Refuse, Hello, I-H-U, Poll and Update with "a Cease, status 7, sequence 0", whatever
+-- number they carry, "the neighbour staying Idle"; with `quiet` 1 it stays silent. Nothing else hears of the setting.
+unfoldable pub strays : List Line
+strays =
+    line "stray Confirm, number 0: Idle" g2 7 (at Idle 0 0 0 0 0 0 0 Unset 0 0 0 0 0) (Received (M.Confirm 7 0 2 30 120))
+    (at Idle 0 0 0 0 0 0 0 Unset 0 0 0 0 0) (One (M.Cease 9 0 7)) ∷
+    line "stray Refuse, number 65535: Idle" g0 7 (at Idle 0 0 0 0 0 0 0 Unset 0 0 0 0 0) (Received (M.Refuse 7 65535 4))
+    (at Idle 0 0 0 0 0 0 0 Unset 0 0 0 0 0) (One (M.Cease 9 0 7)) ∷
+    line "stray Hello, number 0: Idle" g2 7 (at Idle 0 0 0 0 0 0 0 Unset 0 0 0 0 0) (Received (M.Hello 7 0 2))
+    (at Idle 0 0 0 0 0 0 0 Unset 0 0 0 0 0) (One (M.Cease 9 0 7)) ∷
+    line "stray I-H-U, number 4: Idle" g0 7 (at Idle 0 0 0 0 0 0 0 Unset 0 0 0 0 0) (Received (M.IHeardYou 7 4 0))
+    (at Idle 0 0 0 0 0 0 0 Unset 0 0 0 0 0) (One (M.Cease 9 0 7)) ∷
+    line "stray Poll, another net: Idle" g2 7 (at Idle 0 0 0 0 0 0 0 Unset 0 0 0 0 0) (Received (M.Poll 7 65535 1 tenNet))
+    (at Idle 0 0 0 0 0 0 0 Unset 0 0 0 0 0) (One (M.Cease 9 0 7)) ∷
+    line "stray Update, unsolicited: Idle" g0 7 (at Idle 0 0 0 0 0 0 0 Unset 0 0 0 0 0) (Received (M.Update 7 7 129 common))
+    (at Idle 0 0 0 0 0 0 0 Unset 0 0 0 0 0) (One (M.Cease 9 0 7)) ∷
+    line "Confirm, acceptable, quiet: Idle" q1 7 (at Idle 0 0 0 0 0 0 0 Unset 0 0 0 0 0) (Received (M.Confirm 7 21 1 60 200))
+    (at Idle 0 0 0 0 0 0 0 Unset 0 0 0 0 0) Nothing ∷
+    line "Confirm, unacceptable, quiet: Idle" q1 7 (at Idle 0 0 0 0 0 0 0 Unset 0 0 0 0 0) (Received (M.Confirm 7 21 1 121 200))
+    (at Idle 0 0 0 0 0 0 0 Unset 0 0 0 0 0) Nothing ∷
+    line "Refuse, quiet: Idle" q1 7 (at Idle 0 0 0 0 0 0 0 Unset 0 0 0 0 0) (Received (M.Refuse 7 21 6))
+    (at Idle 0 0 0 0 0 0 0 Unset 0 0 0 0 0) Nothing ∷
+    line "Hello, quiet: Idle" q1 7 (at Idle 0 0 0 0 0 0 0 Unset 0 0 0 0 0) (Received (M.Hello 7 21 1))
+    (at Idle 0 0 0 0 0 0 0 Unset 0 0 0 0 0) Nothing ∷
+    line "I-H-U, quiet: Idle" q1 7 (at Idle 0 0 0 0 0 0 0 Unset 0 0 0 0 0) (Received (M.IHeardYou 7 21 1))
+    (at Idle 0 0 0 0 0 0 0 Unset 0 0 0 0 0) Nothing ∷
+    line "Poll, quiet: Idle" q1 7 (at Idle 0 0 0 0 0 0 0 Unset 0 0 0 0 0) (Received (M.Poll 7 21 1 common))
+    (at Idle 0 0 0 0 0 0 0 Unset 0 0 0 0 0) Nothing ∷
+    line "Update, quiet: Idle" q1 7 (at Idle 0 0 0 0 0 0 0 Unset 0 0 0 0 0) (Received (M.Update 7 21 1 common))
+    (at Idle 0 0 0 0 0 0 0 Unset 0 0 0 0 0) Nothing ∷
+    line "Request, acceptable, quiet: Idle" q1 7 (at Idle 0 0 0 0 0 0 0 Unset 0 0 0 0 0) (Received (M.Request 7 21 0 60 200))
+    (at Down 0 21 62 202 62 0 120 Active 0 0 0 120 120) (Two (M.Confirm 9 21 1 30 120) (M.Hello 9 0 2)) ∷
+    line "Request, unacceptable, quiet: Idle" q1 7 (at Idle 0 0 0 0 0 0 0 Unset 0 0 0 0 0) (Received (M.Request 7 21 0 121 200))
+    (at Idle 0 0 0 0 0 0 0 Unset 0 0 0 0 0) (One (M.Refuse 9 21 6)) ∷
+    line "Cease, quiet: Idle" q1 7 (at Idle 0 0 0 0 0 0 0 Unset 0 0 0 0 0) (Received (M.Cease 7 21 0))
+    (at Idle 0 0 0 0 0 0 0 Unset 0 0 0 0 0) (One (M.CeaseAck 9 21 0)) ∷
+    line "Cease-ack, quiet: Idle" q1 7 (at Idle 0 0 0 0 0 0 0 Unset 0 0 0 0 0) (Received (M.CeaseAck 7 21 0))
+    (at Idle 0 0 0 0 0 0 0 Unset 0 0 0 0 0) Nothing ∷
+    line "Error, quiet: Idle" q1 7 (at Idle 0 0 0 0 0 0 0 Unset 0 0 0 0 0) (Received (M.Error 7 77 1 0 404 505 606))
+    (at Idle 0 0 0 0 0 0 0 Unset 0 0 0 0 0) Nothing ∷
+    line "Hello, quiet: Down, active" q1 7 (at Down 4 17 40 130 19 0 50 Active 10 0 0 47 83) (Received (M.Hello 7 21 1))
+    (at Down 4 21 40 130 19 0 50 Active 10 0 0 0 83) (One (M.IHeardYou 9 21 2)) ∷
+    line "Confirm, quiet: Cease" q1 7 (at Cease 4 17 0 0 19 0 50 Unset 0 0 5 47 83) (Received (M.Confirm 7 4 1 60 200))
+    (at Cease 4 17 0 0 19 0 50 Unset 0 0 5 47 83) Nothing ∷
     []
 
 -- 01: "An Error received changes nothing." Its number is not checked.
@@ -985,7 +1035,7 @@ tickCounts =
 unfoldable pub sheet : List (List Line)
 sheet =
     acceptableRow ∷ unacceptableRow ∷ confirmRow ∷ refuseRow ∷ ceaseRow ∷ ceaseAckRow ∷ helloRow ∷ pollRow ∷
-    updateRow ∷ startRow ∷ stopRow ∷ iHeardYouReceived ∷ errorReceived ∷ intervals ∷
+    updateRow ∷ startRow ∷ stopRow ∷ iHeardYouReceived ∷ strays ∷ errorReceived ∷ intervals ∷
     modes ∷ indications ∷ tickIdle ∷ tickT3 ∷ tickRetry ∷ tickListening ∷ registers ∷ tickPoll ∷ tickS ∷ tickCounts ∷ []
 
 -- every line comes out: what the machine makes of it is what it says

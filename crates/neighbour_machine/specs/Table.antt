@@ -14,7 +14,7 @@ use Rattle.neighbour_messages.specs.declared.Head.{Head}
 use Rattle.neighbour.specs.declared.Offer.{Offer}
 use Rattle.neighbour.specs.declared.Offer.the-variants.{Acceptable, Unacceptable}
 use Rattle.neighbour.specs.Record.{under, idle, leftIdle, waiting, initialised}
-use Rattle.neighbour_messages.specs.Sent.{requestMessage, confirmMessage, refuseMessage, ceaseMessage, ceaseAckMessage, helloMessage, iHeardYouMessage, updateMessage, errorMessage}
+use Rattle.neighbour_messages.specs.Sent.{requestMessage, confirmMessage, refuseMessage, ceaseMessage, strayCeaseMessage, ceaseAckMessage, helloMessage, iHeardYouMessage, updateMessage, errorMessage}
 use Rattle.neighbour_machine.specs.declared.Reply.{Reply}
 use Rattle.neighbour_machine.specs.declared.Reply.the-variants.{Nothing, One, Two}
 use Rattle.neighbour_machine.specs.declared.After.{After}
@@ -71,9 +71,10 @@ repeatsCease g n = answers n (ceaseMessage g n)
 unfoldable pub acquires : Settings → Neighbour → After
 acquires g n = answers (waiting n Acquisition 0) (requestMessage g (waiting n Acquisition 0))
 
--- what Idle does with a stray Confirm, Refuse, Hello, I-H-U, Poll or Update: nothing, as 01's cells "-" say (I-H-U has no row)
+-- 02: "Idle answer Confirm, Refuse, Hello, I-H-U, Poll and Update with Cease .. the neighbour staying Idle"; "`quiet=1` ..
+-- keeps the old behaviour", 01's cells "-" (I-H-U has no row)
 unfoldable pub stray : Settings → Neighbour → After
-stray g n = unanswered n
+stray g n = cond (eqb (g .quiet) 1) (unanswered n) (answers n (strayCeaseMessage g))
 
 -- | Request, acceptable   | Down, A | Down, A | Down, A | Down, A | send Cease |
 -- | Request, unacceptable | send Refuse 6 | Idle | Cease 6 | Cease 6 | send Cease |
@@ -91,11 +92,11 @@ unfoldable pub settles : Settings → Neighbour → Offer → After
 settles g n (Acceptable period1 period2 mode) = doesB g n period1 period2 mode
 settles g n Unacceptable = unanswered idle
 
--- | Confirm | - | Down, B, or Idle if unacceptable | - | - | - |
+-- | Confirm | stray | Down, B, or Idle if unacceptable | - | - | - |
 unfoldable pub onConfirm : Settings → Neighbour → Offer → After
 onConfirm g n offer = under (n .phase) (stray g n) (settles g n offer) (unanswered n) (unanswered n) (unanswered n)
 
--- | Refuse | - | Idle | - | - | - |
+-- | Refuse | stray | Idle | - | - | - |
 unfoldable pub onRefuse : Settings → Neighbour → After
 onRefuse g n = under (n .phase) (stray g n) (unanswered idle) (unanswered n) (unanswered n) (unanswered n)
 
@@ -107,12 +108,12 @@ onCease g sequence = answers idle (ceaseAckMessage g sequence)
 unfoldable pub onCeaseAck : Neighbour → After
 onCeaseAck n = under (n .phase) (unanswered n) (unanswered n) (unanswered n) (unanswered n) (unanswered idle)
 
--- | Hello | - | - | I-H-U | I-H-U | - |
+-- | Hello | stray | - | I-H-U | I-H-U | - |
 unfoldable pub onHello : Settings → Neighbour → After
 onHello g n =
     under (n .phase) (stray g n) (unanswered n) (answers n (iHeardYouMessage g n)) (answers n (iHeardYouMessage g n)) (unanswered n)
 
--- I-H-U has no row: it is an indication or nothing
+-- I-H-U has no row: it is an indication, stray in Idle, or nothing
 unfoldable pub onIHeardYou : Settings → Neighbour → After
 onIHeardYou g n = under (n .phase) (stray g n) (unanswered n) (unanswered n) (unanswered n) (unanswered n)
 
@@ -120,11 +121,11 @@ onIHeardYou g n = under (n .phase) (stray g n) (unanswered n) (unanswered n) (un
 unfoldable pub answersPoll : Settings → Neighbour → ℕ → Head → After
 answersPoll g n net head = cond (eqb net (g .net)) (answers n (updateMessage g n)) (answers n (errorMessage g n 3 head))
 
--- | Poll | - | - | - | Update, or Error 3 for another net | - |
+-- | Poll | stray | - | - | Update, or Error 3 for another net | - |
 unfoldable pub onPoll : Settings → Neighbour → ℕ → Head → After
 onPoll g n net head = under (n .phase) (stray g n) (unanswered n) (unanswered n) (answersPoll g n net head) (unanswered n)
 
--- | Update | - | - | - | replace rows | - |: the rows stand outside this record
+-- | Update | stray | - | - | replace rows | - |: the rows stand outside this record
 unfoldable pub onUpdate : Settings → Neighbour → After
 onUpdate g n = under (n .phase) (stray g n) (unanswered n) (unanswered n) (unanswered n) (unanswered n)
 

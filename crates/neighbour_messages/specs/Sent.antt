@@ -33,6 +33,10 @@ refuseMessage g sequence status = M.Refuse (g .asn) sequence status
 abbrev pub ceaseMessage : Settings → Neighbour → Message
 ceaseMessage g n = M.Cease (g .asn) (n .s) (n .cause)
 
+-- 02: "a Cease, status 7, sequence 0", to a stray message
+abbrev pub strayCeaseMessage : Settings → Message
+strayCeaseMessage g = M.Cease (g .asn) 0 7
+
 -- 01: "0 on Cease-ack"
 abbrev pub ceaseAckMessage : Settings → ℕ → Message
 ceaseAckMessage g sequence = M.CeaseAck (g .asn) sequence 0

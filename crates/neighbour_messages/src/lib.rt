@@ -1,6 +1,6 @@
 // The messages that a gateway sends to a neighbour.
 ghost use mathlib.Core.Path.{_≡_};
-ghost use Rattle.neighbour_messages.specs.Sent.{statusIn, requestMessage, confirmMessage, refuseMessage, ceaseMessage, ceaseAckMessage, helloMessage, iHeardYouMessage, pollMessage, updateMessage, errorMessage};
+ghost use Rattle.neighbour_messages.specs.Sent.{statusIn, requestMessage, confirmMessage, refuseMessage, ceaseMessage, strayCeaseMessage, ceaseAckMessage, helloMessage, iHeardYouMessage, pollMessage, updateMessage, errorMessage};
 use message::Message;
 use neighbour::Neighbour;
 use neighbour::P1;
@@ -69,6 +69,17 @@ pub fn cease_message(settings: Settings, n: Neighbour) -> Message
         asn: settings.asn,
         sequence: n.s,
         status: n.cause,
+    }
+}
+
+// A Cease that no state of ours is behind: it answers a stray message.
+pub fn stray_cease_message(settings: Settings) -> Message
+    ensures { λ r. ⌜ r ≡ strayCeaseMessage settings ⌝ }
+{
+    Message::Cease {
+        asn: settings.asn,
+        sequence: 0,
+        status: 7,
     }
 }
 

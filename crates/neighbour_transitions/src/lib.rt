@@ -120,11 +120,14 @@ fn acquire(settings: Settings, n: Neighbour) -> After
     answer(next, neighbour_messages::request_message(settings, next))
 }
 
-// A message to an idle neighbour that asks for nothing we do there.
-fn ignore(settings: Settings, n: Neighbour) -> After
+// A message to an idle neighbour that thinks it is still acquired.
+fn answer_stray(settings: Settings, n: Neighbour) -> After
     ensures { λ r. ⌜ r ≡ stray settings n ⌝ }
 {
-    keep(n)
+    if settings.quiet == 1 {
+        return keep(n);
+    }
+    answer(n, neighbour_messages::stray_cease_message(settings))
 }
 
 // The rows of 01's table.
@@ -186,7 +189,7 @@ fn on_confirm(settings: Settings, n: Neighbour, offer: Offer) -> After
 {
     let phase = n.phase;
     match phase {
-        Phase::Idle => ignore(settings, n),
+        Phase::Idle => answer_stray(settings, n),
         Phase::Acquisition => settle(settings, n, offer),
         Phase::Down => keep(n),
         Phase::Up => keep(n),
@@ -213,7 +216,7 @@ fn on_refuse(settings: Settings, n: Neighbour) -> After
 {
     let phase = n.phase;
     match phase {
-        Phase::Idle => ignore(settings, n),
+        Phase::Idle => answer_stray(settings, n),
         Phase::Acquisition => keep(neighbour::to_idle()),
         Phase::Down => keep(n),
         Phase::Up => keep(n),
@@ -249,7 +252,7 @@ fn on_hello(settings: Settings, n: Neighbour) -> After
 {
     let phase = n.phase;
     match phase {
-        Phase::Idle => ignore(settings, n),
+        Phase::Idle => answer_stray(settings, n),
         Phase::Acquisition => keep(n),
         Phase::Down => answer(n, neighbour_messages::i_heard_you_message(settings, n)),
         Phase::Up => answer(n, neighbour_messages::i_heard_you_message(settings, n)),
@@ -263,7 +266,7 @@ fn on_indication(settings: Settings, n: Neighbour) -> After
 {
     let phase = n.phase;
     match phase {
-        Phase::Idle => ignore(settings, n),
+        Phase::Idle => answer_stray(settings, n),
         Phase::Acquisition => keep(n),
         Phase::Down => keep(n),
         Phase::Up => keep(n),
@@ -276,7 +279,7 @@ fn on_poll(settings: Settings, n: Neighbour, net: u32, head: Head) -> After
 {
     let phase = n.phase;
     match phase {
-        Phase::Idle => ignore(settings, n),
+        Phase::Idle => answer_stray(settings, n),
         Phase::Acquisition => keep(n),
         Phase::Down => keep(n),
         Phase::Up => answer_poll(settings, n, net, head),

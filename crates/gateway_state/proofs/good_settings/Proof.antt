@@ -13,20 +13,24 @@ returns-2 : tie.Need-returns-2
 unfolding goodSettings
 returns-2 c = simp (ne-eqb _ _ (c .before .before .if1 .left), lt-leb _ _ (c .if2 .taken))
 
+returns-3 : tie.Need-returns-3
+unfolding goodSettings
+returns-3 c = simp (ne-eqb _ _ (c .before .before .before .before .if1 .left), le-leb _ _ (c .before .before .if2 .left), lt-leb _ _ (c .if3 .taken))
+
 good-net-requires : tie.Need-good-net-requires
 good-net-requires c κs = search needs
 
-returns-3 : tie.Need-returns-3
+returns-4 : tie.Need-returns-4
 unfolding goodSettings
-returns-3 c = simp (ne-eqb _ _ (c .before .before .before .before .if1 .left), le-leb _ _ (c .before .before .if2 .left), sym (c .before .good-net .ensures) ∙ not-true _ (c .if3 .taken))
+returns-4 c = simp (ne-eqb _ _ (c .before .before .before .before .before .before .if1 .left), le-leb _ _ (c .before .before .before .before .if2 .left), le-leb _ _ (c .before .before .if3 .left), sym (c .before .good-net .ensures) ∙ not-true _ (c .if4 .taken))
 
 on-net-requires : tie.Need-on-net-requires
 on-net-requires c κs = search needs
 
-returns-4 : tie.Need-returns-4
+returns-5 : tie.Need-returns-5
 unfolding goodSettings
-returns-4 c = simp (ne-eqb _ _ (c .before .before .before .before .before .if1 .left), le-leb _ _ (c .before .before .before .if2 .left), sym (c .before .before .good-net .ensures) ∙ not-false _ (c .before .if3 .left)) (c .on-net .ensures)
+returns-5 c = simp (ne-eqb _ _ (c .before .before .before .before .before .before .before .if1 .left), le-leb _ _ (c .before .before .before .before .before .if2 .left), le-leb _ _ (c .before .before .before .if3 .left), sym (c .before .before .good-net .ensures) ∙ not-false _ (c .before .if4 .left)) (c .on-net .ensures)
 
 pub good-settings-spec : {M : Type 1} → statement M
 good-settings-spec =
-    tie.close (tie.spec returns returns-2 good-net-requires returns-3 on-net-requires returns-4)
+    tie.close (tie.spec returns returns-2 returns-3 good-net-requires returns-4 on-net-requires returns-5)

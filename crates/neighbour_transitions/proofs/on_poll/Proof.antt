@@ -8,8 +8,8 @@ use Rattle.neighbour_transitions.proofs.on_poll.Tie as tie
 enum-told : tie.Need-enum-told
 enum-told c = search needs
 
-ignore-requires : tie.Need-ignore-requires
-ignore-requires c κs = search needs
+answer-stray-requires : tie.Need-answer-stray-requires
+answer-stray-requires c κs = search needs
 
 enum-told-2 : tie.Need-enum-told-2
 enum-told-2 c = search needs
@@ -37,7 +37,7 @@ keep-requires-3 c κs = search needs
 
 returns : tie.Need-returns
 unfolding onPoll
-returns c = c .ignore .ensures ∙ sym (at-idle _ _ _ _ _ _ (c .before .enum-told .given .1))
+returns c = c .answer-stray .ensures ∙ sym (at-idle _ _ _ _ _ _ (c .before .enum-told .given .1))
 
 returns-2 : tie.Need-returns-2
 unfolding onPoll
@@ -60,7 +60,7 @@ on-poll-spec =
     tie.close
     (tie.spec
     enum-told
-    ignore-requires
+    answer-stray-requires
     enum-told-2
     keep-requires
     enum-told-3

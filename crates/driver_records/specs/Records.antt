@@ -6,7 +6,8 @@ use Rattle.octets.specs.Numbers.{word16, word32, octets16, octets32}
 use Rattle.neighbour.specs.declared.Settings.{Settings}
 use Rattle.driver_records.specs.declared.RecordHead.{RecordHead}
 
--- kind (1), capability or fill (1), AS (2), address (4), net (4), buffer (4), times (4), octets (4), numbers (4)
+-- kind (1), capability or fill (1), AS (2), address (4), net (4), buffer (4), times (4), octets (4), numbers (4), unused
+-- (3), `quiet` (1)
 unfoldable pub recordHead : List ℕ → RecordHead
 recordHead l =
     record {
@@ -19,11 +20,12 @@ recordHead l =
       times = word32 l 16;
       octets = word32 l 20;
       numbers = word32 l 24;
+      quiet = getD l 31 0;
     }
 
--- fresh is told own AS, own address, capability and common net
+-- fresh is told own AS, own address, capability, common net and `quiet`
 abbrev pub settingsIn : RecordHead → Settings
-settingsIn head = record { asn = head .asn; own = head .address; capability = head .octet; net = head .net }
+settingsIn head = record { asn = head .asn; own = head .address; capability = head .octet; net = head .net; quiet = head .quiet }
 
 -- zero (1), answer (1), first length (2), second length (2), zero (2), buffer (4), numbers in the table (4)
 unfoldable pub answerOctets : ℕ → ℕ → ℕ → ℕ → ℕ → List ℕ

@@ -26,6 +26,8 @@ pub struct RecordHead {
     // How many octets follow, and then how many numbers.
     pub octets: u32,
     pub numbers: u32,
+    // The setting `quiet`.
+    pub quiet: u8,
 }
 
 // A record's head as it stands in its 32 octets.
@@ -42,6 +44,7 @@ pub fn read_head(octets: &[u8]) -> RecordHead
         times: octets::word32_at(octets, 16),
         octets: octets::word32_at(octets, 20),
         numbers: octets::word32_at(octets, 24),
+        quiet: octets::octet(octets, 31),
     }
 }
 
@@ -54,6 +57,7 @@ pub fn settings_in(head: RecordHead) -> Settings
         own: head.address,
         capability: head.octet,
         net: head.net,
+        quiet: head.quiet,
     }
 }
 

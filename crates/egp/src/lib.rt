@@ -9,9 +9,16 @@ ghost use Rattle.host_codec.specs.Codec.{readingResult, readingBuffer, writingR
 ghost use Rattle.host_rules.specs.Calls.{resultOf, blockAfter, tableAfter, bufferAfter, freshResult, freshBlock};
 
 #[no_mangle]
-pub extern "C" fn egp_fresh(block: &mut [u8], asn: u16, own: u32, capability: u8, net: u32) -> u64
-    ensures { λ r. ⌜ r ≡ freshResult (record { asn = asn; own = own; capability = capability; net = net }) (now (block .entry)) ⌝ }
-    ensures { λ _. ⌜ now (block .exit) ≡ freshBlock (record { asn = asn; own = own; capability = capability; net = net }) (now (block .entry)) ⌝ }
+pub extern "C" fn egp_fresh(
+    block: &mut [u8],
+    asn: u16,
+    own: u32,
+    capability: u8,
+    net: u32,
+    quiet: u8,
+) -> u64
+    ensures { λ r. ⌜ r ≡ freshResult (record { asn = asn; own = own; capability = capability; net = net; quiet = quiet }) (now (block .entry)) ⌝ }
+    ensures { λ _. ⌜ now (block .exit) ≡ freshBlock (record { asn = asn; own = own; capability = capability; net = net; quiet = quiet }) (now (block .entry)) ⌝ }
 {
     host_slots::fresh(
         block,
@@ -20,6 +27,7 @@ pub extern "C" fn egp_fresh(block: &mut [u8], asn: u16, own: u32, capability: u8
             own,
             capability,
             net,
+            quiet,
         },
     )
 }

@@ -9,6 +9,8 @@ host-sheet =
     record {
       layout-written = refl;
       layout-read = refl;
+      quiet-written = refl;
+      quiet-read = refl;
       places = refl;
       ranges = refl;
       lengths = refl;

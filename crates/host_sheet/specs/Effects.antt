@@ -3,24 +3,47 @@ use mathlib.Core.List.{List, [], _∷_, _++_}
 use lib.ListN.{replicate}
 use Rattle.neighbour_machine.specs.Intrinsics.{Start, Stop, Tick}
 use Rattle.model.specs.Model.{add, remove, happen, receive}
-use Rattle.gateway_check_sheet.specs.Given.{hex, ip, set}
-use Rattle.host_sheet.specs.Given.{own, free, block, sound, exchanged, slot0, slot2, slot5, slot6, slot7, eights, table, room, inSlot0, inSlot2, inSlot6, inSlot7}
+use Rattle.gateway_check_sheet.specs.Given.{hex, ip, set, nineWith}
+use Rattle.host_sheet.specs.Given.{own, ownQuiet, free, block, sound, quietSound, exchanged, slot0, slot2, slot5, slot6, slot7, eights, table, room, inSlot0, inSlot2, inSlot6, inSlot7, row}
 use Rattle.host_sheet.specs.Line.{Line, fresh, alone, whole}
 
 unfoldable pub effects : List Line
 effects =
     -- fresh, on a block of 255s and on one that holds a state: every octet is written
-    fresh (set 9 (ip 128 9 0 1) 0 (ip 128 9 0 0)) (replicate 243 255) 0 (block own free free free free free free free free) ∷
+    fresh (set 9 (ip 128 9 0 1) 0 (ip 128 9 0 0)) (replicate 244 255) 0 (block own free free free free free free free free) ∷
     fresh (set 0x0102 (ip 128 9 3 4) 2 (ip 128 9 0 0)) sound 0
-    (block "01 02 80 09 03 04 02 80 09 00 00" free free free free free free free free) ∷
+    (block "01 02 80 09 03 04 02 80 09 00 00 00" free free free free free free free free) ∷
+    -- `quiet` 1 and 0, also over a block that has the other
+    fresh (nineWith 1) (replicate 244 255) 0 (block ownQuiet free free free free free free free free) ∷
+    fresh (nineWith 1) sound 0 (block ownQuiet free free free free free free free free) ∷
+    fresh (nineWith 0) quietSound 0 (block own free free free free free free free free) ∷
     -- add: the lowest free slot, which is 5; remove: all zero again
     alone (add (ip 128 9 0 18) 0x1234) sound 0
     (exchanged slot5 "80 09 00 12 12 34 00 00 00 00 00 00 00 00 00 00 00 00 00 00 00 00 00 00 00 00 00 00 00" sound) ∷
     alone (remove inSlot7) sound 0 (exchanged slot7 free sound) ∷
+    -- 02, L6: "is fixed when the state is fresh": neither changes it
+    alone (add (ip 128 9 0 18) 0x1234) quietSound 0
+    (exchanged slot5 "80 09 00 12 12 34 00 00 00 00 00 00 00 00 00 00 00 00 00 00 00 00 00 00 00 00 00 00 00" quietSound) ∷
+    alone (remove inSlot7) quietSound 0 (exchanged slot7 free quietSound) ∷
     -- Start in Idle: state 1, t1 30, t3 120
     whole (happen Start inSlot0 room) sound table 0x0000_0000_000E_0000
     (exchanged slot0 "80 09 00 0A 00 0A 00 00 00 00 00 00 00 00 00 1E 00 00 00 78 00 00 01 00 00 00 00 00 00" sound)
     (eights 12288) (hex "02 03 00 00 FD 5D 00 09 00 00 00 1E 00 78") ∷
+    -- 02, L6: a stray Hello, Poll or Update in Idle: "a Cease, status 7, sequence 0, answer 0, the neighbour staying
+    -- Idle". No octet of block or table changes
+    whole (receive inSlot0 (hex "02 05 00 01 FD E6 00 0A 00 09") [] room) sound table 0x0000_0000_000A_0000
+    sound (eights 12288) (hex "02 03 03 07 FA EC 00 09 00 00") ∷
+    whole (receive inSlot0 (hex "02 02 00 01 7D E0 00 0A 00 09 00 00 80 09 00 00") row room) sound table 0x0000_0000_000A_0000
+    sound (eights 12288) (hex "02 03 03 07 FA EC 00 09 00 00") ∷
+    whole (receive inSlot0 (hex "02 01 00 01 B3 D5 00 0A 00 00 01 00 80 09 00 00 00 05 01 00 02 0A C0 05 06") [] room) sound table 0x0000_0000_000A_0000
+    sound (eights 12288) (hex "02 03 03 07 FA EC 00 09 00 00") ∷
+    -- "`quiet=1` .. keeps the old behaviour": nothing is sent
+    whole (receive inSlot0 (hex "02 05 00 01 FD E6 00 0A 00 09") [] room) quietSound table 0
+    quietSound (eights 12288) [] ∷
+    whole (receive inSlot0 (hex "02 02 00 01 7D E0 00 0A 00 09 00 00 80 09 00 00") row room) quietSound table 0
+    quietSound (eights 12288) [] ∷
+    whole (receive inSlot0 (hex "02 01 00 01 B3 D5 00 0A 00 00 01 00 80 09 00 00 00 05 01 00 02 0A C0 05 06") [] room) quietSound table 0
+    quietSound (eights 12288) [] ∷
     -- a tick that only counts: t1 19, t2 99, t3 49; 41 since a Hello, the Poll's held at 120
     whole (happen Tick inSlot2 room) sound table 0
     (exchanged slot2 "80 09 00 05 00 07 00 01 00 04 00 20 00 7A 00 13 00 63 00 31 00 03 03 01 07 00 00 29 78" sound)

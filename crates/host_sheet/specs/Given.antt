@@ -5,14 +5,17 @@ use mathlib.Core.List.{List, [], _∷_, _++_}
 use lib.ListN.{take, drop, replicate}
 use Rattle.gateway_check_sheet.specs.Given.{hex, ip, repeated}
 
--- a block as it is lent: its own 11 octets, then 29 for each of the eight slots
+-- a block as it is lent: its own 12 octets, then 29 for each of the eight slots
 unfoldable pub block : String → String → String → String → String → String → String → String → String → List ℕ
 block own a b c d e f g h =
     hex own ++ (hex a ++ (hex b ++ (hex c ++ (hex d ++ (hex e ++ (hex f ++ (hex g ++ hex h)))))))
 
--- AS 9 at 128.9.0.1 on 128.9.0.0, capability 0
+-- AS 9 at 128.9.0.1 on 128.9.0.0, capability 0; `quiet` 0, and 1
 unfoldable pub own : String
-own = "00 09 80 09 00 01 00 80 09 00 00"
+own = "00 09 80 09 00 01 00 80 09 00 00 00"
+
+unfoldable pub ownQuiet : String
+ownQuiet = "00 09 80 09 00 01 00 80 09 00 00 01"
 
 -- 01: "free slots are all zero"
 unfoldable pub free : String
@@ -54,42 +57,54 @@ sound =
 unfoldable pub exchanged : ℕ → String → List ℕ → List ℕ
 exchanged start octets lent = take start lent ++ (hex octets ++ drop (start + 29) lent)
 
--- where they begin: 11, and 29 for each slot before it
+-- where they begin: 12, and 29 for each slot before it
 unfoldable pub slot0 : ℕ
-slot0 = 11
+slot0 = 12
 
 unfoldable pub slot1 : ℕ
-slot1 = 40
+slot1 = 41
 
 unfoldable pub slot2 : ℕ
-slot2 = 69
+slot2 = 70
 
 unfoldable pub slot5 : ℕ
-slot5 = 156
+slot5 = 157
 
 unfoldable pub slot6 : ℕ
-slot6 = 185
+slot6 = 186
 
 unfoldable pub slot7 : ℕ
-slot7 = 214
+slot7 = 215
 
 -- the block with another octet at this index
 unfoldable pub changed : ℕ → ℕ → List ℕ → List ℕ
 changed index octet lent = take index lent ++ (octet ∷ drop (index + 1) lent)
 
+-- the sound block with `quiet` 1
+unfoldable pub quietSound : List ℕ
+quietSound = changed 11 1 sound
+
 -- a neighbour in every slot
 unfoldable pub full : List ℕ
 full = exchanged slot5 "80 09 00 0F 00 0F 00 00 00 00 00 00 00 00 00 00 00 00 00 00 00 00 00 00 00 00 00 00 00" sound
 
--- blocks of other lengths: without the last octet, and with one more; case U's as it was without counts, 227 octets
+-- blocks of other lengths: without the last octet, and with one more; case U's as it was without `quiet`, 243 octets,
+-- and without counts, 227
 unfoldable pub shorter : List ℕ
-shorter = take 242 sound
+shorter = take 243 sound
 
 unfoldable pub longer : List ℕ
 longer = sound ++ (0 ∷ [])
 
-unfoldable pub older : List ℕ
-older = hex own ++ (hex "80 09 00 05 00 07 00 01 00 04 00 20 00 7A 00 14 00 64 00 32 00 02 03 01 07 00 00" ++ replicate 189 0)
+unfoldable pub withoutQuiet : List ℕ
+withoutQuiet =
+    hex "00 09 80 09 00 01 00 80 09 00 00"
+    ++ (hex "80 09 00 05 00 07 00 01 00 04 00 20 00 7A 00 14 00 64 00 32 00 02 03 01 07 00 00 28 78" ++ replicate 203 0)
+
+unfoldable pub withoutCounts : List ℕ
+withoutCounts =
+    hex "00 09 80 09 00 01 00 80 09 00 00"
+    ++ (hex "80 09 00 05 00 07 00 01 00 04 00 20 00 7A 00 14 00 64 00 32 00 02 03 01 07 00 00" ++ replicate 189 0)
 
 -- a table of so many octets, all 8; a buffer of so many, all 7: so that what is kept shows
 unfoldable pub eights : ℕ → List ℕ

@@ -1,7 +1,7 @@
 -- The state block's octets. 02: "State block, big-endian: own AS (2), own address (4), capability (1), common net (4),
 -- then each slot's address (4), AS, S, R, T1, T2, t1, t2, t3, row count (2 each), state, mode, register, heard, cause
--- (1 each)", and L5's two counts behind that, Hello's first: "Later fields end their part in the order named, in as few
--- octets as they need". No two octets of the block are the same but those of state and mode, so that a field at another
+-- (1 each)"; L5's two counts end a slot's part, Hello's first, and L6's `quiet` ends the own part: "Later fields end
+-- their part in the order named, in as few octets as they need". No two octets of the block are the same but those of state and mode, so that a field at another
 -- place shows.
 use Prim.Native.Nat.{ℕ}
 use mathlib.Core.List.{List, [], _∷_}
@@ -9,14 +9,15 @@ use Rattle.neighbour.specs.declared.Phase.the-variants.{Idle, Acquisition, Down
 use Rattle.neighbour.specs.declared.Mode.the-variants.{Unset, Active, Passive}
 use Rattle.gateway_state.specs.declared.State.{State}
 use Rattle.host_state_block.specs.Block.{ownSize, slotSize, blockSize, slotStart}
-use Rattle.gateway_check_sheet.specs.Given.{set, made, since, slot, state}
-use Rattle.host_sheet.specs.Given.{block}
+use Rattle.neighbour.specs.Record.{withQuiet}
+use Rattle.gateway_check_sheet.specs.Given.{ip, set, nineWith, made, since, slot, state, withoutNeighbours}
+use Rattle.host_sheet.specs.Given.{block, own, ownQuiet, free}
 
--- own AS, own address, capability, common net; of each slot address, AS, ticks since a Hello and since a Poll, state,
+-- own AS, own address, capability, common net, `quiet`; of each slot address, AS, ticks since a Hello and since a Poll, state,
 -- S, R, T1, T2, mode, t1, t2, t3, register, heard, cause, row count
 unfoldable pub everyField : State
 everyField =
-    state (set 0x0102 0x80090304 0x05 0x06070C0D)
+    state (withQuiet (set 0x0102 0x80090304 0x05 0x06070C0D) 0x0E)
     (slot 0x10111213 0x1415 (since 0xD8 0xD9 (made Idle 0x1617 0x1819 0x1A1B 0x1C1D Unset 0x1E1F 0x2021 0x2223 0x26 0x27 0x28)) 0x2425)
     (slot 0x292A2B2C 0x2D2E (since 0xDA 0xDB (made Acquisition 0x2F30 0x3132 0x3334 0x3536 Active 0x3738 0x393A 0x3B3C 0x3F 0x40 0x41)) 0x3D3E)
     (slot 0x42434445 0x4647 (since 0xDC 0xDD (made Down 0x4849 0x4A4B 0x4C4D 0x4E4F Passive 0x5051 0x5253 0x5455 0x58 0x59 0x5A)) 0x5657)
@@ -28,7 +29,7 @@ everyField =
 
 unfoldable pub everyOctet : List ℕ
 everyOctet =
-    block "01 02 80 09 03 04 05 06 07 0C 0D"
+    block "01 02 80 09 03 04 05 06 07 0C 0D 0E"
     "10 11 12 13 14 15 16 17 18 19 1A 1B 1C 1D 1E 1F 20 21 22 23 24 25 00 00 26 27 28 D8 D9"
     "29 2A 2B 2C 2D 2E 2F 30 31 32 33 34 35 36 37 38 39 3A 3B 3C 3D 3E 01 01 3F 40 41 DA DB"
     "42 43 44 45 46 47 48 49 4A 4B 4C 4D 4E 4F 50 51 52 53 54 55 56 57 02 02 58 59 5A DC DD"
@@ -38,9 +39,22 @@ everyOctet =
     "A6 A7 A8 A9 AA AB AC AD AE AF B0 B1 B2 B3 B4 B5 B6 B7 B8 B9 BA BB 01 00 BC BD BE E6 E7"
     "BF C0 C1 C2 C3 C4 C5 C6 C7 C8 C9 CA CB CC CD CE CF D0 D1 D2 D3 D4 03 02 D5 D6 D7 E8 E9"
 
+-- `quiet` 0 and 1, without neighbours
+unfoldable pub bothKinds : List State
+bothKinds =
+    withoutNeighbours (nineWith 0)
+    ∷ withoutNeighbours (nineWith 1)
+    ∷ []
+
+unfoldable pub bothBlocks : List (List ℕ)
+bothBlocks =
+    block own free free free free free free free free
+    ∷ block ownQuiet free free free free free free free free
+    ∷ []
+
 -- the octets of the settings, of a slot, of the block; where slots 0, 1 and 7 begin
 unfoldable pub placesComputed : List ℕ
 placesComputed = ownSize ∷ slotSize ∷ blockSize ∷ slotStart 0 ∷ slotStart 1 ∷ slotStart 7 ∷ []
 
 unfoldable pub placesWritten : List ℕ
-placesWritten = 11 ∷ 29 ∷ 243 ∷ 11 ∷ 40 ∷ 214 ∷ []
+placesWritten = 12 ∷ 29 ∷ 244 ∷ 12 ∷ 41 ∷ 215 ∷ []

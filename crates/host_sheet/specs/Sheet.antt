@@ -4,7 +4,7 @@
 use mathlib.Core.Path.{_≡_}
 use mathlib.Core.List.{map}
 use Rattle.host_state_block.specs.Block.{blockOf, stateIn}
-use Rattle.host_sheet.specs.Layout.{everyField, everyOctet, placesComputed, placesWritten}
+use Rattle.host_sheet.specs.Layout.{everyField, everyOctet, bothKinds, bothBlocks, placesComputed, placesWritten}
 use Rattle.host_sheet.specs.Ranges.{ranges}
 use Rattle.host_sheet.specs.Ranges as Ranges
 use Rattle.host_sheet.specs.Line.{computed, written}
@@ -20,6 +20,8 @@ pub record HostSheet : Type 0 where
   -- the block of a state, and the state in a block
   pub layout-written : blockOf everyField ≡ everyOctet
   pub layout-read : stateIn everyOctet ≡ everyField
+  pub quiet-written : map blockOf bothKinds ≡ bothBlocks
+  pub quiet-read : map stateIn bothBlocks ≡ bothKinds
   pub places : placesComputed ≡ placesWritten
   -- which octets make a block well formed
   pub ranges : map Ranges.computed ranges ≡ map Ranges.written ranges

@@ -16,9 +16,9 @@ use Rattle.gateway_state.specs.declared.Slot.{Slot}
 use Rattle.gateway_state.specs.declared.State.{State}
 use Rattle.host_state_block.specs.Layout.{Width, one, two, four, total, numbersAt, octetsFor}
 
--- "own AS (2), own address (4), capability (1), common net (4)"
+-- "own AS (2), own address (4), capability (1), common net (4)", then L6's `quiet`, "0 or 1"
 abbrev pub ownFields : List Width
-ownFields = two ∷ four ∷ one ∷ four ∷ []
+ownFields = two ∷ four ∷ one ∷ four ∷ one ∷ []
 
 -- "each slot's address (4), AS, S, R, T1, T2, t1, t2, t3, row count (2 each), state, mode, register, heard, cause
 -- (1 each)", then L5's "two counts of ticks since each", at most 120: "Later fields end their part in the order named,
@@ -26,7 +26,7 @@ ownFields = two ∷ four ∷ one ∷ four ∷ []
 abbrev pub slotFields : List Width
 slotFields = four ∷ two ∷ two ∷ two ∷ two ∷ two ∷ two ∷ two ∷ two ∷ two ∷ one ∷ one ∷ one ∷ one ∷ one ∷ one ∷ one ∷ []
 
--- 11 octets, 29 for each of the eight slots, 243 in all
+-- 12 octets, 29 for each of the eight slots, 244 in all
 abbrev pub ownSize : ℕ
 ownSize = total ownFields
 
@@ -51,10 +51,10 @@ modeAt n = cond (eqb n 1) Active (cond (eqb n 2) Passive Unset)
 -- ---- the numbers of the fields, in the order of the widths
 
 unfoldable pub ownNumbers : Settings → List ℕ
-ownNumbers g = g .asn ∷ g .own ∷ g .capability ∷ g .net ∷ []
+ownNumbers g = g .asn ∷ g .own ∷ g .capability ∷ g .net ∷ g .quiet ∷ []
 
 unfoldable pub settingsOf : List ℕ → Settings
-settingsOf f = record { asn = getD f 0 0; own = getD f 1 0; capability = getD f 2 0; net = getD f 3 0 }
+settingsOf f = record { asn = getD f 0 0; own = getD f 1 0; capability = getD f 2 0; net = getD f 3 0; quiet = getD f 4 0 }
 
 unfoldable pub slotNumbers : Slot → List ℕ
 slotNumbers slot =

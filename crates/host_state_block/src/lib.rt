@@ -18,10 +18,10 @@ ghost use Rattle.host_state_block.specs.Block.{ownSize, slotSize, blockS
 ghost use Rattle.host_state_block.specs.Formed.{inRange, blockFormed};
 ghost use Rattle.host_state_block.specs.Steps.{partFormed, partsFormed};
 
-// The octets of a block: 11 of the settings, 29 of each slot.
-pub const BLOCK: usize = 243;
+// The octets of a block: 12 of the settings, 29 of each slot.
+pub const BLOCK: usize = 244;
 
-const OWN: usize = 11;
+const OWN: usize = 12;
 
 const SLOT: usize = 29;
 
@@ -91,6 +91,7 @@ fn read_settings(part: &[u8]) -> Settings
         own: octets::quad(part[2], part[3], part[4], part[5]),
         capability: part[6],
         net: octets::quad(part[7], part[8], part[9], part[10]),
+        quiet: part[11],
     }
 }
 
@@ -359,8 +360,8 @@ pub fn lowest_free(block: &[u8]) -> usize
 
 // ---- written
 
-// The settings' eleven octets.
-fn settings_octets(s: Settings) -> [u8; 11]
+// The settings' twelve octets.
+fn settings_octets(s: Settings) -> [u8; 12]
     ensures { λ r. ⌜ r ≡ ownOctets s ⌝ }
 {
     [
@@ -375,6 +376,7 @@ fn settings_octets(s: Settings) -> [u8; 11]
         octets::second_of(s.net),
         octets::third_of(s.net),
         octets::fourth_of(s.net),
+        s.quiet,
     ]
 }
 

@@ -151,6 +151,6 @@ host-list-of-calls g f z block long calls e =
     }
 
 -- there are settings of both kinds: AS 9 at 128.9.0.1 on 128.9.0.0, which fresh takes (`some-settings` of the model)
-pub some-fit : Fit ownFields (ownNumbers (record { asn = 9; own = 2148073473; capability = 0; net = 2148073472 }))
+pub some-fit : Fit ownFields (ownNumbers (record { asn = 9; own = 2148073473; capability = 0; net = 2148073472; quiet = 0 }))
 unfolding ownNumbers
 some-fit = omega arith

@@ -30,9 +30,12 @@ word32-at-requires-5 c κs = search needs
 word32-at-requires-6 : tie.Need-word32-at-requires-6
 word32-at-requires-6 c κs = search needs
 
+octet-requires-3 : tie.Need-octet-requires-3
+octet-requires-3 c κs = search needs
+
 returns : tie.Need-returns
 unfolding recordHead
-returns c = rw (c .word32-at6 .ensures, c .before .word32-at5 .ensures, c .before .before .word32-at4 .ensures, c .before .before .before .word32-at3 .ensures, c .before .before .before .before .word32-at2 .ensures, c .before .before .before .before .before .word32-at .ensures, c .before .before .before .before .before .before .word16-at .ensures, c .before .before .before .before .before .before .before .octet2 .ensures, c .before .before .before .before .before .before .before .before .octet .ensures)
+returns c = rw (c .octet3 .ensures, c .before .word32-at6 .ensures, c .before .before .word32-at5 .ensures, c .before .before .before .word32-at4 .ensures, c .before .before .before .before .word32-at3 .ensures, c .before .before .before .before .before .word32-at2 .ensures, c .before .before .before .before .before .before .word32-at .ensures, c .before .before .before .before .before .before .before .word16-at .ensures, c .before .before .before .before .before .before .before .before .octet2 .ensures, c .before .before .before .before .before .before .before .before .before .octet .ensures)
 
 pub read-head-spec : {M : Type 1} → statement M
 read-head-spec =
@@ -47,4 +50,5 @@ read-head-spec =
     word32-at-requires-4
     word32-at-requires-5
     word32-at-requires-6
+    octet-requires-3
     returns)

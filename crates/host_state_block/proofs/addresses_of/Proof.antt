@@ -43,7 +43,7 @@ address-at-requires-8 c κs = search needs
 returns : tie.Need-returns
 returns c =
     let p : _ ≡ addressesFrom 8 0 _ = λ i. (c .before .before .before .before .before .before .before .address-at .ensures) i ∷ (c .before .before .before .before .before .before .address-at2 .ensures) i ∷ (c .before .before .before .before .before .address-at3 .ensures) i ∷ (c .before .before .before .before .address-at4 .ensures) i ∷ (c .before .before .before .address-at5 .ensures) i ∷ (c .before .before .address-at6 .ensures) i ∷ (c .before .address-at7 .ensures) i ∷ (c .address-at8 .ensures) i ∷ [] in
-    p ∙ addresses-read (c .before .before .before .before .before .before .before .before .before .before .args .block .now) _ (part-from 11 (c .before .before .before .before .before .before .before .before .before .before .args .block .now))
+    p ∙ addresses-read (c .before .before .before .before .before .before .before .before .before .before .args .block .now) _ (part-from 12 (c .before .before .before .before .before .before .before .before .before .before .args .block .now))
 
 pub addresses-of-spec : {M : Type 1} → statement M
 addresses-of-spec =

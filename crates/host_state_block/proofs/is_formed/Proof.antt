@@ -28,7 +28,7 @@ are-slots-formed-requires : tie.Need-are-slots-formed-requires
 are-slots-formed-requires c κs = search needs
 
 returns-2 : tie.Need-returns-2
-returns-2 c = sym (slots-ill (c .before .before .before .before .before .before .before .args .block .now) (c .before .before .before .before .before .settings-of .result) (c .before .before .before .before .before .settings-of .ensures) (sym (c .before .before .before .before .good-settings .ensures) ∙ not-false _ (c .before .before .before .if1 .left)) _ (part-from 11 (c .before .before .before .before .before .before .before .args .block .now)) (sym (c .before .are-slots-formed .ensures) ∙ not-true _ (c .if2 .taken)))
+returns-2 c = sym (slots-ill (c .before .before .before .before .before .before .before .args .block .now) (c .before .before .before .before .before .settings-of .result) (c .before .before .before .before .before .settings-of .ensures) (sym (c .before .before .before .before .good-settings .ensures) ∙ not-false _ (c .before .before .before .if1 .left)) _ (part-from 12 (c .before .before .before .before .before .before .before .args .block .now)) (sym (c .before .are-slots-formed .ensures) ∙ not-true _ (c .if2 .taken)))
 
 addresses-of-requires : tie.Need-addresses-of-requires
 addresses-of-requires c κs = search needs
@@ -37,7 +37,7 @@ are-distinct-requires : tie.Need-are-distinct-requires
 are-distinct-requires c κs = search needs
 
 returns-3 : tie.Need-returns-3
-returns-3 c = c .are-distinct .ensures ∙ slots-formed (c .before .before .before .before .before .before .before .before .before .args .block .now) (c .before .before .before .before .before .before .before .settings-of .result) (c .before .before .before .before .before .before .before .settings-of .ensures) (sym (c .before .before .before .before .before .before .good-settings .ensures) ∙ not-false _ (c .before .before .before .before .before .if1 .left)) _ (part-from 11 (c .before .before .before .before .before .before .before .before .before .args .block .now)) (sym (c .before .before .before .are-slots-formed .ensures) ∙ not-false _ (c .before .before .if2 .left)) (c .before .addresses-of .result) (c .before .addresses-of .ensures)
+returns-3 c = c .are-distinct .ensures ∙ slots-formed (c .before .before .before .before .before .before .before .before .before .args .block .now) (c .before .before .before .before .before .before .before .settings-of .result) (c .before .before .before .before .before .before .before .settings-of .ensures) (sym (c .before .before .before .before .before .before .good-settings .ensures) ∙ not-false _ (c .before .before .before .before .before .if1 .left)) _ (part-from 12 (c .before .before .before .before .before .before .before .before .before .args .block .now)) (sym (c .before .before .before .are-slots-formed .ensures) ∙ not-false _ (c .before .before .if2 .left)) (c .before .addresses-of .result) (c .before .addresses-of .ensures)
 
 pub is-formed-spec : {M : Type 1} → statement M
 is-formed-spec =

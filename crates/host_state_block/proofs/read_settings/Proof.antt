@@ -47,9 +47,12 @@ shared-slice-read-quad-8 c = search needs
 quad-requires-2 : tie.Need-quad-requires-2
 quad-requires-2 c κs = search needs
 
+shared-slice-read-t28 : tie.Need-shared-slice-read-t28
+shared-slice-read-t28 c = search needs
+
 returns : tie.Need-returns
 unfolding settingsIn settingsOf numbersAt
-returns c = λ i. record { asn = (c .before .before .before .before .before .before .before .before .before .before .before .pair .ensures) i; own = (c .before .before .before .before .before .before .quad .ensures) i; capability = getD (c .before .before .before .before .before .before .before .before .before .before .before .before .before .before .before .args .part .now) 6 0; net = (c .quad2 .ensures) i }
+returns c = λ i. record { asn = (c .before .before .before .before .before .before .before .before .before .before .before .before .pair .ensures) i; own = (c .before .before .before .before .before .before .before .quad .ensures) i; capability = getD (c .before .before .before .before .before .before .before .before .before .before .before .before .before .before .before .before .args .part .now) 6 0; net = (c .before .quad2 .ensures) i; quiet = getD (c .before .before .before .before .before .before .before .before .before .before .before .before .before .before .before .before .args .part .now) 11 0 }
 
 pub read-settings-spec : {M : Type 1} → statement M
 read-settings-spec =
@@ -69,4 +72,5 @@ read-settings-spec =
     shared-slice-read-quad-7
     shared-slice-read-quad-8
     quad-requires-2
+    shared-slice-read-t28
     returns)

@@ -41,7 +41,8 @@ returns c = λ i.
     (c .before .before .before .before .before .before .before .before .before .high .ensures) i ∷ (c .before .before .before .before .before .before .before .before .low .ensures) i
     ∷ (c .before .before .before .before .before .before .before .first-of .ensures) i ∷ (c .before .before .before .before .before .before .second-of .ensures) i ∷ (c .before .before .before .before .before .third-of .ensures) i ∷ (c .before .before .before .before .fourth-of .ensures) i
     ∷ c .before .before .before .before .before .before .before .before .before .before .args .s .capability
-    ∷ (c .before .before .before .first-of2 .ensures) i ∷ (c .before .before .second-of2 .ensures) i ∷ (c .before .third-of2 .ensures) i ∷ (c .fourth-of2 .ensures) i ∷ []
+    ∷ (c .before .before .before .first-of2 .ensures) i ∷ (c .before .before .second-of2 .ensures) i ∷ (c .before .third-of2 .ensures) i ∷ (c .fourth-of2 .ensures) i
+    ∷ c .before .before .before .before .before .before .before .before .before .before .args .s .quiet ∷ []
 
 pub settings-octets-spec : {M : Type 1} → statement M
 settings-octets-spec =

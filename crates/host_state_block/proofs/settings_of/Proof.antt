@@ -6,10 +6,10 @@ use Rattle.host_state_block.proofs.settings_of.Statement.{statement}
 use Rattle.host_state_block.proofs.settings_of.Tie as tie
 
 slice-aggregate-read-settings : tie.Need-slice-aggregate-read-settings
-slice-aggregate-read-settings c = sym (length-take-le 11 (c .before .before .args .block .now) (omega (arith, c .before .before .pre)))
+slice-aggregate-read-settings c = sym (length-take-le 12 (c .before .before .args .block .now) (omega (arith, c .before .before .pre)))
 
 read-settings-requires : tie.Need-read-settings-requires
-read-settings-requires c κs = length-take-le 11 (c .before .before .args .block .now) (omega (arith, c .before .before .pre))
+read-settings-requires c κs = length-take-le 12 (c .before .before .args .block .now) (omega (arith, c .before .before .pre))
 
 returns : tie.Need-returns
 unfolding stateIn

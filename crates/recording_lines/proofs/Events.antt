@@ -1,5 +1,5 @@
 -- One text for each event and each setting, and nothing else is good. Assumes nothing.
-use Prim.Native.Nat.{ℕ, suc, _≤_, _<_}
+use Prim.Native.Nat.{ℕ, zero, suc, _≤_, _<_}
 use native.Mathlib.Numerals.{add-one}
 use native.Mathlib.Omega.{arith}
 use mathlib.Core.Path.{_≡_, refl, sym, ap, _∙_}
@@ -19,8 +19,8 @@ use Rattle.text_values.specs.Places.{indexOf, startsWith}
 use Rattle.text_values.specs.Numbers.{whenNumber, decimalOf, dottedOf}
 use Rattle.text_values.specs.Hex.{hexText, isHex, hexOctets}
 use Rattle.text_values.proofs.Readings.{decimals, addresses, hexes, hex-half, slash-place, never, place-found}
-use Rattle.recording_lines.specs.Lines.{behind, ownAsOf, ownOf, capabilityOf, netOf, Event, bad, add, remove, start, stop, tick, rx, alone, slashed, addEvent, tickEvent, rxEvent, eventOf}
-use Rattle.recording_lines.specs.Claims.{eventText, isAddress, inRange, isGood, Events, Setting, SettingLines}
+use Rattle.recording_lines.specs.Lines.{behind, ownAsOf, ownOf, capabilityOf, netOf, quietOf, Event, bad, add, remove, start, stop, tick, rx, alone, slashed, addEvent, tickEvent, rxEvent, eventOf}
+use Rattle.recording_lines.specs.Claims.{eventText, isAddress, inRange, isGood, Events, Setting, SettingLines, QuietNoEvent}
 
 -- ---- behind a key
 
@@ -256,11 +256,21 @@ address-setting key h =
     (λ n t e. let r = addresses .only n t e in (r .0, omega arith)) (λ n h. dotted-length n)
 
 pub settings : SettingLines
-unfolding ownAsOf ownOf capabilityOf netOf text
+unfolding ownAsOf ownOf capabilityOf netOf quietOf text
 settings =
     record {
       own-as = decimal-setting (text "ownas=") 65535 (omega arith) (omega arith);
       own = address-setting (text "own=") (omega arith);
       capability = decimal-setting (text "cap=") 255 (omega arith) (omega arith);
       net = address-setting (text "net=") (omega arith);
+      quiet = decimal-setting (text "quiet=") 1 (omega arith) (omega arith);
     }
+
+pub quiet-no-event : QuietNoEvent
+unfolding eventOf behind startsWith text decimal
+quiet-no-event n line e = rw (settings .quiet .only n line e) (go n (settings .quiet .range n line e))
+  where
+    go : (n : ℕ) → n ≤ 1 → eventOf (text "quiet=" ++ decimal n) ≡ bad
+    go zero h = refl
+    go (suc zero) h = refl
+    go (suc (suc n)) h = absurd (omega (arith, h))

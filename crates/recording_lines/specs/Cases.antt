@@ -7,7 +7,7 @@ use lib.ListN.{replicate}
 use Rattle.checks.specs.Lists.{every}
 use Rattle.text.specs.Text.{text}
 use Rattle.text_values.specs.declared.Number.the-variants.{Bad, Is}
-use Rattle.recording_lines.specs.Lines.{Event, add, remove, start, stop, tick, rx, eventOf, ownAsOf, ownOf, capabilityOf, netOf}
+use Rattle.recording_lines.specs.Lines.{Event, add, remove, start, stop, tick, rx, eventOf, ownAsOf, ownOf, capabilityOf, netOf, quietOf}
 use Rattle.recording_lines.specs.Claims.{isGood}
 
 unfoldable pub goodLines : List (List ℕ)
@@ -67,6 +67,8 @@ badLines =
     ∷ text "start"
     ∷ text "drop=128.9.0.5"
     ∷ text "cap=1"
+    ∷ text "quiet=1"
+    ∷ text "quiet=0"
     ∷ (text "stop=128.9.0.5" ++ (13 ∷ []))
     ∷ []
 
@@ -81,3 +83,8 @@ pub record LineCases : Type 0 where
   pub own : map ownOf (text "own=128.9.0.5" ∷ text "own=128.9.0" ∷ text "net=128.9.0.5" ∷ []) ≡ Is 2148073477 ∷ Bad ∷ Bad ∷ []
   pub capability : map capabilityOf (text "cap=3" ∷ text "cap=255" ∷ text "cap=256" ∷ text "cap=" ∷ []) ≡ Is 3 ∷ Is 255 ∷ Bad ∷ Bad ∷ []
   pub net : map netOf (text "net=128.9.0.0" ∷ text "net=128.9.0.00" ∷ []) ≡ Is 2148073472 ∷ Bad ∷ []
+  -- the fifth
+  pub quiet :
+      map quietOf
+      (text "quiet=0" ∷ text "quiet=1" ∷ text "quiet=2" ∷ text "quiet=01" ∷ text "quiet=00" ∷ text "quiet=" ∷ text "quiet" ∷ text "quiet=1 " ∷ text " quiet=1" ∷ text "Quiet=1" ∷ text "quiet=10" ∷ text "quiet=-1" ∷ [])
+      ≡ Is 0 ∷ Is 1 ∷ Bad ∷ Bad ∷ Bad ∷ Bad ∷ Bad ∷ Bad ∷ Bad ∷ Bad ∷ Bad ∷ Bad ∷ []

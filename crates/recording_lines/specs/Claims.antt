@@ -10,7 +10,7 @@ use Rattle.text.specs.Text.{text, decimal, dotted}
 use Rattle.text_values.specs.declared.Number.{Number}
 use Rattle.text_values.specs.declared.Number.the-variants.{Is}
 use Rattle.text_values.specs.Hex.{hexText}
-use Rattle.recording_lines.specs.Lines.{Event, bad, add, remove, start, stop, tick, rx, eventOf, ownAsOf, ownOf, capabilityOf, netOf}
+use Rattle.recording_lines.specs.Lines.{Event, bad, add, remove, start, stop, tick, rx, eventOf, ownAsOf, ownOf, capabilityOf, netOf, quietOf}
 
 -- the line that says an event
 unfoldable pub eventText : Event → List ℕ
@@ -52,7 +52,7 @@ pub record Events : Type 0 where
   -- 4,117 octets: three of the key, fifteen of the address, a slash, and two of each of 2,049
   pub longest : (line : List ℕ) → isGood (eventOf line) ≡ true → length line ≤ 4117
 
--- the same of the first four lines
+-- the same of the lines before the events
 pub record Setting (read : List ℕ → Number) (key : List ℕ) (value : ℕ → List ℕ) (most : ℕ) : Type 0 where
   pub back : (n : ℕ) → n ≤ most → read (key ++ value n) ≡ Is n
   pub only : (n : ℕ) (line : List ℕ) → read line ≡ Is n → line ≡ key ++ value n
@@ -64,3 +64,8 @@ pub record SettingLines : Type 0 where
   pub own : Setting ownOf (text "own=") dotted 4294967295
   pub capability : Setting capabilityOf (text "cap=") decimal 255
   pub net : Setting netOf (text "net=") dotted 4294967295
+  pub quiet : Setting quietOf (text "quiet=") decimal 1
+
+-- such a line says no event: in any other place it is a bad one
+abbrev pub QuietNoEvent : Type 0
+QuietNoEvent = (n : ℕ) (line : List ℕ) → quietOf line ≡ Is n → eventOf line ≡ bad

@@ -1,4 +1,5 @@
--- The lines of a recording. 02: "key=value lines in a fixed order: ownas, own, cap, net, then events".
+-- The lines of a recording. 02: "key=value lines in a fixed order: ownas, own, cap, net, then events"; `quiet` may stand
+-- before these.
 use Prim.Native.Nat.{ℕ, suc}
 use mathlib.Core.Bool.{cond, _&&_}
 use mathlib.Core.List.{List}
@@ -30,6 +31,12 @@ capabilityOf line = behind (text "cap=") (decimalOf 255) Bad line
 
 unfoldable pub netOf : List ℕ → Number
 netOf line = behind (text "net=") dottedOf Bad line
+
+-- ---- the fifth, if it is one
+
+-- "`quiet=1`, a line right after `net` ..; `quiet=0` may stand there too, any other `quiet` line is a bad event line"
+unfoldable pub quietOf : List ℕ → Number
+quietOf line = behind (text "quiet=") (decimalOf 1) Bad line
 
 -- ---- the events
 

@@ -1,11 +1,11 @@
-// The lines of a recording: the settings of the first four, and the events after them.
+// The lines of a recording: the settings of the first four, the fifth that may follow, and the events after them.
 use text_values::Number;
 ghost use mathlib.Core.Path.{_≡_};
 ghost use mathlib.Core.Bool.{true};
 ghost use mathlib.Core.List.{List};
 ghost use Prim.Native.Nat.{ℕ, _≤_};
 ghost use lib.ListN.{length, drop};
-ghost use Rattle.recording_lines.specs.Lines.{ownAsOf, ownOf, capabilityOf, netOf, remove, start, stop, alone, slashed, addEvent, tickEvent, rxEvent, eventOf};
+ghost use Rattle.recording_lines.specs.Lines.{ownAsOf, ownOf, capabilityOf, netOf, quietOf, remove, start, stop, alone, slashed, addEvent, tickEvent, rxEvent, eventOf};
 ghost use Rattle.recording_lines.specs.Meant.{meant};
 ghost use Rattle.recording_lines.specs.Steps.{frontOf, standsOn};
 
@@ -64,6 +64,16 @@ pub fn net(line: &[u8]) -> Number
         return Number::Bad;
     }
     text_values::read_dotted(&line[4..])
+}
+
+// Right after it may stand whether stray messages are left unanswered.
+pub fn quiet(line: &[u8]) -> Number
+    ensures { λ r. ⌜ r ≡ quietOf (now (line .entry)) ⌝ }
+{
+    if !text_values::starts_with(line, b"quiet=") {
+        return Number::Bad;
+    }
+    text_values::read_decimal(&line[6..], 1)
 }
 
 // What stands before the first slash of a value must be an address.

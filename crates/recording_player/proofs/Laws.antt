@@ -14,6 +14,7 @@ use Rattle.checks.specs.Checks.{check, ifOk}
 use Rattle.checks.proofs.Laws.{and-left, and-right, cond-elim}
 use Rattle.octets.specs.Buffer.{over}
 use Rattle.neighbour.specs.declared.Settings.{Settings}
+use Rattle.neighbour.specs.Record.{withQuiet}
 use Rattle.gateway_state.specs.declared.State.{State}
 use Rattle.gateway_state.specs.declared.Outcome.{Outcome}
 use Rattle.gateway_state.specs.Formed.{stateFormed}
@@ -38,13 +39,13 @@ use Rattle.text_values.proofs.Readings.{decimal-bound}
 use Rattle.recording_lines.specs.declared.Read.{Read}
 use Rattle.recording_lines.specs.declared.Read.the-variants as R
 use Rattle.recording_lines.proofs.Read.{the-type}
-use Rattle.recording_lines.specs.Lines.{Event, bad, add, remove, start, stop, tick, rx, behind, ownAsOf, ownOf, capabilityOf, netOf, eventOf}
+use Rattle.recording_lines.specs.Lines.{Event, bad, add, remove, start, stop, tick, rx, behind, ownAsOf, ownOf, capabilityOf, netOf, quietOf, eventOf}
 use Rattle.recording_lines.specs.Meant.{meant}
 use Rattle.recording_lines.specs.Steps.{standsOn}
 use Rattle.gateway_rules.specs.Calls.{lentChecks}
 use Rattle.recording_player.specs.declared.Player.{Player}
 use Rattle.recording_player.specs.declared.Told.{Told}
-use Rattle.recording_player.specs.Player.{Step, nextLine, holding, breaking, due, settled, having, roomy, lineFits, callChecks, formedCheck, reportCheck, given, reported, withUsed, badStep, brokenStep, silentStep, withAs, withOwn, withCapability, withNet, settingStep, freshStep, netStep, headStep, callStep, eventStep, eventChecked, lineStep, lineChecked, tickStep, endedLine, freeStep, turnChecked, turnStep, onlyHolds, heldOf, toldOf, closeStep, listedIn, finishStep}
+use Rattle.recording_player.specs.Player.{Step, nextLine, holding, breaking, due, settled, having, roomy, lineFits, callChecks, formedCheck, reportCheck, given, reported, withUsed, badStep, brokenStep, silentStep, withAs, withOwn, withCapability, withNet, settingStep, freshStep, netStep, quietLineStep, headStep, isSetting, callStep, eventStep, eventChecked, lineStep, lineChecked, tickStep, endedLine, freeStep, turnChecked, turnStep, onlyHolds, heldOf, toldOf, closeStep, listedIn, finishStep}
 use Rattle.recording_player.specs.declared.Heard.{Heard}
 use Rattle.recording_player.specs.declared.Heard.the-variants as H
 use Rattle.recording_player.specs.Steps.{heardOf, carriedTurn, usingOf}
@@ -185,6 +186,28 @@ pub capability-bound : (line : List ℕ) (n : ℕ) → capabilityOf line ≡ Is 
 unfolding capabilityOf
 capability-bound line n e = behind-bound 255 n (text "cap=") line e
 
+pub quiet-bound : (line : List ℕ) (n : ℕ) → quietOf line ≡ Is n → n ≤ 1
+unfolding quietOf
+quiet-bound line n e = behind-bound 1 n (text "quiet=") line e
+
+-- whether a line is a setting
+module _ (lines : ℕ) (line : List ℕ) where
+  pub setting-early : lines < 4 → true ≡ isSetting lines line
+  unfolding isSetting
+  setting-early h = rw (lt-ltb lines 4 h)
+
+  pub setting-late : 4 ≤ lines → (lines ≡ 4 → ⊥) → false ≡ isSetting lines line
+  unfolding isSetting
+  setting-late h n = rw (le-ltb lines 4 h, ne-eqb lines 4 n)
+
+  pub setting-none : 4 ≤ lines → lines ≡ 4 → quietOf line ≡ Bad → false ≡ isSetting lines line
+  unfolding isSetting whenNumber
+  setting-none h e q = rw (le-ltb lines 4 h, eq-eqb lines 4 e, q)
+
+  pub setting-quiet : (n : ℕ) → 4 ≤ lines → lines ≡ 4 → quietOf line ≡ Is n → true ≡ isSetting lines line
+  unfolding isSetting whenNumber
+  setting-quiet n h e q = rw (le-ltb lines 4 h, eq-eqb lines 4 e, q)
+
 -- a line with a good value, or not
 pub no-value : (value : Number) (some : ℕ → Heard) → value ≡ Bad → H.Bad ≡ whenNumber value H.Bad some
 unfolding whenNumber
@@ -194,7 +217,7 @@ pub one-value : (value : Number) (some : ℕ → Heard) (n : ℕ) → value ≡ 
 unfolding whenNumber
 one-value value some n e = rw e
 
--- which of the four is read
+-- which of them is read
 module _ (g : Settings) (lines : ℕ) (line : List ℕ) where
   pub heard-1 : lines ≡ 0 → whenNumber (ownAsOf line) H.Bad (λ n. H.Part (withAs g n)) ≡ heardOf g lines line
   unfolding heardOf
@@ -210,11 +233,15 @@ module _ (g : Settings) (lines : ℕ) (line : List ℕ) where
   heard-3 a b e =
       sym (on-false (eqb lines 0) _ _ (ne-eqb lines 0 a) ∙ on-false (eqb lines 1) _ _ (ne-eqb lines 1 b) ∙ on-true (eqb lines 2) _ _ (eq-eqb lines 2 e))
 
-  pub heard-4 : (lines ≡ 0 → ⊥) → (lines ≡ 1 → ⊥) → (lines ≡ 2 → ⊥)
+  pub heard-4 : (lines ≡ 0 → ⊥) → (lines ≡ 1 → ⊥) → (lines ≡ 2 → ⊥) → lines ≡ 3
       → whenNumber (netOf line) H.Bad (λ n. H.Whole (withNet g n)) ≡ heardOf g lines line
   unfolding heardOf
-  heard-4 a b e =
-      sym (on-false (eqb lines 0) _ _ (ne-eqb lines 0 a) ∙ on-false (eqb lines 1) _ _ (ne-eqb lines 1 b) ∙ on-false (eqb lines 2) _ _ (ne-eqb lines 2 e))
+  heard-4 a b d e = sym (rw (ne-eqb lines 0 a, ne-eqb lines 1 b, ne-eqb lines 2 d, eq-eqb lines 3 e))
+
+  pub heard-5 : (lines ≡ 0 → ⊥) → (lines ≡ 1 → ⊥) → (lines ≡ 2 → ⊥) → (lines ≡ 3 → ⊥)
+      → whenNumber (quietOf line) H.Bad (λ n. H.Whole (withQuiet g n)) ≡ heardOf g lines line
+  unfolding heardOf
+  heard-5 a b d e = sym (rw (ne-eqb lines 0 a, ne-eqb lines 1 b, ne-eqb lines 2 d, ne-eqb lines 3 e))
 
 -- the step that such a line asks for
 module _ (p : Player) (table : List ℕ) where
@@ -223,29 +250,35 @@ module _ (p : Player) (table : List ℕ) where
   heardStep (H.Part g) = silentStep (settled (nextLine p) g) table 0
   heardStep (H.Whole g) = freshStep p table g
 
-  by-number : (one two three : Bool) (asn own capability net : Number)
+  by-number : (one two three four : Bool) (asn own capability net quiet : Number)
       → cond one (settingStep p table asn withAs)
-      (cond two (settingStep p table own withOwn) (cond three (settingStep p table capability withCapability) (netStep p table net)))
+      (cond two (settingStep p table own withOwn) (cond three (settingStep p table capability withCapability)
+      (cond four (netStep p table net) (quietLineStep p table quiet))))
       ≡ heardStep
       (cond one (whenNumber asn H.Bad (λ n. H.Part (withAs (p .settings) n)))
       (cond two (whenNumber own H.Bad (λ n. H.Part (withOwn (p .settings) n)))
       (cond three (whenNumber capability H.Bad (λ n. H.Part (withCapability (p .settings) n)))
-      (whenNumber net H.Bad (λ n. H.Whole (withNet (p .settings) n))))))
-  unfolding settingStep netStep whenNumber heardStep
-  by-number true two three Bad own capability net = refl
-  by-number true two three (Is n) own capability net = refl
-  by-number false true three asn Bad capability net = refl
-  by-number false true three asn (Is n) capability net = refl
-  by-number false false true asn own Bad net = refl
-  by-number false false true asn own (Is n) net = refl
-  by-number false false false asn own capability Bad = refl
-  by-number false false false asn own capability (Is n) = refl
+      (cond four (whenNumber net H.Bad (λ n. H.Whole (withNet (p .settings) n)))
+      (whenNumber quiet H.Bad (λ n. H.Whole (withQuiet (p .settings) n)))))))
+  unfolding settingStep netStep quietLineStep whenNumber heardStep
+  by-number true two three four Bad own capability net quiet = refl
+  by-number true two three four (Is n) own capability net quiet = refl
+  by-number false true three four asn Bad capability net quiet = refl
+  by-number false true three four asn (Is n) capability net quiet = refl
+  by-number false false true four asn own Bad net quiet = refl
+  by-number false false true four asn own (Is n) net quiet = refl
+  by-number false false false true asn own capability Bad quiet = refl
+  by-number false false false true asn own capability (Is n) quiet = refl
+  by-number false false false false asn own capability net Bad = refl
+  by-number false false false false asn own capability net (Is n) = refl
 
   module _ (line : List ℕ) (h : Heard) (e : h ≡ heardOf (p .settings) (p .lines) line) where
     heard-step : headStep p table line ≡ heardStep h
     unfolding headStep heardOf
     heard-step =
-        by-number (eqb (p .lines) 0) (eqb (p .lines) 1) (eqb (p .lines) 2) (ownAsOf line) (ownOf line) (capabilityOf line) (netOf line) ∙ ap heardStep (sym e)
+        by-number (eqb (p .lines) 0) (eqb (p .lines) 1) (eqb (p .lines) 2) (eqb (p .lines) 3) (ownAsOf line) (ownOf line) (capabilityOf line) (netOf line)
+        (quietOf line)
+        ∙ ap heardStep (sym e)
 
     pub heard-bad : h ≡ H.Bad → headStep p table line ≡ brokenStep p table 19
     unfolding heardStep
@@ -258,6 +291,27 @@ module _ (p : Player) (table : List ℕ) where
     pub heard-whole : (g : Settings) → h ≡ H.Whole g → headStep p table line ≡ freshStep p table g
     unfolding heardStep
     heard-whole g k = heard-step ∙ ap heardStep k
+
+-- the fourth line and the fifth ask for fresh
+module _ (p : Player) (table line : List ℕ) where
+  pub head-net : (net : ℕ) → p .lines ≡ 3 → netOf line ≡ Is net → headStep p table line ≡ freshStep p table (withNet (p .settings) net)
+  unfolding headStep netStep whenNumber
+  head-net net three k =
+      let z : eqb (p .lines) 0 ≡ false = rw three in
+      let o : eqb (p .lines) 1 ≡ false = rw three in
+      let t : eqb (p .lines) 2 ≡ false = rw three in
+      on-false (eqb (p .lines) 0) _ _ z ∙ on-false (eqb (p .lines) 1) _ _ o ∙ on-false (eqb (p .lines) 2) _ _ t
+      ∙ on-true (eqb (p .lines) 3) _ _ (eq-eqb (p .lines) 3 three) ∙ ap (netStep p table) k
+
+  pub head-quiet : (quiet : ℕ) → p .lines ≡ 4 → quietOf line ≡ Is quiet → headStep p table line ≡ freshStep p table (withQuiet (p .settings) quiet)
+  unfolding headStep quietLineStep whenNumber
+  head-quiet quiet four k =
+      let z : eqb (p .lines) 0 ≡ false = rw four in
+      let o : eqb (p .lines) 1 ≡ false = rw four in
+      let t : eqb (p .lines) 2 ≡ false = rw four in
+      let h : eqb (p .lines) 3 ≡ false = rw four in
+      on-false (eqb (p .lines) 0) _ _ z ∙ on-false (eqb (p .lines) 1) _ _ o ∙ on-false (eqb (p .lines) 2) _ _ t ∙ on-false (eqb (p .lines) 3) _ _ h
+      ∙ ap (quietLineStep p table) k
 
 module _ (p : Player) (table : List ℕ) (g : Settings) (o : Outcome) (e : o ≡ freshOf g) where
   pub fresh-refused : (o .answer ≡ 0 → ⊥) → freshStep p table g ≡ brokenStep p table (o .answer)
@@ -272,7 +326,7 @@ module _ (p : Player) (table : List ℕ) (g : Settings) (o : Outcome) (e : o ≡
 pub reported-as : (room : Bool) (p : Player) (table : List ℕ) (used : ℕ) {s s′ : Step} → s ≡ s′ → reported room p table used s ≡ reported room p table used s′
 reported-as room p table used e = ap (reported room p table used) e
 
--- none of the four touches the table
+-- none of them touches the table
 module _ (p : Player) (table : List ℕ) where
   setting-table : (value : Number) (put : Settings → ℕ → Settings) → (settingStep p table value put) .table ≡ table
   unfolding settingStep whenNumber brokenStep silentStep
@@ -288,13 +342,18 @@ module _ (p : Player) (table : List ℕ) where
   net-table Bad = refl
   net-table (Is n) = fresh-table (withNet (p .settings) n)
 
+  quiet-table : (value : Number) → (quietLineStep p table value) .table ≡ table
+  unfolding quietLineStep whenNumber brokenStep
+  quiet-table Bad = refl
+  quiet-table (Is n) = fresh-table (withQuiet (p .settings) n)
+
   head-table : (line : List ℕ) → (headStep p table line) .table ≡ table
   unfolding headStep
   head-table line =
       cond-elim (λ (s : Step). s .table ≡ table) (eqb (p .lines) 0) _ _ (λ e. setting-table (ownAsOf line) withAs)
       (λ e. cond-elim (λ (s : Step). s .table ≡ table) (eqb (p .lines) 1) _ _ (λ e. setting-table (ownOf line) withOwn)
       (λ e. cond-elim (λ (s : Step). s .table ≡ table) (eqb (p .lines) 2) _ _ (λ e. setting-table (capabilityOf line) withCapability)
-      (λ e. net-table (netOf line))))
+      (λ e. cond-elim (λ (s : Step). s .table ≡ table) (eqb (p .lines) 3) _ _ (λ e. net-table (netOf line)) (λ e. quiet-table (quietOf line)))))
 
   pub reported-table : (room : Bool) (used : ℕ) (line : List ℕ) → (reported room p table used (headStep p table line)) .table ≡ table
   unfolding reported given ifOk silentStep withUsed
@@ -454,27 +513,26 @@ module _ (p : Player) (table line out : List ℕ) (used : ℕ) (r : Told) where
   line-as : (c : ℕ) (s : Step) → lineChecked (roomy out) p table line ≡ c → lineStep p table line ≡ s → taken ≡ given p table c (withUsed used s)
   line-as c s e f = ap (λ (n : ℕ). given p table n (withUsed used (lineStep p table line))) e ∙ ap (λ (x : Step). given p table c (withUsed used x)) f
 
-  -- one of the first four
-  pub line-setting : p .lines < 4 → (new : List ℕ) → r ≡ toldOf (reported (roomy out) p table used (headStep p table line))
+  -- one of the settings
+  pub line-setting : isSetting (p .lines) line ≡ true → (new : List ℕ) → r ≡ toldOf (reported (roomy out) p table used (headStep p table line))
       → new ≡ over ((reported (roomy out) p table used (headStep p table line)) .text) out → Made taken r table out new
   unfolding lineStep lineChecked reported
   line-setting h new f k =
-      let t = lt-ltb (p .lines) 4 h in
       made-as out
-      (line-as (reportCheck (roomy out) ((headStep p table line) .answer)) (headStep p table line) (on-true (ltb (p .lines) 4) _ _ t) (on-true (ltb (p .lines) 4) _ _ t))
+      (line-as (reportCheck (roomy out) ((headStep p table line) .answer)) (headStep p table line) (on-true (isSetting (p .lines) line) _ _ h)
+      (on-true (isSetting (p .lines) line) _ _ h))
       (f, (sym (reported-table p table (roomy out) used line), k))
 
-  module _ (read : Read) (m : meant read line ≡ eventOf line) (h : 4 ≤ p .lines) where
+  module _ (read : Read) (m : meant read line ≡ eventOf line) (h : isSetting (p .lines) line ≡ false) where
     abbrev asked : ℕ
     asked = eventChecked (roomy out) (p .state) (length table) (meant read line)
 
     event-as : taken ≡ given p table asked (withUsed used (eventStep p table (meant read line)))
     unfolding lineStep lineChecked
     event-as =
-        let t = le-ltb (p .lines) 4 h in
         line-as asked (eventStep p table (meant read line))
-        (on-false (ltb (p .lines) 4) _ _ t ∙ ap (eventChecked (roomy out) (p .state) (length table)) (sym m))
-        (on-false (ltb (p .lines) 4) _ _ t ∙ ap (eventStep p table) (sym m))
+        (on-false (isSetting (p .lines) line) _ _ h ∙ ap (eventChecked (roomy out) (p .state) (length table)) (sym m))
+        (on-false (isSetting (p .lines) line) _ _ h ∙ ap (eventStep p table) (sym m))
 
     pub line-refused : (refusal : ℕ) → refusal ≡ asked → (refusal ≡ 0 → ⊥) → r ≡ toldOf (silentStep p table refusal) → Made taken r table out out
     line-refused refusal e n f =

@@ -2,19 +2,20 @@
 -- equal
 -- making the calls of its good lines one by one"; that it does is stated in the crate `recording_theorem`.
 use Prim.Native.Nat.{ℕ, _-_}
-use mathlib.Core.Bool.{Bool, true, false, cond, not, _&&_}
+use mathlib.Core.Bool.{Bool, true, false, cond, not, _&&_, _||_}
 use mathlib.Core.List.{List, []}
 use lib.Dec.{leb, ltb, eqb}
 use lib.ListN.{length, take}
 use Rattle.checks.specs.Checks.{check, ifOk}
 use Rattle.neighbour.specs.declared.Settings.{Settings}
+use Rattle.neighbour.specs.Record.{withQuiet}
 use Rattle.gateway_state.specs.declared.State.{State}
 use Rattle.gateway_state.specs.Formed.{stateFormed}
 use Rattle.gateway_slots.specs.Calls.{freshOf, noSettings, zeroState}
 use Rattle.gateway_rules.specs.Calls.{lentChecks}
 use Rattle.text_values.specs.declared.Number.{Number}
 use Rattle.text_values.specs.Numbers.{whenNumber}
-use Rattle.recording_lines.specs.Lines.{Event, bad, add, remove, start, stop, tick, rx, eventOf, ownAsOf, ownOf, capabilityOf, netOf}
+use Rattle.recording_lines.specs.Lines.{Event, bad, add, remove, start, stop, tick, rx, eventOf, ownAsOf, ownOf, capabilityOf, netOf, quietOf}
 use Rattle.recording_gather.specs.Gathering.{gathered, lineAfter, lineHeld}
 use Rattle.recording_bad_line.specs.BadLine.{badText, oneMore}
 use Rattle.model.specs.Model as M
@@ -173,26 +174,28 @@ unfoldable pub brokenStep : Player → List ℕ → ℕ → Step
 brokenStep p table answer =
     record { player = breaking (nextLine p); table = table; answer = answer; used = 0; text = badText ((nextLine p) .lines) }
 
--- ---- the first four lines
+-- ---- the first four lines, and the fifth if it is a setting
 
 unfoldable pub withAs : Settings → ℕ → Settings
-withAs g asn = record { asn = asn; own = g .own; capability = g .capability; net = g .net }
+withAs g asn = record { asn = asn; own = g .own; capability = g .capability; net = g .net; quiet = g .quiet }
 
 unfoldable pub withOwn : Settings → ℕ → Settings
-withOwn g own = record { asn = g .asn; own = own; capability = g .capability; net = g .net }
+withOwn g own = record { asn = g .asn; own = own; capability = g .capability; net = g .net; quiet = g .quiet }
 
 unfoldable pub withCapability : Settings → ℕ → Settings
-withCapability g capability = record { asn = g .asn; own = g .own; capability = capability; net = g .net }
+withCapability g capability = record { asn = g .asn; own = g .own; capability = capability; net = g .net; quiet = g .quiet }
 
+-- 02, L6: stray messages are answered, "the new default", unless the next line says otherwise
 unfoldable pub withNet : Settings → ℕ → Settings
-withNet g net = record { asn = g .asn; own = g .own; capability = g .capability; net = net }
+withNet g net = record { asn = g .asn; own = g .own; capability = g .capability; net = net; quiet = 0 }
 
 -- one of the first three: a setting, or the end
 unfoldable pub settingStep : Player → List ℕ → Number → (Settings → ℕ → Settings) → Step
 settingStep p table value set =
     whenNumber value (brokenStep p table 19) (λ n. silentStep (settled (nextLine p) (set (p .settings) n)) table 0)
 
--- fresh, once all four are read; its refusal is reported as the fourth line, and answered with its own number
+-- fresh, once all four are read, and once more with `quiet`; its refusal is reported as the line just read, and answered
+-- with its own number. Settings that it took at the fourth line it takes with `quiet` too.
 unfoldable pub freshStep : Player → List ℕ → Settings → Step
 freshStep p table g =
     cond (eqb ((freshOf g) .answer) 0)
@@ -203,13 +206,23 @@ freshStep p table g =
 unfoldable pub netStep : Player → List ℕ → Number → Step
 netStep p table value = whenNumber value (brokenStep p table 19) (λ n. freshStep p table (withNet (p .settings) n))
 
--- which of the four it is, the number of lines before it tells
+-- the fifth
+unfoldable pub quietLineStep : Player → List ℕ → Number → Step
+quietLineStep p table value = whenNumber value (brokenStep p table 19) (λ n. freshStep p table (withQuiet (p .settings) n))
+
+-- which of them it is, the number of lines before it tells
 unfoldable pub headStep : Player → List ℕ → List ℕ → Step
 headStep p table line =
     cond (eqb (p .lines) 0) (settingStep p table (ownAsOf line) withAs)
     (cond (eqb (p .lines) 1) (settingStep p table (ownOf line) withOwn)
     (cond (eqb (p .lines) 2) (settingStep p table (capabilityOf line) withCapability)
-    (netStep p table (netOf line))))
+    (cond (eqb (p .lines) 3) (netStep p table (netOf line))
+    (quietLineStep p table (quietOf line)))))
+
+-- whether it is one: the first four are, and a good `quiet` line "right after `net`"; "any other `quiet` line is a bad
+-- event line"
+unfoldable pub isSetting : ℕ → List ℕ → Bool
+isSetting lines line = ltb lines 4 || (eqb lines 4 && whenNumber (quietOf line) false (λ _. true))
 
 -- ---- the events
 
@@ -247,11 +260,11 @@ eventChecked room st numbers (rx a octets) = callChecks room st numbers
 
 -- an ended line
 unfoldable pub lineStep : Player → List ℕ → List ℕ → Step
-lineStep p table line = cond (ltb (p .lines) 4) (headStep p table line) (eventStep p table (eventOf line))
+lineStep p table line = cond (isSetting (p .lines) line) (headStep p table line) (eventStep p table (eventOf line))
 
 unfoldable pub lineChecked : Bool → Player → List ℕ → List ℕ → ℕ
 lineChecked room p table line =
-    cond (ltb (p .lines) 4) (reportCheck room ((headStep p table line) .answer))
+    cond (isSetting (p .lines) line) (reportCheck room ((headStep p table line) .answer))
     (eventChecked room (p .state) (length table) (eventOf line))
 
 -- one of the ticks that are due

@@ -18,16 +18,27 @@ unfoldable pub summary : Step → List ℕ
 summary s = s .answer ∷ s .used ∷ length (s .text) ∷ (s .player) .lines ∷ (s .player) .held ∷ (s .player) .ticks ∷ []
 
 unfoldable pub startState : State
-startState = (freshOf (record { asn = 9; own = 2148073473; capability = 1; net = 2148073472 })) .state
+startState = (freshOf (record { asn = 9; own = 2148073473; capability = 1; net = 2148073472; quiet = 0 })) .state
 
 -- ownas=9, own=128.9.0.1, and this capability
 unfoldable pub settingsWith : ℕ → Settings
-settingsWith capability = record { asn = 9; own = 2148073473; capability = capability; net = 0 }
+settingsWith capability = record { asn = 9; own = 2148073473; capability = capability; net = 0; quiet = 0 }
 
 -- behind so many lines, with so many octets held and ticks due for 128.9.0.5
 unfoldable pub playerAt : ℕ → ℕ → ℕ → Player
 playerAt lines held ticks =
     record { lines = lines; held = held; broken = false; address = 2148073477; ticks = ticks; settings = settingsWith 3; state = startState }
+
+-- behind so many lines, with settings that fresh took
+unfoldable pub playerSet : ℕ → Player
+playerSet lines =
+    record { lines = lines; held = 0; broken = false; address = 0; ticks = 0; settings = startState .settings; state = startState }
+
+-- what is left of `quiet` in the player's settings and in its state
+unfoldable pub quietAfter : Player → List ℕ → List ℕ
+quietAfter p input =
+    (turnStep true p (zeros 4118) (zeros 3072) input) .player .settings .quiet
+    ∷ (turnStep true p (zeros 4118) (zeros 3072) input) .player .state .settings .quiet ∷ []
 
 -- the same, its state not well formed
 unfoldable pub playerUnformed : Player
@@ -68,6 +79,18 @@ pub record Sheet : Type 0 where
   pub good-setting : onTurn false (playerAt 0 0 0) 4118 0 (text "ownas=9\n") ≡ 0 ∷ 8 ∷ 0 ∷ 1 ∷ 0 ∷ 0 ∷ []
   pub fresh : onTurn true (playerAt 3 0 0) 4118 3072 (text "net=128.9.0.0\n") ≡ 16 ∷ 14 ∷ 6 ∷ 4 ∷ 0 ∷ 0 ∷ []
   pub fresh-short : onTurn false (playerAt 3 0 0) 4118 3072 (text "net=128.9.0.0\n") ≡ 16 ∷ 0 ∷ 0 ∷ 3 ∷ 0 ∷ 0 ∷ []
+  -- right after `net` a good `quiet` line is a setting; there and anywhere else any other is a bad event line
+  pub quiet : onTurn false (playerSet 4) 4118 0 (text "quiet=1\n") ≡ 0 ∷ 8 ∷ 0 ∷ 5 ∷ 0 ∷ 0 ∷ []
+  pub quiet-zero : onTurn false (playerSet 4) 4118 0 (text "quiet=0\n") ≡ 0 ∷ 8 ∷ 0 ∷ 5 ∷ 0 ∷ 0 ∷ []
+  pub quiet-state : quietAfter (playerSet 4) (text "quiet=1\n") ≡ 1 ∷ 1 ∷ []
+  pub quiet-zero-state : quietAfter (playerSet 4) (text "quiet=0\n") ≡ 0 ∷ 0 ∷ []
+  pub quiet-two : onTurn true (playerSet 4) 4118 3072 (text "quiet=2\n") ≡ 19 ∷ 8 ∷ 6 ∷ 5 ∷ 0 ∷ 0 ∷ []
+  pub quiet-two-state : quietAfter (playerSet 4) (text "quiet=2\n") ≡ 0 ∷ 0 ∷ []
+  pub quiet-zeros : onTurn true (playerSet 4) 4118 3072 (text "quiet=01\n") ≡ 19 ∷ 9 ∷ 6 ∷ 5 ∷ 0 ∷ 0 ∷ []
+  pub quiet-short : onTurn false (playerSet 4) 4118 3072 (text "quiet=2\n") ≡ 19 ∷ 0 ∷ 0 ∷ 4 ∷ 0 ∷ 0 ∷ []
+  pub quiet-sixth : onTurn true (playerSet 5) 4118 3072 (text "quiet=1\n") ≡ 19 ∷ 8 ∷ 6 ∷ 6 ∷ 0 ∷ 0 ∷ []
+  pub quiet-sixth-state : quietAfter (playerSet 5) (text "quiet=1\n") ≡ 0 ∷ 0 ∷ []
+  pub quiet-fourth : onTurn true (playerSet 3) 4118 3072 (text "quiet=1\n") ≡ 19 ∷ 8 ∷ 6 ∷ 4 ∷ 0 ∷ 0 ∷ []
   -- the end: a missing line, an unended one
   pub missing : summary (closeStep true (playerAt 2 0 0) []) ≡ 19 ∷ 0 ∷ 6 ∷ 3 ∷ 0 ∷ 0 ∷ []
   pub missing-short : summary (closeStep false (playerAt 2 0 0) []) ≡ 19 ∷ 0 ∷ 0 ∷ 2 ∷ 0 ∷ 0 ∷ []

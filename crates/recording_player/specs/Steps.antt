@@ -4,8 +4,9 @@ use mathlib.Core.Bool.{cond}
 use mathlib.Core.List.{List}
 use lib.Dec.{eqb}
 use Rattle.neighbour.specs.declared.Settings.{Settings}
+use Rattle.neighbour.specs.Record.{withQuiet}
 use Rattle.text_values.specs.Numbers.{whenNumber}
-use Rattle.recording_lines.specs.Lines.{ownAsOf, ownOf, capabilityOf, netOf}
+use Rattle.recording_lines.specs.Lines.{ownAsOf, ownOf, capabilityOf, netOf, quietOf}
 use Rattle.recording_call.specs.declared.Called.{Called}
 use Rattle.recording_player.specs.declared.Player.{Player}
 use Rattle.recording_player.specs.declared.Told.{Told}
@@ -19,7 +20,8 @@ heardOf g lines line =
     cond (eqb lines 0) (whenNumber (ownAsOf line) H.Bad (λ n. H.Part (withAs g n)))
     (cond (eqb lines 1) (whenNumber (ownOf line) H.Bad (λ n. H.Part (withOwn g n)))
     (cond (eqb lines 2) (whenNumber (capabilityOf line) H.Bad (λ n. H.Part (withCapability g n)))
-    (whenNumber (netOf line) H.Bad (λ n. H.Whole (withNet g n)))))
+    (cond (eqb lines 3) (whenNumber (netOf line) H.Bad (λ n. H.Whole (withNet g n)))
+    (whenNumber (quietOf line) H.Bad (λ n. H.Whole (withQuiet g n))))))
 
 -- after a call
 unfoldable pub carriedTurn : Player → Called → Told

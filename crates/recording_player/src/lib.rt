@@ -14,7 +14,7 @@ ghost use lib.ListN.{length};
 ghost use Rattle.octets.specs.Buffer.{over};
 ghost use Rattle.recording_lines.specs.Meant.{meant};
 ghost use Rattle.recording_lines.specs.Steps.{standsOn};
-ghost use Rattle.recording_player.specs.Player.{beginning, nextLine, holding, breaking, due, settled, having, roomy, callChecks, formedCheck, reportCheck, reported, given, withUsed, badStep, brokenStep, silentStep, freshStep, headStep, eventStep, eventChecked, lineStep, lineChecked, tickStep, turnStep, heldOf, toldOf, closeStep, finishStep};
+ghost use Rattle.recording_player.specs.Player.{beginning, nextLine, holding, breaking, due, settled, having, roomy, callChecks, formedCheck, reportCheck, reported, given, withUsed, badStep, brokenStep, silentStep, freshStep, headStep, isSetting, eventStep, eventChecked, lineStep, lineChecked, tickStep, turnStep, heldOf, toldOf, closeStep, finishStep};
 ghost use Rattle.recording_player.specs.Steps.{heardOf, carriedTurn, usingOf};
 
 // The least output buffer, as for a listing.
@@ -195,16 +195,16 @@ fn give_up(p: Player, answer: u8, used: usize, out: &mut [u8]) -> Told
     }
 }
 
-// What one of the first four lines leaves of the settings.
+// What a line of settings leaves of them.
 enum Heard {
     Bad,
     // One of the first three: more are to come.
     Part(Settings),
-    // The fourth.
+    // The fourth, and the fifth.
     Whole(Settings),
 }
 
-// The line behind so many: our own AS, our own address, the capability, the common net.
+// The line behind so many: our own AS, our own address, the capability, the common net, and `quiet`.
 fn read_setting(settings: Settings, lines: u64, line: &[u8]) -> Heard
     ensures { λ r. ⌜ r ≡ heardOf settings lines (now (line .entry)) ⌝ }
 {
@@ -230,14 +230,38 @@ fn read_setting(settings: Settings, lines: u64, line: &[u8]) -> Heard
         next.capability = n as u8;
         return Heard::Part(next);
     }
-    let Number::Is(n) = recording_lines::net(line) else {
+    if lines == 3 {
+        let Number::Is(n) = recording_lines::net(line) else {
+            return Heard::Bad;
+        };
+        next.net = n;
+        next.quiet = 0;
+        return Heard::Whole(next);
+    }
+    let Number::Is(n) = recording_lines::quiet(line) else {
         return Heard::Bad;
     };
-    next.net = n;
+    next.quiet = n as u8;
     Heard::Whole(next)
 }
 
-// All four are read: a fresh state.
+// Whether the line behind so many is a setting: the first four are, and a good `quiet` line right after them.
+fn is_setting(lines: u64, line: &[u8]) -> bool
+    ensures { λ r. ⌜ r ≡ isSetting lines (now (line .entry)) ⌝ }
+{
+    if lines < 4 {
+        return true;
+    }
+    if lines != 4 {
+        return false;
+    }
+    let Number::Is(_) = recording_lines::quiet(line) else {
+        return false;
+    };
+    true
+}
+
+// All that are to come before it are read: a fresh state.
 fn begin_state(p: Player, settings: Settings, used: usize, out: &mut [u8]) -> Told
     ensures { λ r. ⌜ ((table : List ℕ) → r ≡ toldOf (reported (roomy (now (out .entry))) p table used (freshStep p table settings))) ⌝ }
     ensures { λ _. ⌜ ((table : List ℕ) → now (out .exit) ≡ over ((reported (roomy (now (out .entry))) p table used (freshStep p table settings)) .text) (now (out .entry))) ⌝ }
@@ -250,7 +274,7 @@ fn begin_state(p: Player, settings: Settings, used: usize, out: &mut [u8]) -> To
     with_used(silent(have(settle(next_line(p), settings), st), 0), used)
 }
 
-// One of the first four lines.
+// A line of settings.
 fn take_setting(p: Player, line: &[u8], used: usize, out: &mut [u8]) -> Told
     ensures { λ r. ⌜ ((table : List ℕ) → r ≡ toldOf (reported (roomy (now (out .entry))) p table used (headStep p table (now (line .entry))))) ⌝ }
     ensures { λ _. ⌜ ((table : List ℕ) → now (out .exit) ≡ over ((reported (roomy (now (out .entry))) p table used (headStep p table (now (line .entry)))) .text) (now (out .entry))) ⌝ }
@@ -319,7 +343,7 @@ fn take_line(p: Player, line: &[u8], used: usize, table: &mut [u32], out: &mut [
     ensures { λ _. ⌜ now (table .exit) ≡ (given p (now (table .entry)) (lineChecked (roomy (now (out .entry))) p (now (table .entry)) (now (line .entry))) (withUsed used (lineStep p (now (table .entry)) (now (line .entry))))) .table ⌝ }
     ensures { λ _. ⌜ now (out .exit) ≡ over ((given p (now (table .entry)) (lineChecked (roomy (now (out .entry))) p (now (table .entry)) (now (line .entry))) (withUsed used (lineStep p (now (table .entry)) (now (line .entry))))) .text) (now (out .entry)) ⌝ }
 {
-    if p.lines < 4 {
+    if is_setting(p.lines, line) {
         return take_setting(p, line, used, out);
     }
     let read = recording_lines::event(line);
@@ -359,6 +383,7 @@ pub fn begin() -> Player
         own: 0,
         capability: 0,
         net: 0,
+        quiet: 0,
     };
     let o = gateway_slots::fresh(settings);
     let state = o.state;

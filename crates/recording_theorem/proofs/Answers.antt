@@ -6,22 +6,26 @@ use mathlib.Core.Bool.{Bool, true, false, cond, false≢true}
 use mathlib.Core.List.{List, [], _∷_}
 use lib.Dec.{ltb, eqb}
 use lib.ListN.{length}
-use borrow.Author.Tests.{le-ltb, lt-ltb, eq-eqb, eqb-true}
+use borrow.Author.Tests.{eq-eqb, eqb-true, eqb-false}
 use Rattle.checks.specs.Checks.{check, ifOk}
 use Rattle.checks.proofs.Laws.{cond-elim}
 use Rattle.neighbour.specs.declared.Settings.{Settings}
+use Rattle.neighbour.specs.Record.{withQuiet}
 use Rattle.gateway_state.specs.Formed.{stateFormed}
 use Rattle.gateway_slots.specs.Calls.{freshOf}
-use Rattle.text_values.specs.declared.Number.the-variants.{Is}
+use Rattle.text_values.specs.declared.Number.{Number}
+use Rattle.text_values.specs.declared.Number.the-variants.{Bad, Is}
 use Rattle.text_values.specs.Numbers.{whenNumber}
-use Rattle.recording_lines.specs.Lines.{Event, bad, add, remove, start, stop, tick, rx, eventOf, netOf}
+use Rattle.recording_lines.specs.Lines.{Event, bad, add, remove, start, stop, tick, rx, eventOf, netOf, quietOf}
+use Rattle.recording_lines.proofs.Events.{quiet-no-event}
 use Rattle.recording_gather.specs.Gathering.{gathered}
 use Rattle.model.specs.Model as M
 use Rattle.model.specs.Theorem.{outcomeOf}
 use Rattle.recording_call.specs.Told.{on}
 use Rattle.gateway_rules.specs.Calls.{lentChecks}
 use Rattle.recording_player.specs.declared.Player.{Player}
-use Rattle.recording_player.specs.Player.{nextLine, Step, lineFits, callChecks, reportCheck, given, withUsed, silentStep, badStep, brokenStep, withNet, freshStep, netStep, headStep, callStep, eventStep, eventChecked, lineStep, lineChecked, endedLine, freeStep, turnChecked, turnStep}
+use Rattle.recording_player.specs.Player.{nextLine, Step, lineFits, callChecks, reportCheck, given, withUsed, silentStep, badStep, brokenStep, withNet, freshStep, netStep, quietLineStep, headStep, isSetting, callStep, eventStep, eventChecked, lineStep, lineChecked, endedLine, freeStep, turnChecked, turnStep}
+use Rattle.recording_player.proofs.Laws.{head-net, head-quiet, setting-early, setting-late, setting-none, setting-quiet}
 use Rattle.recording_theorem.specs.Output.{callsOf}
 use Rattle.recording_theorem.specs.Answers.{TakesLine, checksRoom, Answers, EveryAnswer}
 
@@ -60,14 +64,29 @@ module _ (p : Player) (line table input : List ℕ) (t : TakesLine p line input)
       ap (λ (n : ℕ). given p table n (freeStep p line table input)) (asks room ∙ e) ∙ ap (given p table c) (takes ∙ ap (withUsed used) f)
 
   -- an event
-  module _ (late : 4 ≤ p .lines) (e : Event) (k : eventOf whole ≡ e) where
+  module _ (no : isSetting (p .lines) whole ≡ false) (e : Event) (k : eventOf whole ≡ e) where
     event-is : (room : Bool) → turnStep room p line table input ≡ given p table (eventChecked room (p .state) (length table) e) (withUsed used (eventStep p table e))
     unfolding lineChecked lineStep
     event-is room =
-        let b = le-ltb (p .lines) 4 late in
         turn-is room (eventChecked room (p .state) (length table) e) (eventStep p table e)
-        (on-false (ltb (p .lines) 4) _ _ b ∙ ap (eventChecked room (p .state) (length table)) k)
-        (on-false (ltb (p .lines) 4) _ _ b ∙ ap (eventStep p table) k)
+        (on-false (isSetting (p .lines) whole) _ _ no ∙ ap (eventChecked room (p .state) (length table)) k)
+        (on-false (isSetting (p .lines) whole) _ _ no ∙ ap (eventStep p table) k)
+
+  -- an event that asks for room is no setting
+  no-quiet : (e : Event) → eventOf whole ≡ e → checksRoom e ≡ true → quietOf whole ≡ Bad
+  unfolding checksRoom
+  no-quiet e k h = go (quietOf whole) refl
+    where
+      go : (value : Number) → quietOf whole ≡ value → value ≡ Bad
+      go Bad q = refl
+      go (Is n) q = absurd (false≢true (ap checksRoom (sym (quiet-no-event n whole q) ∙ k) ∙ h))
+
+  an-event : (e : Event) → 4 ≤ p .lines → eventOf whole ≡ e → checksRoom e ≡ true → isSetting (p .lines) whole ≡ false
+  an-event e late k h = go (eqb (p .lines) 4) refl
+    where
+      go : (b : Bool) → eqb (p .lines) 4 ≡ b → isSetting (p .lines) whole ≡ false
+      go true f = sym (setting-none (p .lines) whole late (eqb-true (p .lines) 4 f) (no-quiet e k h))
+      go false f = sym (setting-late (p .lines) whole late (eqb-false (p .lines) 4 f))
 
   bad-19 : (room : Bool) → (given p table (eventChecked room (p .state) (length table) bad) (withUsed used (eventStep p table bad))) .answer ≡ 19
   unfolding given ifOk eventChecked reportCheck check withUsed eventStep badStep silentStep
@@ -125,28 +144,29 @@ module _ (p : Player) (line table input : List ℕ) (t : TakesLine p line input)
       cond-elim (λ (x : Step). x .answer ≡ (freshOf g) .answer)
       (eqb ((freshOf g) .answer) 0) _ _ (λ e. sym (eqb-true _ 0 e)) (λ e. refl)
 
-  head-is : (net : ℕ) → p .lines ≡ 3 → netOf whole ≡ Is net → headStep p table whole ≡ freshStep p table (withNet (p .settings) net)
-  unfolding headStep netStep whenNumber
-  head-is net three k =
-      let z : eqb (p .lines) 0 ≡ false = rw three in
-      let o : eqb (p .lines) 1 ≡ false = rw three in
-      let t : eqb (p .lines) 2 ≡ false = rw three in
-      on-false (eqb (p .lines) 0) _ _ z ∙ on-false (eqb (p .lines) 1) _ _ o ∙ on-false (eqb (p .lines) 2) _ _ t ∙ ap (netStep p table) k
-
-  fresh-own : (room : Bool) (net : ℕ) → p .lines ≡ 3 → netOf whole ≡ Is net
-      → (turnStep room p line table input) .answer ≡ (freshOf (withNet (p .settings) net)) .answer
+  -- a line that asks for fresh
+  fresh-own : (room : Bool) (g : Settings) → isSetting (p .lines) whole ≡ true → headStep p table whole ≡ freshStep p table g
+      → (turnStep room p line table input) .answer ≡ (freshOf g) .answer
   unfolding lineChecked lineStep
-  fresh-own room net three k =
-      let b = lt-ltb (p .lines) 4 (omega (arith, three)) in
+  fresh-own room g b e =
       ap (λ (s : Step). s .answer)
-      (turn-is room (reportCheck room ((headStep p table whole) .answer)) (headStep p table whole) (on-true (ltb (p .lines) 4) _ _ b) (on-true (ltb (p .lines) 4) _ _ b))
-      ∙ reported-answer room (headStep p table whole) ∙ ap (λ (s : Step). s .answer) (head-is net three k) ∙ fresh-answer (withNet (p .settings) net)
+      (turn-is room (reportCheck room ((headStep p table whole) .answer)) (headStep p table whole) (on-true (isSetting (p .lines) whole) _ _ b)
+      (on-true (isSetting (p .lines) whole) _ _ b))
+      ∙ reported-answer room (headStep p table whole) ∙ ap (λ (s : Step). s .answer) e ∙ fresh-answer g
 
 pub every-answer : EveryAnswer
 every-answer p line table input t =
+    let whole = endedLine p line input in
     record {
-      bad-line = λ room late k. ap (λ (s : Step). s .answer) (event-is p line table input t late bad k room) ∙ bad-19 p line table input t room;
-      short = λ e late k h f l. ap (λ (s : Step). s .answer) (event-is p line table input t late e k false) ∙ short-3 p line table input t f l e h;
-      fresh = fresh-own p line table input t;
-      own = λ e call late k h c f l. ap (λ (s : Step). s .answer) (event-is p line table input t late e k true) ∙ made-own p line table input t f l e call h c;
+      bad-line = λ room no k. ap (λ (s : Step). s .answer) (event-is p line table input t no bad k room) ∙ bad-19 p line table input t room;
+      short = λ e late k h f l.
+          ap (λ (s : Step). s .answer) (event-is p line table input t (an-event p line table input t e late k h) e k false) ∙ short-3 p line table input t f l e h;
+      fresh = λ room net three k.
+          fresh-own p line table input t room (withNet (p .settings) net) (sym (setting-early (p .lines) whole (omega (arith, three))))
+          (head-net p table whole net three k);
+      fresh-quiet = λ room quiet four k.
+          fresh-own p line table input t room (withQuiet (p .settings) quiet)
+          (sym (setting-quiet (p .lines) whole quiet (omega (arith, four)) four k)) (head-quiet p table whole quiet four k);
+      own = λ e call late k h c f l.
+          ap (λ (s : Step). s .answer) (event-is p line table input t (an-event p line table input t e late k h) e k true) ∙ made-own p line table input t f l e call h c;
     }

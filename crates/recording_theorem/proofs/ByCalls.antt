@@ -57,4 +57,4 @@ listed b = listedIn (zeros 65536) b
 -- "and nothing is played or listed" where one of the first four lines is not good
 unfoldable pub openingText : Opening → List ℕ
 openingText (broken number) = badText number
-openingText (opened g events) = eventsText 4 (begun g) events ++ listed (run g (goodCalls events))
+openingText (opened g lines events) = eventsText lines (begun g) events ++ listed (run g (goodCalls events))

@@ -16,21 +16,23 @@ use Rattle.checks.proofs.Laws.{and-left, and-right, and-both, cond-elim}
 use Rattle.octets.specs.Buffer.{over}
 use Rattle.update_rows.specs.Storing.{zeros}
 use Rattle.neighbour.specs.declared.Settings.{Settings}
+use Rattle.neighbour.specs.Record.{withQuiet}
 use Rattle.gateway_slots.specs.Calls.{freshOf}
 use Rattle.listing_lines.specs.Lines.{listingText}
 use Rattle.text_values.specs.declared.Number.{Number}
 use Rattle.text_values.specs.declared.Number.the-variants.{Bad, Is}
 use Rattle.text_values.specs.Numbers.{whenNumber}
-use Rattle.recording_lines.specs.Lines.{Event, bad, add, remove, start, stop, tick, rx, ownAsOf, ownOf, capabilityOf, netOf}
+use Rattle.recording_lines.specs.Lines.{Event, bad, add, remove, start, stop, tick, rx, ownAsOf, ownOf, capabilityOf, netOf, quietOf}
+use Rattle.recording_lines.proofs.Events.{settings}
 use Rattle.recording_bad_line.specs.BadLine.{badText, oneMore}
 use Rattle.model.specs.Model as M
 use Rattle.model.specs.Theorem.{Gateway, Seen, seenOf, seenFrom, gatewayStep, gatewayFrom, begun, run, seenBy, shownIn, shown, bufferOf, carriesOctets}
 use Rattle.model.proofs.Theorem.{list-of-calls}
 use Rattle.recording_call.specs.Told.{txText, repliesText, addressedTo}
 use Rattle.recording_player.specs.Player.{listedIn}
-use Rattle.recording_theorem.specs.Output.{RecordedLine, ended, unended, linesFrom, linesOf, eventIn, valueIn, Opening, broken, opened, takenBy, fromNet, fromCapability, fromOwn, openingOf, callsOf, goodCalls, badLine, called, callsTold, eventTold, toldFrom, toldText, eventsText, openingText}
+use Rattle.recording_theorem.specs.Output.{RecordedLine, ended, unended, linesFrom, linesOf, eventIn, valueIn, Opening, broken, opened, fromQuiet, takenBy, fromNet, fromCapability, fromOwn, openingOf, callsOf, goodCalls, badLine, called, callsTold, eventTold, toldFrom, toldText, eventsText, openingText}
 use Rattle.recording_theorem.proofs.ByCalls as C
-use Rattle.recording_theorem.proofs.Laws.{join-append}
+use Rattle.recording_theorem.proofs.Laws.{join-append, quiet-taken}
 use Rattle.recording_theorem.proofs.OneByOne.{in-octets, from-octets}
 
 -- ---- what is seen of a call is what the model says of it
@@ -134,13 +136,25 @@ listing-text b m h =
 -- where they are good: fresh takes them, and so many lines are left
 unfoldable pub Opens : ℕ → Opening → Type 0
 Opens lines (broken number) = number ≡ number
-Opens lines (opened g events) = ((freshOf g) .answer ≡ 0) × (4 + length events ≤ lines)
+Opens lines (opened g before events) = ((freshOf g) .answer ≡ 0) × (before + length events ≤ lines)
 
-taken-opens : (lines : ℕ) (g : Settings) (events : List RecordedLine) → 4 + length events ≤ lines → Opens lines (takenBy g events)
+-- a fifth, or the first event
+quiet-opens : (lines : ℕ) (g : Settings) (rest : List RecordedLine) → (freshOf g) .answer ≡ 0 → 4 + length rest ≤ lines → Opens lines (fromQuiet g rest)
+unfolding fromQuiet Opens whenNumber valueIn
+quiet-opens lines g [] e k = (e, k)
+quiet-opens lines g (unended line ∷ events) e k = (e, k)
+quiet-opens lines g (ended line ∷ events) e k = go (quietOf line) (λ n q. settings .quiet .range n line q)
+  where
+    go : (value : Number) → ((n : ℕ) → value ≡ Is n → n ≤ 1)
+        → Opens lines (whenNumber value (opened g 4 (ended line ∷ events)) (λ quiet. opened (withQuiet g quiet) 5 events))
+    go Bad small = (e, k)
+    go (Is n) small = (quiet-taken g n e (small n refl), omega (arith, k))
+
+taken-opens : (lines : ℕ) (g : Settings) (rest : List RecordedLine) → 4 + length rest ≤ lines → Opens lines (takenBy g rest)
 unfolding takenBy Opens
-taken-opens lines g events k =
-    cond-elim (λ (o : Opening). Opens lines o) (eqb ((freshOf g) .answer) 0) (opened g events) (broken 4)
-    (λ e. (eqb-true ((freshOf g) .answer) 0 e, k)) (λ e. refl)
+taken-opens lines g rest k =
+    cond-elim (λ (o : Opening). Opens lines o) (eqb ((freshOf g) .answer) 0) (fromQuiet g rest) (broken 4)
+    (λ e. quiet-opens lines g rest (eqb-true ((freshOf g) .answer) 0 e) k) (λ e. refl)
 
 -- a value, or the end
 value-opens : (lines number : ℕ) (value : Number) (next : ℕ → Opening) → ((n : ℕ) → Opens lines (next n)) → Opens lines (whenNumber value (broken number) next)
@@ -152,7 +166,7 @@ net-opens : (lines asn own capability : ℕ) (l : List RecordedLine) → 3 + len
 unfolding fromNet Opens
 net-opens lines asn own capability [] k = refl
 net-opens lines asn own capability (line ∷ l) k =
-    value-opens lines 4 (valueIn netOf line) _ (λ net. taken-opens lines (record { asn = asn; own = own; capability = capability; net = net }) l (omega (arith, k)))
+    value-opens lines 4 (valueIn netOf line) _ (λ net. taken-opens lines (record { asn = asn; own = own; capability = capability; net = net; quiet = 0 }) l (omega (arith, k)))
 
 capability-opens : (lines asn own : ℕ) (l : List RecordedLine) → 2 + length l ≤ lines → Opens lines (fromCapability asn own l)
 unfolding fromCapability Opens
@@ -185,10 +199,10 @@ lines-few begun (octet ∷ rest) =
 opening-text : (lines : ℕ) (o : Opening) → Opens lines o → lines ≤ 18446744073709551615 → C.openingText o ≡ openingText o
 unfolding C.openingText openingText Opens run begun M.model seenBy
 opening-text lines (broken number) h k = refl
-opening-text lines (opened g events) h k =
+opening-text lines (opened g before events) h k =
     let agrees : Agrees (begun g) (M.empty g) = λ calls o. list-of-calls g (h .0) calls .seen o in
-    ap (λ (t : List ℕ). t ++ C.listed (run g (goodCalls events))) (events-text events 4 (begun g) (M.empty g) agrees (omega (arith, h .1, k)))
-    ∙ ap (λ (t : List ℕ). eventsText 4 (M.empty g) events ++ t)
+    ap (λ (t : List ℕ). t ++ C.listed (run g (goodCalls events))) (events-text events before (begun g) (M.empty g) agrees (omega (arith, h .1, k)))
+    ∙ ap (λ (t : List ℕ). eventsText before (M.empty g) events ++ t)
     (listing-text (run g (goodCalls events)) (M.model g (goodCalls events)) (agrees-calls (goodCalls events) (begun g) (M.empty g) agrees (from-octets events)))
 
 pub recording-text : (recording : List ℕ) → length recording < 18446744073709551616 → C.openingText (openingOf (linesOf recording)) ≡ openingText (openingOf (linesOf recording))
@@ -197,7 +211,7 @@ recording-text recording k =
     opening-text (length (linesFrom [] recording)) (openingOf (linesFrom [] recording)) (opening-opens (linesFrom [] recording)) (omega (arith, k, lines-few [] recording))
 
 -- fresh took the settings of a recording that is played
-pub fresh-took : (recording : List ℕ) (g : Settings) (events : List RecordedLine) → openingOf (linesOf recording) ≡ opened g events
+pub fresh-took : (recording : List ℕ) (g : Settings) (lines : ℕ) (events : List RecordedLine) → openingOf (linesOf recording) ≡ opened g lines events
     → (freshOf g) .answer ≡ 0
 unfolding Opens
-fresh-took recording g events e = (rw e at (opening-opens (linesOf recording))) .0
+fresh-took recording g lines events e = (rw e at (opening-opens (linesOf recording))) .0

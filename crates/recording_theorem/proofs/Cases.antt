@@ -19,4 +19,17 @@ cases =
       started = refl;
       two-replies = refl;
       refused-reply = refl;
+      stray = refl;
+      stray-zero = refl;
+      stray-one = refl;
+      quiet-two = refl;
+      quiet-zeros = refl;
+      quiet-sixth = refl;
+      quiet-later = refl;
+      quiet-twice = refl;
+      quiet-kept = refl;
+      quiet-unended = refl;
+      quiet-early = refl;
+      refused-quiet = refl;
+      refused-bad = refl;
     }

@@ -12,7 +12,7 @@ use Rattle.model.specs.Model as M
 use Rattle.model.specs.Theorem.{Gateway, gatewayStep, gatewayFrom, run}
 use Rattle.recording_call.specs.Told.{callText, on}
 use Rattle.recording_player.specs.declared.Player.{Player}
-use Rattle.recording_theorem.specs.Output.{RecordedLine, eventIn, Opening, broken, opened, fromNet, fromCapability, fromOwn, openingOf, ticks, callsOf, goodCalls}
+use Rattle.recording_theorem.specs.Output.{RecordedLine, eventIn, Opening, broken, opened, fromQuiet, fromNet, fromCapability, fromOwn, openingOf, ticks, callsOf, goodCalls}
 use Rattle.recording_theorem.proofs.ByCalls.{callsTold, eventTold, toldFrom, toldText, eventsText, listed, openingText}
 use Rattle.recording_theorem.proofs.Laws.{join-append, run-append}
 
@@ -50,22 +50,23 @@ callsDue lines b calls events = saying (join (map toldText (callsTold b calls)))
 
 unfoldable pub finalOf : Opening → Final
 finalOf (broken number) = unplayed
-finalOf (opened g events) = playedTo (run g (goodCalls events))
+finalOf (opened g lines events) = playedTo (run g (goodCalls events))
 
 unfoldable pub openingDue : Opening → Due
 openingDue o = record { text = openingText o; final = finalOf o }
 
--- what is left of the first four lines, behind so many of them
+-- what is left of the settings' lines, behind so many of them
 unfoldable pub openingFrom : ℕ → Settings → List RecordedLine → Opening
 openingFrom zero g l = openingOf l
 openingFrom (suc zero) g l = fromOwn (g .asn) l
 openingFrom (suc (suc zero)) g l = fromCapability (g .asn) (g .own) l
-openingFrom (suc (suc (suc lines))) g l = fromNet (g .asn) (g .own) (g .capability) l
+openingFrom (suc (suc (suc zero))) g l = fromNet (g .asn) (g .own) (g .capability) l
+openingFrom (suc (suc (suc (suc lines)))) g l = fromQuiet g l
 
 unfoldable pub remaining : Player → List ℕ → List RecordedLine → Due
 remaining p table l =
     cond (p .broken) silence
-    (cond (ltb (p .lines) 4) (openingDue (openingFrom (p .lines) (p .settings) l))
+    (cond (ltb (p .lines) 5) (openingDue (openingFrom (p .lines) (p .settings) l))
     (callsDue (p .lines) (on (p .state) table) (ticks (p .address) (p .ticks)) l))
 
 module _ (p : Player) (table : List ℕ) (l : List RecordedLine) where
@@ -73,14 +74,14 @@ module _ (p : Player) (table : List ℕ) (l : List RecordedLine) where
   unfolding remaining
   remaining-broken e = rw e
 
-  pub remaining-early : p .broken ≡ false → p .lines < 4 → remaining p table l ≡ openingDue (openingFrom (p .lines) (p .settings) l)
+  pub remaining-early : p .broken ≡ false → p .lines < 5 → remaining p table l ≡ openingDue (openingFrom (p .lines) (p .settings) l)
   unfolding remaining
-  remaining-early e k = rw (e, lt-ltb (p .lines) 4 k)
+  remaining-early e k = rw (e, lt-ltb (p .lines) 5 k)
 
   pub remaining-late :
-      p .broken ≡ false → 4 ≤ p .lines → remaining p table l ≡ callsDue (p .lines) (on (p .state) table) (ticks (p .address) (p .ticks)) l
+      p .broken ≡ false → 5 ≤ p .lines → remaining p table l ≡ callsDue (p .lines) (on (p .state) table) (ticks (p .address) (p .ticks)) l
   unfolding remaining
-  remaining-late e k = rw (e, le-ltb (p .lines) 4 k)
+  remaining-late e k = rw (e, le-ltb (p .lines) 5 k)
 
 -- ---- one call, one line
 

@@ -21,11 +21,11 @@ use Rattle.model.proofs.Simulation.{represent}
 use Rattle.recording_call.specs.Told.{on}
 use Rattle.gateway_rules.specs.Calls.{lentChecks}
 use Rattle.recording_player.specs.declared.Player.{Player}
-use Rattle.recording_player.specs.Player.{beginning, due, having, holding, Step, roomy, lineFits, callChecks, formedCheck, reportCheck, given, withUsed, silentStep, callStep, eventChecked, lineChecked, tickStep, endedLine, freeStep, turnChecked, turnStep, heldOf}
+use Rattle.recording_player.specs.Player.{beginning, due, having, holding, Step, roomy, lineFits, callChecks, formedCheck, reportCheck, given, withUsed, silentStep, callStep, isSetting, eventChecked, lineChecked, tickStep, endedLine, freeStep, turnChecked, turnStep, heldOf}
 use Rattle.recording_theorem.specs.Theorem as T
 use Rattle.recording_theorem.specs.Theorem.{Deck, Lent, stepOn, afterTurn, writing, drive, isDone, isPlenty, plenty, EveryRecordingEnds}
 use Rattle.recording_theorem.proofs.Held.{used-most, used-some}
-use Rattle.recording_theorem.proofs.LineEnds.{Stands, Kept}
+use Rattle.recording_theorem.proofs.LineEnds.{Stands, Kept, no-setting}
 use Rattle.recording_theorem.proofs.Turns.{Sound, deckOf, Turned, free-turned, turned, used-within}
 use Rattle.recording_theorem.proofs.Playing.{start-sound}
 
@@ -55,11 +55,11 @@ event-passes st table h (rx a octets) = lent-passes st table h
 
 line-passes : (p : Player) (table line : List ℕ) → p .broken ≡ false → Kept p table → lineChecked true p table line ≡ 0
 unfolding lineChecked reportCheck check
-line-passes p table line f k = go (ltb (p .lines) 4) refl
+line-passes p table line f k = go (isSetting (p .lines) line) refl
   where
-    go : (b : Bool) → ltb (p .lines) 4 ≡ b → cond b 0 (eventChecked true (p .state) (length table) (eventOf line)) ≡ 0
+    go : (b : Bool) → isSetting (p .lines) line ≡ b → cond b 0 (eventChecked true (p .state) (length table) (eventOf line)) ≡ 0
     go true e = refl
-    go false e = event-passes (p .state) table (k .stands f (ltb-false (p .lines) 4 e)) (eventOf line)
+    go false e = event-passes (p .state) table (k .stands f (no-setting (p .lines) line e)) (eventOf line)
 
 -- ---- what is left to do
 
@@ -189,7 +189,7 @@ module _ (d : Deck) (held : List ℕ) (ok : Sound d held) (room : Bool) (size : 
       fits = le-leb 4118 (length (d .line)) (ok .holds .room)
 
       late : 0 < p .ticks → (b : Bool) → ltb (p .lines) 4 ≡ b → 4 ≤ p .lines
-      late k true e = absurd (omega (arith, k, ok .kept .idle (ltb-true (p .lines) 4 e)))
+      late k true e = absurd (omega (arith, k, ok .kept .idle (omega (arith, ltb-true (p .lines) 4 e))))
       late k false e = ltb-false (p .lines) 4 e
 
       line : p .broken ≡ false → (b : Bool) → cond b (lineChecked true p (d .table) (endedLine p (d .line) piece)) 0 ≡ 0

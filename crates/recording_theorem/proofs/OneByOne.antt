@@ -115,11 +115,11 @@ from-octets (line ∷ l) = every-append carriesOctets (callsOf (eventIn line)) (
 
 -- ---- the whole
 
-pub one-by-one : (g : Settings) (l : List RecordedLine) → OneByOne g l
-one-by-one g l =
+pub one-by-one : (g : Settings) (lines : ℕ) (l : List RecordedLine) → OneByOne g lines l
+one-by-one g lines l =
     record {
-      calls = from-calls 4 (M.empty g) l;
-      said = from-seen 4 (M.empty g) l;
+      calls = from-calls lines (M.empty g) l;
+      said = from-seen lines (M.empty g) l;
       octets = from-octets l;
       agreement = λ z. list-of-calls g z (goodCalls l);
     }

@@ -10,7 +10,7 @@ use borrow.Author.Tests.{eqb-true, eqb-false, ltb-true, ltb-false, lt-ltb, le-lt
 use native.Mathlib.Omega.{arith}
 use Rattle.checks.specs.Checks.{check, ifOk}
 use Rattle.checks.specs.Lists.{join}
-use Rattle.checks.proofs.Laws.{and-left, and-right}
+use Rattle.checks.proofs.Laws.{and-left, and-right, cond-elim}
 use Rattle.update_rows.specs.Storing.{zeros}
 use Rattle.neighbour.specs.declared.Settings.{Settings}
 use Rattle.text_values.specs.Numbers.{whenNumber}
@@ -19,7 +19,7 @@ use Rattle.model.specs.Theorem.{Gateway, gatewayFrom, run, emptyTable}
 use Rattle.recording_call.specs.Told.{on}
 use Rattle.recording_player.specs.declared.Player.{Player}
 use Rattle.recording_player.specs.Player.{beginning, roomy, lineFits, nextLine, breaking, reportCheck, given, withUsed, reported, badStep, brokenStep, silentStep, turnStep, heldOf, closeStep, finishStep}
-use Rattle.recording_theorem.specs.Output.{RecordedLine, unended, linesFrom, linesOf, eventIn, valueIn, broken, opened, openingOf, fromOwn, fromCapability, fromNet, callsOf, goodCalls, outputOf}
+use Rattle.recording_theorem.specs.Output.{RecordedLine, unended, linesFrom, linesOf, eventIn, valueIn, broken, opened, fromQuiet, openingOf, fromOwn, fromCapability, fromNet, callsOf, goodCalls, outputOf}
 use Rattle.recording_theorem.proofs.ByCalls.{eventTold, toldFrom, toldText, eventsText, listed, openingText}
 use Rattle.recording_theorem.specs.Theorem.{Deck, freshDeck, Lent, stepOn, afterTurn, Driven, writing, drive, isDone, closed, finished, allText, EndsAs, Played, Recordings}
 use Rattle.recording_theorem.proofs.Laws.{no-length, left-of}
@@ -59,6 +59,12 @@ early-missing (suc (suc (suc zero))) k g held true = refl
 early-missing (suc (suc (suc zero))) k g held false = refl
 early-missing (suc (suc (suc (suc lines)))) k g held b = absurd (omega (arith, k))
 
+-- nor does an unended line say `quiet`
+no-quiet : (g : Settings) (held : List ℕ) → fromQuiet g (linesFrom held []) ≡ opened g 4 (linesFrom held [])
+unfolding linesFrom fromQuiet valueIn whenNumber
+no-quiet g held =
+    cond-elim (λ (l : List RecordedLine). fromQuiet g l ≡ opened g 4 l) (eqb (length held) 0) [] (unended held ∷ []) (λ _. refl) (λ _. refl)
+
 module _ (d : Deck) (held : List ℕ) (f : d .player .broken ≡ false) where
   abbrev p : Player
   p = d .player
@@ -66,17 +72,17 @@ module _ (d : Deck) (held : List ℕ) (f : d .player .broken ≡ false) where
   early-end : p .lines < 4 → remaining p (d .table) (linesFrom held []) ≡ endDue d
   unfolding linesFrom openingDue openingText finalOf endDue closed finished closeStep finishStep finalIn brokenStep reported reportCheck check given ifOk withUsed breaking nextLine silentStep
   early-end k =
-      remaining-early p (d .table) (linesFrom held []) f k ∙ ap openingDue (early-missing (p .lines) k (p .settings) held (eqb (length held) 0))
+      remaining-early p (d .table) (linesFrom held []) f (omega (arith, k)) ∙ ap openingDue (early-missing (p .lines) k (p .settings) held (eqb (length held) 0))
       ∙ rw (f, lt-ltb (p .lines) 4 k) (λ i. record { text = sym (append-nil (badText (oneMore (p .lines)))) i; final = unplayed })
 
-  module _ (late : 4 ≤ p .lines) (z : p .ticks ≡ 0) (counted : p .held ≡ min (length held) 4118) where
+  module _ (late : 4 ≤ p .lines) (z : p .ticks ≡ 0) (counted : p .held ≡ min (length held) 4118) (kept : Kept p (d .table)) where
     -- an unended line is bad
     unended-end : eqb (length held) 0 ≡ false → eventsDue (p .lines) (on (p .state) (d .table)) (linesFrom held []) ≡ endDue d
     unfolding linesFrom endDue closed finished closeStep finishStep finalIn badStep reported reportCheck check given ifOk withUsed nextLine eventsDue eventsText toldFrom eventTold eventIn callsOf goodCalls gatewayFrom join toldText listed
     unended-end e =
         let some : (length held ≡ 0) → ⊥ = eqb-false (length held) 0 e in
         let k : 0 < p .held = omega (arith, counted, some) in
-        rw (e, f, le-ltb (p .lines) 4 late, lt-ltb 0 (p .held) k, le-ltb (oneMore (p .lines)) 4 (more-lines (p .lines) late), append-nil (badText (oneMore (p .lines))))
+        rw (e, f, le-ltb (p .lines) 4 late, lt-ltb 0 (p .held) k, le-ltb (oneMore (p .lines)) 4 (omega (arith, more-lines (p .lines) late)), append-nil (badText (oneMore (p .lines))))
 
     ended-end : eqb (length held) 0 ≡ true → eventsDue (p .lines) (on (p .state) (d .table)) (linesFrom held []) ≡ endDue d
     unfolding linesFrom endDue closed finished closeStep finishStep finalIn silentStep eventsDue eventsText toldFrom goodCalls gatewayFrom join listed
@@ -86,7 +92,7 @@ module _ (d : Deck) (held : List ℕ) (f : d .player .broken ≡ false) where
         rw (e, f, four, k, four)
 
     late-end : remaining p (d .table) (linesFrom held []) ≡ endDue d
-    late-end = then-events p (d .table) (linesFrom held []) f late z ∙ go (eqb (length held) 0) refl
+    late-end = then-events p (d .table) (linesFrom held []) f late z kept (λ _. no-quiet (p .settings) held) ∙ go (eqb (length held) 0) refl
       where
         go : (b : Bool) → eqb (length held) 0 ≡ b → eventsDue (p .lines) (on (p .state) (d .table)) (linesFrom held []) ≡ endDue d
         go true e = ended-end e
@@ -106,7 +112,7 @@ at-end d held ok done = go (d .player .broken) refl (ltb (d .player .lines) 4) r
     go true e c h = broken-end d held e
     go false e true h = early-end d held e (ltb-true (d .player .lines) 4 h)
     go false e false h =
-        late-end d held e (ltb-false (d .player .lines) 4 h) (none (d .player .broken) e done) (ok .holds .counted)
+        late-end d held e (ltb-false (d .player .lines) 4 h) (none (d .player .broken) e done) (ok .holds .counted) (ok .kept)
 
 -- ---- turn after turn
 
@@ -142,7 +148,7 @@ finishes (lent ∷ lents) d held input ok done =
 
 pub start-sound : (line : List ℕ) → lineFits line ≡ true → Sound (freshDeck line) []
 unfolding freshDeck beginning lineFits
-start-sound line h = record { holds = holds-none line (leb-true 4118 (length line) h); kept = kept-early beginning refl (λ e k. absurd (omega (arith, k))) }
+start-sound line h = record { holds = holds-none line (leb-true 4118 (length line) h); kept = kept-early beginning refl (λ e k. absurd (omega (arith, k))) (λ e k. absurd (omega (arith, k))) }
 
 start-due : (line recording : List ℕ) → dueOf (freshDeck line) [] recording ≡ openingDue (openingOf (linesOf recording))
 unfolding dueOf freshDeck beginning remaining openingFrom linesOf
@@ -176,7 +182,7 @@ unplayed-final d k e = go (d .player .broken) refl (ltb (d .player .lines) 4) re
     go : (s : Bool) → d .player .broken ≡ s → (t : Bool) → ltb (d .player .lines) 4 ≡ t
         → unplayed ≡ cond s unplayed (cond t unplayed (playedTo (on (d .player .state) (d .table)))) → d .table ≡ emptyTable
     go true f t h c = k .still f
-    go false f true h c = k .early (ltb-true (d .player .lines) 4 h)
+    go false f true h c = k .early (omega (arith, ltb-true (d .player .lines) 4 h))
     go false f false h c = absurd (false≢true (ap isPlayed c))
 
 -- ---- the theorem
@@ -201,11 +207,11 @@ module _ (line recording : List ℕ) (lents : List Lent) (fits : lineFits line �
   unfolding openingDue saying endDue
   same-final = ap (λ (d : Due). d .final) whole-due
 
-  ends-as : (g : Settings) (l : List RecordedLine) → openingOf (linesOf recording) ≡ opened g l → EndsAs (r .deck) g l
+  ends-as : (g : Settings) (lines : ℕ) (l : List RecordedLine) → openingOf (linesOf recording) ≡ opened g lines l → EndsAs (r .deck) g l
   unfolding finalOf on
-  ends-as g l e =
+  ends-as g lines l e =
       let k = played-final (r .deck) (run g (goodCalls l)) (sym (ap finalOf e) ∙ same-final) in
-      let a = list-of-calls g (fresh-took recording g l e) (goodCalls l) in
+      let a = list-of-calls g (fresh-took recording g lines l e) (goodCalls l) in
       record { state = sym (ap (λ (b : Gateway). b .state) k) ∙ a .state; table = sym (ap (λ (b : Gateway). b .table) k) ∙ a .table }
 
   left-alone : (number : ℕ) → openingOf (linesOf recording) ≡ broken number → r .deck .table ≡ emptyTable

@@ -89,7 +89,7 @@ module _ (d : Deck) (held piece left : List ℕ) (ok : Sound d held) where
 
   module _ (f : p .broken ≡ false) where
     -- a tick is made, and one less is due
-    module _ (count : ℕ) (e : p .ticks ≡ suc count) (late : 4 ≤ p .lines) where
+    module _ (count : ℕ) (e : p .ticks ≡ suc count) (late : 5 ≤ p .lines) where
       abbrev call : M.Call
       call = M.tick (p .address) lent
 
@@ -108,7 +108,7 @@ module _ (d : Deck) (held piece left : List ℕ) (ok : Sound d held) where
 
       tick-kept : Kept (ticked .player) (ticked .table)
       unfolding tickStep callStep due having gatewayStep on
-      tick-kept = kept-late (ticked .player) (ticked .table) late f (omega (arith, ok .kept .few)) (stands-call (on (p .state) (d .table)) call (ok .kept .stands f late))
+      tick-kept = kept-late (ticked .player) (ticked .table) late f (omega (arith, ok .kept .few)) (stands-call (on (p .state) (d .table)) call (ok .kept .stands f (omega (arith, late))))
 
       tick-turn : Turned d held piece left free after
       unfolding freeStep heldOf onlyHolds tickStep callStep due having
@@ -148,7 +148,7 @@ module _ (d : Deck) (held piece left : List ℕ) (ok : Sound d held) where
           by-step (withUsed (g .used) (silentStep (holding p (g .held)) (d .table) 0)) (lineAfter (p .held) (d .line) piece) (rw (f, t, e)) (rw (f, t, fits, e)) (lineIn held piece)
           (record {
             holds = holds-piece held (p .held) (d .line) piece (ok .holds);
-            kept = record { idle = ok .kept .idle; early = ok .kept .early; still = ok .kept .still; stands = ok .kept .stands; few = ok .kept .few };
+            kept = record { idle = ok .kept .idle; early = ok .kept .early; still = ok .kept .still; started = λ f e. record { took = ok .kept .started f e .took; state = ok .kept .started f e .state }; stands = ok .kept .stands; few = ok .kept .few };
           })
           (ap (remaining p (d .table)) (lines-after held (p .held) piece left ∙ rw e))
 
@@ -159,13 +159,13 @@ module _ (d : Deck) (held piece left : List ℕ) (ok : Sound d held) where
         by-line z true e = line-turn z e
         by-line z false e = held-turn z e
 
-        late : (b : Bool) → ltb (p .lines) 4 ≡ b → 0 < p .ticks → 4 ≤ p .lines
-        late true e k = absurd (omega (arith, k, ok .kept .idle (ltb-true (p .lines) 4 e)))
-        late false e k = ltb-false (p .lines) 4 e
+        late : (b : Bool) → ltb (p .lines) 5 ≡ b → 0 < p .ticks → 5 ≤ p .lines
+        late true e k = absurd (omega (arith, k, ok .kept .idle (ltb-true (p .lines) 5 e)))
+        late false e k = ltb-false (p .lines) 5 e
 
         go : (n : ℕ) → p .ticks ≡ n → Turned d held piece left free after
         go zero e = by-line e ((gathered 0 (p .held) piece) .ended) refl
-        go (suc count) e = tick-turn count e (late (ltb (p .lines) 4) refl (omega (arith, e)))
+        go (suc count) e = tick-turn count e (late (ltb (p .lines) 5) refl (omega (arith, e)))
 
   -- with all that it asks for
   pub free-turned : Turned d held piece left free after

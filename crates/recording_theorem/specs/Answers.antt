@@ -4,16 +4,17 @@ use mathlib.Core.Path.{_≡_}
 use mathlib.Core.Bool.{Bool, true, false}
 use mathlib.Core.List.{List, [], _∷_}
 use lib.ListN.{length}
+use Rattle.neighbour.specs.Record.{withQuiet}
 use Rattle.gateway_state.specs.Formed.{stateFormed}
 use Rattle.gateway_slots.specs.Calls.{freshOf}
 use Rattle.text_values.specs.declared.Number.the-variants.{Is}
-use Rattle.recording_lines.specs.Lines.{Event, bad, add, remove, start, stop, tick, rx, eventOf, netOf}
+use Rattle.recording_lines.specs.Lines.{Event, bad, add, remove, start, stop, tick, rx, eventOf, netOf, quietOf}
 use Rattle.recording_gather.specs.Gathering.{gathered}
 use Rattle.model.specs.Model as M
 use Rattle.model.specs.Theorem.{outcomeOf}
 use Rattle.recording_call.specs.Told.{on}
 use Rattle.recording_player.specs.declared.Player.{Player}
-use Rattle.recording_player.specs.Player.{withNet, lineFits, endedLine, turnStep}
+use Rattle.recording_player.specs.Player.{withNet, isSetting, lineFits, endedLine, turnStep}
 use Rattle.recording_theorem.specs.Output.{callsOf}
 
 -- the piece ends a line, and no tick is due
@@ -35,7 +36,7 @@ checksRoom (rx a octets) = true
 
 pub record Answers (p : Player) (line table input : List ℕ) : Type 0 where
   -- 02: "19, bad line, before all others": with room or without, whatever the state and the table
-  pub bad-line : (room : Bool) → 4 ≤ p .lines → eventOf (endedLine p line input) ≡ bad → (turnStep room p line table input) .answer ≡ 19
+  pub bad-line : (room : Bool) → isSetting (p .lines) (endedLine p line input) ≡ false → eventOf (endedLine p line input) ≡ bad → (turnStep room p line table input) .answer ≡ 19
   -- 01: 3 "buffer too short", where 1 and 2 pass
   pub short :
       (e : Event) → 4 ≤ p .lines → eventOf (endedLine p line input) ≡ e → checksRoom e ≡ true
@@ -44,6 +45,10 @@ pub record Answers (p : Player) (line table input : List ℕ) : Type 0 where
   pub fresh :
       (room : Bool) (net : ℕ) → p .lines ≡ 3 → netOf (endedLine p line input) ≡ Is net
       → (turnStep room p line table input) .answer ≡ (freshOf (withNet (p .settings) net)) .answer
+  -- and again with `quiet`
+  pub fresh-quiet :
+      (room : Bool) (quiet : ℕ) → p .lines ≡ 4 → quietOf (endedLine p line input) ≡ Is quiet
+      → (turnStep room p line table input) .answer ≡ (freshOf (withQuiet (p .settings) quiet)) .answer
   -- a call's own number, once all is lent
   pub own :
       (e : Event) (call : M.Call) → 4 ≤ p .lines → eventOf (endedLine p line input) ≡ e → checksRoom e ≡ true → callsOf e ≡ call ∷ []

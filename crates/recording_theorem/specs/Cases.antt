@@ -9,6 +9,17 @@ use Rattle.recording_theorem.specs.Output.{outputOf}
 unfoldable pub head : List ℕ
 head = text "ownas=9\nown=128.9.0.1\ncap=1\nnet=128.9.0.0\n"
 
+-- a neighbour is added, and is heard saying Hello while it is Idle
+unfoldable pub strayHello : List ℕ
+strayHello = text "add=128.9.0.5/7\nrx=128.9.0.5/02050001FDE900070009\n"
+
+-- the Cease that it draws, status 7, sequence 0
+unfoldable pub drawn : List ℕ
+drawn = text "tx=128.9.0.5/02030307FAEC00090000\n"
+
+unfoldable pub idleListing : List ℕ
+idleListing = text "neighbours=1\nslot=0\naddr=128.9.0.5\nas=7\nstate=idle\nmode=none\nrows=0\n"
+
 pub record PlayedCases : Type 0 where
   -- the first of the four that is bad or missing, alone
   pub empty : outputOf (text "") ≡ text "bad=1\n"
@@ -40,3 +51,19 @@ pub record PlayedCases : Type 0 where
       outputOf (head ++ text "add=128.9.0.5/7\nrx=128.9.0.5/02030000FD51000C0009001E0078\n")
       ≡ text "tx=128.9.0.5/02030204FBE600090009\n"
       ++ text "neighbours=1\nslot=0\naddr=128.9.0.5\nas=7\nstate=idle\nmode=none\nrows=0\n"
+  -- 02, L6: "Make that the new default"; "`quiet=1`, a line right after `net` which keeps the old behaviour; `quiet=0` may stand there too"
+  pub stray : outputOf (head ++ strayHello) ≡ drawn ++ idleListing
+  pub stray-zero : outputOf (head ++ text "quiet=0\n" ++ strayHello) ≡ drawn ++ idleListing
+  pub stray-one : outputOf (head ++ text "quiet=1\n" ++ strayHello) ≡ idleListing
+  -- "any other `quiet` line is a bad event line", and sets nothing: another value, another place, a second one, an unended one
+  pub quiet-two : outputOf (head ++ text "quiet=2\n" ++ strayHello) ≡ text "bad=5\n" ++ drawn ++ idleListing
+  pub quiet-zeros : outputOf (head ++ text "quiet=01\n" ++ strayHello) ≡ text "bad=5\n" ++ drawn ++ idleListing
+  pub quiet-sixth : outputOf (head ++ text "\nquiet=1\n" ++ strayHello) ≡ text "bad=5\nbad=6\n" ++ drawn ++ idleListing
+  pub quiet-later : outputOf (head ++ text "add=128.9.0.6/8\nremove=128.9.0.6\nquiet=1\n" ++ strayHello) ≡ text "bad=7\n" ++ drawn ++ idleListing
+  pub quiet-twice : outputOf (head ++ text "quiet=0\nquiet=1\n" ++ strayHello) ≡ text "bad=6\n" ++ drawn ++ idleListing
+  pub quiet-kept : outputOf (head ++ text "quiet=1\nquiet=0\n" ++ strayHello) ≡ text "bad=6\n" ++ idleListing
+  pub quiet-unended : outputOf (head ++ text "quiet=1") ≡ text "bad=5\nneighbours=0\n"
+  pub quiet-early : outputOf (text "ownas=9\nown=128.9.0.1\ncap=1\nquiet=1\nnet=128.9.0.0\n") ≡ text "bad=4\n"
+  -- fresh's refusal is the fourth line's, whatever the fifth is
+  pub refused-quiet : outputOf (text "ownas=9\nown=128.9.0.1\ncap=3\nnet=128.9.0.0\nquiet=1\n") ≡ text "bad=4\n"
+  pub refused-bad : outputOf (text "ownas=9\nown=128.9.0.1\ncap=3\nnet=128.9.0.0\nquiet=2\n") ≡ text "bad=4\n"

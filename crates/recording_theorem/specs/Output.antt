@@ -7,12 +7,13 @@ use lib.Dec.{eqb}
 use lib.ListN.{length}
 use Rattle.checks.specs.Lists.{join}
 use Rattle.neighbour.specs.declared.Settings.{Settings}
+use Rattle.neighbour.specs.Record.{withQuiet}
 use Rattle.gateway_slots.specs.Calls.{freshOf}
 use Rattle.listing_lines.specs.Lines.{listingText}
 use Rattle.text_values.specs.declared.Number.{Number}
 use Rattle.text_values.specs.declared.Number.the-variants.{Bad}
 use Rattle.text_values.specs.Numbers.{whenNumber}
-use Rattle.recording_lines.specs.Lines.{Event, bad, add, remove, start, stop, tick, rx, eventOf, ownAsOf, ownOf, capabilityOf, netOf}
+use Rattle.recording_lines.specs.Lines.{Event, bad, add, remove, start, stop, tick, rx, eventOf, ownAsOf, ownOf, capabilityOf, netOf, quietOf}
 use Rattle.recording_bad_line.specs.BadLine.{badText}
 use Rattle.model.specs.Model as M
 use Rattle.recording_call.specs.Told.{lent, txText, addressedTo}
@@ -41,21 +42,27 @@ unfoldable pub valueIn : (List ℕ → Number) → RecordedLine → Number
 valueIn read (ended line) = read line
 valueIn read (unended line) = Bad
 
--- ---- the first four lines
+-- ---- the settings: the first four lines, and a fifth
 
--- the settings and the events after them; or the first line that is bad or missing
+-- the settings, the number of lines that they take, and the events after them; or the first line that is bad or missing
 pub data Opening : Type 0 where
   broken : ℕ → Opening
-  opened : Settings → List RecordedLine → Opening
+  opened : Settings → ℕ → List RecordedLine → Opening
 
--- "or fresh refuses them, the first such line (the fourth for fresh) alone is so reported"
+-- 02, L6: "`quiet=1`, a line right after `net` ..; `quiet=0` may stand there too, any other `quiet` line is a bad event
+-- line"
+unfoldable pub fromQuiet : Settings → List RecordedLine → Opening
+fromQuiet g [] = opened g 4 []
+fromQuiet g (line ∷ events) = whenNumber (valueIn quietOf line) (opened g 4 (line ∷ events)) (λ quiet. opened (withQuiet g quiet) 5 events)
+
+-- "or fresh refuses them, the first such line (the fourth for fresh) alone is so reported", whatever the fifth is
 unfoldable pub takenBy : Settings → List RecordedLine → Opening
-takenBy g events = cond (eqb ((freshOf g) .answer) 0) (opened g events) (broken 4)
+takenBy g rest = cond (eqb ((freshOf g) .answer) 0) (fromQuiet g rest) (broken 4)
 
 unfoldable pub fromNet : ℕ → ℕ → ℕ → List RecordedLine → Opening
 fromNet asn own capability [] = broken 4
-fromNet asn own capability (line ∷ events) =
-    whenNumber (valueIn netOf line) (broken 4) (λ net. takenBy (record { asn = asn; own = own; capability = capability; net = net }) events)
+fromNet asn own capability (line ∷ rest) =
+    whenNumber (valueIn netOf line) (broken 4) (λ net. takenBy (record { asn = asn; own = own; capability = capability; net = net; quiet = 0 }) rest)
 
 unfoldable pub fromCapability : ℕ → ℕ → List RecordedLine → Opening
 fromCapability asn own [] = broken 3
@@ -130,7 +137,7 @@ eventsText lines m events = join (map toldText (toldFrom lines m events))
 -- "the listing at the end", and "nothing is played or listed" where one of the first four lines is not good
 unfoldable pub openingText : Opening → List ℕ
 openingText (broken number) = badText number
-openingText (opened g events) = eventsText 4 (M.empty g) events ++ listingText (M.listed (M.model g (goodCalls events)))
+openingText (opened g lines events) = eventsText lines (M.empty g) events ++ listingText (M.listed (M.model g (goodCalls events)))
 
 unfoldable pub outputOf : List ℕ → List ℕ
 outputOf recording = openingText (openingOf (linesOf recording))

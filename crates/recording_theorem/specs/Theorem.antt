@@ -47,9 +47,9 @@ saidIn (called call said ∷ rest) = said ∷ saidIn rest
 
 -- "Playing a recording must equal making the calls of its good lines one by one, from a zeroed table and with an empty
 -- home list."
-pub record OneByOne (g : Settings) (events : List RecordedLine) : Type 0 where
-  pub calls : callsIn (toldFrom 4 (M.empty g) events) ≡ goodCalls events
-  pub said : saidIn (toldFrom 4 (M.empty g) events) ≡ M.saidFrom (M.empty g) (goodCalls events)
+pub record OneByOne (g : Settings) (lines : ℕ) (events : List RecordedLine) : Type 0 where
+  pub calls : callsIn (toldFrom lines (M.empty g) events) ≡ goodCalls events
+  pub said : saidIn (toldFrom lines (M.empty g) events) ≡ M.saidFrom (M.empty g) (goodCalls events)
   -- hex says octets only, so what the theorem about lists of calls says of listings holds too
   pub octets : every carriesOctets (goodCalls events) ≡ true
   -- the state, the table and every row at the end, told from the settings and the calls alone
@@ -125,14 +125,14 @@ pub record Played (line recording : List ℕ) (lents : List Lent) : Type 0 where
   pub output :
       length recording < 18446744073709551616 → (out : List ℕ) → roomy out ≡ true → allText out (drive lents (freshDeck line) recording) ≡ outputOf recording
   pub ends :
-      (g : Settings) (events : List RecordedLine) → openingOf (linesOf recording) ≡ opened g events → EndsAs ((drive lents (freshDeck line) recording) .deck) g events
+      (g : Settings) (lines : ℕ) (events : List RecordedLine) → openingOf (linesOf recording) ≡ opened g lines events → EndsAs ((drive lents (freshDeck line) recording) .deck) g events
   -- nothing is played: the table is still all zero
   pub untouched :
       (number : ℕ) → openingOf (linesOf recording) ≡ broken number → (drive lents (freshDeck line) recording) .deck .table ≡ emptyTable
 
 -- every list of octets is a recording
 pub record Recordings : Type 0 where
-  pub one-by-one : (g : Settings) (events : List RecordedLine) → OneByOne g events
+  pub one-by-one : (g : Settings) (lines : ℕ) (events : List RecordedLine) → OneByOne g lines events
   pub played :
       (line recording : List ℕ) (lents : List Lent) → lineFits line ≡ true → isDone (drive lents (freshDeck line) recording) ≡ true
       → Played line recording lents

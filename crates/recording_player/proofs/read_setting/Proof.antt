@@ -1,10 +1,11 @@
 -- `recording_player::read_setting` meets its contract. Assumes nothing.
 use native.Mathlib.Omega.{arith}
 use mathlib.Core.Path.{sym, _∙_}
-use Rattle.recording_lines.specs.Lines.{ownAsOf, ownOf, capabilityOf, netOf}
+use Rattle.recording_lines.specs.Lines.{ownAsOf, ownOf, capabilityOf, netOf, quietOf}
 use Rattle.recording_player.specs.declared.Heard.the-variants as H
 use Rattle.recording_player.specs.Player.{withAs, withOwn, withCapability, withNet}
-use Rattle.recording_player.proofs.Laws.{no-value, one-value, heard-1, heard-2, heard-3, heard-4, own-as-bound, capability-bound}
+use Rattle.neighbour.specs.Record.{withQuiet}
+use Rattle.recording_player.proofs.Laws.{no-value, one-value, heard-1, heard-2, heard-3, heard-4, heard-5, own-as-bound, capability-bound, quiet-bound}
 use borrow.Author.Needs.{needs}
 use Rattle.recording_player.proofs.read_setting.Statement.{statement}
 use Rattle.recording_player.proofs.read_setting.Tie as tie
@@ -73,11 +74,29 @@ enum-told-4 : tie.Need-enum-told-4
 enum-told-4 c = search needs
 
 returns-7 : tie.Need-returns-7
-returns-7 c = no-value (netOf (c .before .before .before .before .before .before .before .args .line .now)) _ (sym (c .before .before .net .ensures) ∙ c .enum-told4 .given .1) ∙ heard-4 (c .before .before .before .before .before .before .before .args .settings) (c .before .before .before .before .before .before .before .args .lines) (c .before .before .before .before .before .before .before .args .line .now) (c .before .before .before .before .before .if1 .left) (c .before .before .before .before .if2 .left) (c .before .before .before .if3 .left)
+returns-7 c = no-value (netOf (c .before .before .before .before .before .before .before .before .args .line .now)) _ (sym (c .before .before .net .ensures) ∙ c .enum-told4 .given .1) ∙ heard-4 (c .before .before .before .before .before .before .before .before .args .settings) (c .before .before .before .before .before .before .before .before .args .lines) (c .before .before .before .before .before .before .before .before .args .line .now) (c .before .before .before .before .before .before .if1 .left) (c .before .before .before .before .before .if2 .left) (c .before .before .before .before .if3 .left) (c .before .before .before .if4 .taken)
 
 returns-8 : tie.Need-returns-8
 unfolding withNet
-returns-8 c = one-value (netOf (c .before .before .before .before .before .before .before .before .args .line .now)) (λ n. H.Whole (withNet (c .before .before .before .before .before .before .before .before .args .settings) n)) _ (sym (c .before .before .before .net .ensures) ∙ c .before .n4 .given .1) ∙ heard-4 (c .before .before .before .before .before .before .before .before .args .settings) (c .before .before .before .before .before .before .before .before .args .lines) (c .before .before .before .before .before .before .before .before .args .line .now) (c .before .before .before .before .before .before .if1 .left) (c .before .before .before .before .before .if2 .left) (c .before .before .before .before .if3 .left)
+returns-8 c = one-value (netOf (c .before .before .before .before .before .before .before .before .before .args .line .now)) (λ n. H.Whole (withNet (c .before .before .before .before .before .before .before .before .before .args .settings) n)) _ (sym (c .before .before .before .net .ensures) ∙ c .before .n4 .given .1) ∙ heard-4 (c .before .before .before .before .before .before .before .before .before .args .settings) (c .before .before .before .before .before .before .before .before .before .args .lines) (c .before .before .before .before .before .before .before .before .before .args .line .now) (c .before .before .before .before .before .before .before .if1 .left) (c .before .before .before .before .before .before .if2 .left) (c .before .before .before .before .before .if3 .left) (c .before .before .before .before .if4 .taken)
+
+quiet-requires : tie.Need-quiet-requires
+quiet-requires c κs = search needs
+
+enum-known-n-5 : tie.Need-enum-known-n-5
+enum-known-n-5 c = search needs
+
+enum-told-5 : tie.Need-enum-told-5
+enum-told-5 c = search needs
+
+returns-9 : tie.Need-returns-9
+returns-9 c = no-value (quietOf (c .before .before .before .before .before .before .before .before .args .line .now)) _ (sym (c .before .before .quiet .ensures) ∙ c .enum-told5 .given .1) ∙ heard-5 (c .before .before .before .before .before .before .before .before .args .settings) (c .before .before .before .before .before .before .before .before .args .lines) (c .before .before .before .before .before .before .before .before .args .line .now) (c .before .before .before .before .before .before .if1 .left) (c .before .before .before .before .before .if2 .left) (c .before .before .before .before .if3 .left) (c .before .before .before .if4 .left)
+
+cast-next-3 : tie.Need-cast-next-3
+cast-next-3 c = omega (arith, quiet-bound _ _ (sym (c .before .before .before .quiet .ensures) ∙ c .before .n5 .given .1))
+
+returns-10 : tie.Need-returns-10
+returns-10 c = one-value (quietOf (c .before .before .before .before .before .before .before .before .before .args .line .now)) (λ n. H.Whole (withQuiet (c .before .before .before .before .before .before .before .before .before .args .settings) n)) _ (sym (c .before .before .before .quiet .ensures) ∙ c .before .n5 .given .1) ∙ heard-5 (c .before .before .before .before .before .before .before .before .before .args .settings) (c .before .before .before .before .before .before .before .before .before .args .lines) (c .before .before .before .before .before .before .before .before .before .args .line .now) (c .before .before .before .before .before .before .before .if1 .left) (c .before .before .before .before .before .before .if2 .left) (c .before .before .before .before .before .if3 .left) (c .before .before .before .before .if4 .left)
 
 pub read-setting-spec : {M : Type 1} → statement M
 read-setting-spec =
@@ -104,4 +123,10 @@ read-setting-spec =
     enum-known-n-4
     enum-told-4
     returns-7
-    returns-8)
+    returns-8
+    quiet-requires
+    enum-known-n-5
+    enum-told-5
+    returns-9
+    cast-next-3
+    returns-10)

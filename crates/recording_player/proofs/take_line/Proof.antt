@@ -7,6 +7,9 @@ use borrow.Author.Needs.{needs}
 use Rattle.recording_player.proofs.take_line.Statement.{statement}
 use Rattle.recording_player.proofs.take_line.Tie as tie
 
+is-setting-requires : tie.Need-is-setting-requires
+is-setting-requires c κs = search needs
+
 take-setting-requires : tie.Need-take-setting-requires
 take-setting-requires c κs = search needs
 
@@ -15,7 +18,7 @@ same-length c = search needs
 
 returns : tie.Need-returns
 returns c =
-    line-setting (c .before .before .before .before .before .before .before .before .before .args .p) (c .before .before .before .before .before .before .before .before .before .args .table .now) (c .before .before .before .before .before .before .before .before .before .args .line .now) (c .before .before .before .before .before .before .before .before .before .args .out .now) (c .before .before .before .before .before .before .before .before .before .args .used) _ (c .before .before .before .before .if1 .taken) _ (c .before .before .take-setting .ensures .0 (c .before .before .before .before .before .before .before .before .before .args .table .now)) (c .before .before .take-setting .ensures .1 (c .before .before .before .before .before .before .before .before .before .args .table .now))
+    line-setting (c .before .before .before .before .before .before .before .before .before .args .p) (c .before .before .before .before .before .before .before .before .before .args .table .now) (c .before .before .before .before .before .before .before .before .before .args .line .now) (c .before .before .before .before .before .before .before .before .before .args .out .now) (c .before .before .before .before .before .before .before .before .before .args .used) _ (sym (c .before .before .before .before .before .is-setting .ensures) ∙ c .before .before .before .before .if1 .taken) _ (c .before .before .take-setting .ensures .0 (c .before .before .before .before .before .before .before .before .before .args .table .now)) (c .before .before .take-setting .ensures .1 (c .before .before .before .before .before .before .before .before .before .args .table .now))
 
 event-requires : tie.Need-event-requires
 event-requires c κs = search needs
@@ -29,7 +32,7 @@ silent-requires c κs = search needs
 returns-2 : tie.Need-returns-2
 unfolding roomy
 returns-2 c =
-    line-refused (c .before .before .before .before .before .before .before .before .before .before .args .p) (c .before .before .before .before .before .before .before .before .before .before .args .table .now) (c .before .before .before .before .before .before .before .before .before .before .args .line .now) (c .before .before .before .before .before .before .before .before .before .before .args .out .now) (c .before .before .before .before .before .before .before .before .before .before .args .used) _ _ (c .before .before .before .before .event .ensures .0) (c .before .before .before .before .before .if1 .left) _ (c .before .before .event-answer .ensures (c .before .before .before .before .before .before .before .before .before .before .args .line .now)) (c .before .if2 .taken) (c .silent .ensures (c .before .before .before .before .before .before .before .before .before .before .args .table .now))
+    line-refused (c .before .before .before .before .before .before .before .before .before .before .args .p) (c .before .before .before .before .before .before .before .before .before .before .args .table .now) (c .before .before .before .before .before .before .before .before .before .before .args .line .now) (c .before .before .before .before .before .before .before .before .before .before .args .out .now) (c .before .before .before .before .before .before .before .before .before .before .args .used) _ _ (c .before .before .before .before .event .ensures .0) (sym (c .before .before .before .before .before .before .is-setting .ensures) ∙ c .before .before .before .before .before .if1 .left) _ (c .before .before .event-answer .ensures (c .before .before .before .before .before .before .before .before .before .before .args .line .now)) (c .before .if2 .taken) (c .silent .ensures (c .before .before .before .before .before .before .before .before .before .before .args .table .now))
 
 play-event-requires : tie.Need-play-event-requires
 unfolding roomy
@@ -48,13 +51,14 @@ same-length-3 c = search needs
 returns-3 : tie.Need-returns-3
 unfolding roomy
 returns-3 c =
-    line-made (c .before .before .before .before .before .before .before .before .before .before .before .before .before .before .before .before .before .args .p) (c .before .before .before .before .before .before .before .before .before .before .before .before .before .before .before .before .before .args .table .now) (c .before .before .before .before .before .before .before .before .before .before .before .before .before .before .before .before .before .args .line .now) (c .before .before .before .before .before .before .before .before .before .before .before .before .before .before .before .before .before .args .out .now) (c .before .before .before .before .before .before .before .before .before .before .before .before .before .before .before .before .before .args .used) _ _ (c .before .before .before .before .before .before .before .before .before .before .before .event .ensures .0) (c .before .before .before .before .before .before .before .before .before .before .before .before .if1 .left) (sym (c .before .before .before .before .before .before .before .before .before .event-answer .ensures (c .before .before .before .before .before .before .before .before .before .before .before .before .before .before .before .before .before .args .line .now)) ∙ c .before .before .before .before .before .before .before .before .if2 .left) _ _
+    line-made (c .before .before .before .before .before .before .before .before .before .before .before .before .before .before .before .before .before .args .p) (c .before .before .before .before .before .before .before .before .before .before .before .before .before .before .before .before .before .args .table .now) (c .before .before .before .before .before .before .before .before .before .before .before .before .before .before .before .before .before .args .line .now) (c .before .before .before .before .before .before .before .before .before .before .before .before .before .before .before .before .before .args .out .now) (c .before .before .before .before .before .before .before .before .before .before .before .before .before .before .before .before .before .args .used) _ _ (c .before .before .before .before .before .before .before .before .before .before .before .event .ensures .0) (sym (c .before .before .before .before .before .before .before .before .before .before .before .before .before .is-setting .ensures) ∙ c .before .before .before .before .before .before .before .before .before .before .before .before .if1 .left) (sym (c .before .before .before .before .before .before .before .before .before .event-answer .ensures (c .before .before .before .before .before .before .before .before .before .before .before .before .before .before .before .before .before .args .line .now)) ∙ c .before .before .before .before .before .before .before .before .if2 .left) _ _
     (using-made (eventStep (c .before .before .before .before .before .before .before .before .before .before .before .before .before .before .before .before .before .args .p) (c .before .before .before .before .before .before .before .before .before .before .before .before .before .before .before .before .before .args .table .now) (meant (c .before .before .before .before .before .before .before .before .before .before .before .event .result) (c .before .before .before .before .before .before .before .before .before .before .before .before .before .before .before .before .before .args .line .now))) (c .before .before .before .before .before .before .before .before .before .before .before .before .before .before .before .before .before .args .used) _ _ _ (c .before .before .before .before .before .before .before .before .before .before .before .before .before .before .before .before .before .args .out .now) _ (c .before .before .before .before .before .play-event .ensures) (c .with-used .ensures))
 
 pub take-line-spec : {M : Type 1} → statement M
 take-line-spec =
     tie.close
     (tie.spec
+    is-setting-requires
     take-setting-requires
     same-length
     returns

@@ -16,6 +16,7 @@ struct head {
     uint8_t kind, octet;
     uint16_t as;
     uint32_t address, net, room, times, octets, numbers;
+    uint8_t quiet;
 };
 
 static uint8_t block[EGP_STATE_SIZE], table[MOST * 4], numbers[MOST * 4], buffer[BUFFER], octets[MOST];
@@ -25,7 +26,7 @@ static uint64_t call(const struct head *head)
 {
     const size_t rows = (size_t)head->numbers * 4;
     switch (head->kind) {
-    case FRESH: return egp_fresh(block, sizeof block, head->as, head->address, head->octet, head->net);
+    case FRESH: return egp_fresh(block, sizeof block, head->as, head->address, head->octet, head->net, head->quiet);
     case ADD: return egp_add(block, sizeof block, head->address, head->as);
     case REMOVE: return egp_remove(block, sizeof block, head->address);
     case START: return egp_start(block, sizeof block, table, table_size, buffer, head->room, head->address);
@@ -83,6 +84,7 @@ static bool read_record(struct head *head)
     head->times = egp_get32(raw + 16);
     head->octets = egp_get32(raw + 20);
     head->numbers = egp_get32(raw + 24);
+    head->quiet = raw[31];
     if (head->octets > MOST || head->numbers > MOST || head->room > BUFFER)
         return false;
     if (fread(octets, 1, head->octets, stdin) < head->octets)

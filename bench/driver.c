@@ -8,7 +8,7 @@
 #include <stdio.h>
 #include <string.h>
 
-enum { HEAD = 32, MOST = 4096, BUFFER = 70000, BLOCK = 11 + SLOTS * 29, MEANING = 24, READING = MEANING + ROWS * 12 };
+enum { HEAD = 32, MOST = 4096, BUFFER = 70000, BLOCK = 12 + SLOTS * 29, MEANING = 24, READING = MEANING + ROWS * 12 };
 enum { FRESH, ADD, REMOVE, START, STOP, TICK, MESSAGE, LISTING, READ, WRITE, HAND_STATE, HAND_TABLE };
 enum { NO_CALL = 255 };
 
@@ -16,6 +16,7 @@ struct head {
     uint8_t kind, octet;
     uint16_t as;
     uint32_t address, net, room, times, octets, numbers;
+    uint8_t quiet;
 };
 
 static uint32_t table[MOST], numbers[MOST];
@@ -43,6 +44,7 @@ static struct gateway read_block(const uint8_t *at)
     g.address = take(&at, 4);
     g.capability = (uint8_t)take(&at, 1);
     g.net = take(&at, 4);
+    g.quiet = (uint8_t)take(&at, 1);
     for (struct neighbour *n = g.slots; n < g.slots + SLOTS; n++) {
         uint16_t *words[] = {&n->as, &n->s, &n->r, &n->hello, &n->poll, &n->t1, &n->t2, &n->t3, &n->rows};
         uint8_t *last[] = {&n->phase, &n->mode, &n->reach, &n->heard, &n->cause, &n->since_hello, &n->since_poll};
@@ -61,6 +63,7 @@ static void write_block(uint8_t *at, const struct gateway *g)
     put(&at, g->address, 4);
     put(&at, g->capability, 1);
     put(&at, g->net, 4);
+    put(&at, g->quiet, 1);
     for (const struct neighbour *n = g->slots; n < g->slots + SLOTS; n++) {
         uint16_t words[] = {n->as, n->s, n->r, n->hello, n->poll, n->t1, n->t2, n->t3, n->rows};
         uint8_t last[] = {n->phase, n->mode, n->reach, n->heard, n->cause, n->since_hello, n->since_poll};
@@ -136,7 +139,7 @@ static struct outcome write_alone(const struct head *head)
 static struct outcome call(struct gateway *g, const struct lent *lent, const struct head *head)
 {
     switch (head->kind) {
-    case FRESH: return gateway_fresh(g, head->as, head->address, head->octet, head->net);
+    case FRESH: return gateway_fresh(g, head->as, head->address, head->octet, head->net, head->quiet);
     case ADD: return gateway_add(g, head->address, head->as);
     case REMOVE: return gateway_remove(g, head->address);
     case START: return gateway_start(g, lent, head->address);
@@ -191,6 +194,7 @@ static bool read_record(struct head *head)
     head->times = take(&at, 4);
     head->octets = take(&at, 4);
     head->numbers = take(&at, 4);
+    head->quiet = (uint8_t)take(&at, 4);
     if (head->octets > MOST || head->numbers > MOST || head->room > BUFFER)
         return false;
     if (fread(octets, 1, head->octets, stdin) < head->octets)

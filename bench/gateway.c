@@ -5,7 +5,7 @@
 #include "message.h"
 
 enum { P1 = 30, P2 = 120, P3 = 30, P4 = 3600, P5 = 120 };
-enum { STATUS_UP = 1, STATUS_DOWN = 2, PROHIBITED = 4, GOING_DOWN = 5, PARAMETER_PROBLEM = 6 };
+enum { STATUS_UP = 1, STATUS_DOWN = 2, PROHIBITED = 4, GOING_DOWN = 5, PARAMETER_PROBLEM = 6, VIOLATION = 7 };
 enum { UNSPECIFIED, BAD_HEADER, BAD_DATA, UNAVAILABLE, EXCESSIVE_RATE }; /* an Error's reasons */
 enum { HELLO_TICKS = 30, POLL_TICKS = 120, MOST_TICKS = 120 };           /* between two of a kind; counted at most */
 
@@ -18,7 +18,7 @@ static struct outcome answered(enum answer answer)
 
 static bool settings_hold(const struct gateway *g)
 {
-    return g->as != 0 && g->capability <= 2 && is_net(g->net) && is_on(g->address, g->net);
+    return g->as != 0 && g->capability <= 2 && g->quiet <= 1 && is_net(g->net) && is_on(g->address, g->net);
 }
 
 /* What add asks of a neighbour, apart from its being present already. */
@@ -100,9 +100,10 @@ bool gateway_is_well_formed(const struct gateway *g)
 
 /* ---- Fresh, add, remove ---- */
 
-struct outcome gateway_fresh(struct gateway *g, uint16_t as, uint32_t address, uint8_t capability, uint32_t net)
+struct outcome gateway_fresh(struct gateway *g, uint16_t as, uint32_t address, uint8_t capability, uint32_t net,
+                             uint8_t quiet)
 {
-    *g = (struct gateway){.as = as, .address = address, .capability = capability, .net = net};
+    *g = (struct gateway){.as = as, .address = address, .capability = capability, .net = net, .quiet = quiet};
     if (settings_hold(g))
         return answered(DONE);
     *g = (struct gateway){0};
@@ -500,6 +501,20 @@ static struct outcome refuse_with_error(struct turn *t, enum answer answer, uint
     return t->o;
 }
 
+/* What only a neighbour sends that thinks it is acquired. */
+static bool is_stray(enum kind kind)
+{
+    switch (kind) {
+    case CONFIRM:
+    case REFUSE:
+    case HELLO:
+    case I_H_U:
+    case POLL:
+    case UPDATE: return true;
+    default: return false;
+    }
+}
+
 /* A message that passed its checks. */
 static void receive(struct turn *t, enum kind kind, const uint8_t *message, const struct row *rows, unsigned count,
                     const struct row *home, size_t home_count)
@@ -508,6 +523,11 @@ static void receive(struct turn *t, enum kind kind, const uint8_t *message, cons
     bool was_acquired = is_acquired(n);
     enum mode mode = n->mode;
     uint16_t sequence = get16(message + 8);
+    if (n->phase == IDLE && is_stray(kind)) {
+        if (!t->g->quiet)
+            send_short(t, CEASE_COMMAND, VIOLATION, 0);
+        return;
+    }
     bool is_command = kind == REQUEST || kind == CEASE_COMMAND || kind == HELLO || kind == POLL;
     if (is_command && n->phase != IDLE)
         n->r = sequence;

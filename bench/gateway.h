@@ -60,7 +60,7 @@ struct neighbour {
 struct gateway {
     uint32_t address, net;
     uint16_t as;
-    uint8_t capability;
+    uint8_t capability, quiet; /* quiet: 1 if a neighbour's stray messages in Idle are not answered */
     struct neighbour slots[SLOTS];
 };
 
@@ -93,7 +93,8 @@ struct meaning {
 bool gateway_is_well_formed(const struct gateway *g);
 
 /* A refusal leaves state and table as they are. */
-struct outcome gateway_fresh(struct gateway *g, uint16_t as, uint32_t address, uint8_t capability, uint32_t net);
+struct outcome gateway_fresh(struct gateway *g, uint16_t as, uint32_t address, uint8_t capability, uint32_t net,
+                             uint8_t quiet);
 struct outcome gateway_add(struct gateway *g, uint32_t address, uint16_t as);
 struct outcome gateway_remove(struct gateway *g, uint32_t address);
 struct outcome gateway_start(struct gateway *g, const struct lent *lent, uint32_t address);

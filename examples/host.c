@@ -1,8 +1,8 @@
 /*
  * A small host. It acquires one neighbour, comes up with it, polls it, takes its Update in, refuses what is wrong or
- * too quick, saves its state, loads it again and stops. There is no network here: the neighbour's messages are made by
- * egp_write, and what would go out is printed. A real host has a raw socket of IP protocol 8 behind transmit and
- * deliver, and a clock behind let_pass (docs/HOST.md, "A main loop").
+ * too quick, saves its state, loads it again, stops, and tells the neighbour so that has not noticed. There is no
+ * network here: the neighbour's messages are made by egp_write, and what would go out is printed. A real host has a raw
+ * socket of IP protocol 8 behind transmit and deliver, and a clock behind let_pass (docs/HOST.md, "A main loop").
  *
  *   host [FILE]     FILE is where the state is saved, host.state by default
  *
@@ -200,7 +200,8 @@ int main(int argc, char **argv)
     static struct gateway g, again; /* zeros, so the tables are */
     const char *path = argc > 1 ? argv[1] : "host.state";
 
-    expect(EGP_OK, egp_fresh(g.block, sizeof g.block, OWN_AS, OWN, EGP_CAPABILITY_EITHER, NET), "egp_fresh");
+    expect(EGP_OK, egp_fresh(g.block, sizeof g.block, OWN_AS, OWN, EGP_CAPABILITY_EITHER, NET, EGP_NOT_QUIET),
+           "egp_fresh");
     expect(EGP_OK, egp_add(g.block, sizeof g.block, PEER, PEER_AS), "egp_add");
     expect(EGP_BAD_SETTING, egp_add(g.block, sizeof g.block, PEER, PEER_AS), "egp_add, a second time");
 
@@ -246,6 +247,9 @@ int main(int argc, char **argv)
     printf("Stop\n");
     happen(&again, egp_stop, "egp_stop", PEER);
     peer_says(&again, "Cease-ack", EGP_CEASE_ACK, 0, 1);
+
+    /* It is in Idle, and yet it goes on as if it were acquired: a Cease tells it, of status 7. */
+    peer_says(&again, "late Hello", EGP_HELLO, EGP_STATUS_UP, 8);
     expect(EGP_OK, egp_remove(again.block, sizeof again.block, PEER), "egp_remove");
     print_listing(&again);
     return fflush(stdout) == 0 ? EXIT_SUCCESS : EXIT_FAILURE;

@@ -24,6 +24,7 @@ struct host_case {
     uint8_t kind, capability;
     uint16_t as;
     uint32_t address, net;
+    uint8_t quiet;
     uint64_t result; /* as the reference has it, like what is after */
     struct octets before[PARTS], after[PARTS];
     struct octets aim; /* what it was made for, in words */

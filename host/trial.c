@@ -35,7 +35,7 @@ uint64_t archive_make(const struct host_case *c, uint8_t *const at[PARTS], const
     size_t block_len = lengths[BLOCK], table_len = lengths[TABLE], buffer_len = lengths[BUFFER];
     size_t rows_len = lengths[ROWS], octets_len = lengths[OCTETS];
     switch (c->kind) {
-    case FRESH: return egp_fresh(block, block_len, c->as, c->address, c->capability, c->net);
+    case FRESH: return egp_fresh(block, block_len, c->as, c->address, c->capability, c->net, c->quiet);
     case ADD: return egp_add(block, block_len, c->address, c->as);
     case REMOVE: return egp_remove(block, block_len, c->address);
     case START: return egp_start(block, block_len, table, table_len, buffer, buffer_len, c->address);
@@ -167,8 +167,8 @@ static void print_part(FILE *to, const struct host_case *c, const struct trial *
 static void print_call(const struct host_case *c, uint64_t salt, FILE *to)
 {
     fprintf(to, "call: %s (%.*s)\n", kind_names[c->kind], (int)c->aim.length, (const char *)c->aim.at);
-    fprintf(to, "numbers: AS %u, address %08" PRIX32 ", capability %u, net %08" PRIX32 "\n", c->as, c->address,
-            c->capability, c->net);
+    fprintf(to, "numbers: AS %u, address %08" PRIX32 ", capability %u, net %08" PRIX32 ", quiet %u\n", c->as,
+            c->address, c->capability, c->net, c->quiet);
     for (unsigned part = 0; part < PARTS; part++)
         if (takes(c->kind, part)) {
             const struct octets *octets = &c->before[part];

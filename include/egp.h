@@ -19,11 +19,11 @@
 #include <stddef.h>
 #include <stdint.h>
 
-#define EGP_VERSION "1.5"
+#define EGP_VERSION "1.6"
 
 /* Lengths in octets. */
-#define EGP_STATE_SIZE 243     /* the state block, exactly: EGP_OWN_SIZE + EGP_SLOTS * EGP_SLOT_SIZE */
-#define EGP_OWN_SIZE 11        /* its first part, our own settings */
+#define EGP_STATE_SIZE 244     /* the state block, exactly: EGP_OWN_SIZE + EGP_SLOTS * EGP_SLOT_SIZE */
+#define EGP_OWN_SIZE 12        /* its first part, our own settings */
 #define EGP_SLOT_SIZE 29       /* one slot of it */
 #define EGP_TABLE_SIZE 12288   /* the table, exactly: EGP_SLOTS * EGP_ROWS * EGP_ROW_SIZE; all zero at first */
 #define EGP_ROW_SIZE 12        /* net, gateway, distance, four each */
@@ -75,6 +75,9 @@ enum egp_mode { EGP_MODE_NONE, EGP_MODE_ACTIVE, EGP_MODE_PASSIVE };
 /* The modes that an end can take: ours for egp_fresh, and the status of a Request or Confirm. */
 enum egp_capability { EGP_CAPABILITY_EITHER, EGP_CAPABILITY_ACTIVE, EGP_CAPABILITY_PASSIVE };
 
+/* What a neighbour in Idle gets that thinks it is still acquired: a Cease, or nothing. For egp_fresh. */
+enum egp_quiet { EGP_NOT_QUIET, EGP_QUIET };
+
 /* The status of a Hello, I-H-U, Poll, Update or Error. */
 enum egp_status { EGP_STATUS_INDETERMINATE, EGP_STATUS_UP, EGP_STATUS_DOWN };
 
@@ -98,7 +101,8 @@ enum egp_own_field {
     EGP_OWN_AS = 0,
     EGP_OWN_ADDRESS = 2,    /* 4 */
     EGP_OWN_CAPABILITY = 6, /* 1 */
-    EGP_OWN_NET = 7         /* 4 */
+    EGP_OWN_NET = 7,        /* 4 */
+    EGP_OWN_QUIET = 11      /* 1 */
 };
 enum egp_slot_field {
     EGP_SLOT_ADDRESS = 0, /* 4; 0 if the slot is free */
@@ -136,13 +140,15 @@ extern "C" {
 #endif
 
 /*
- * Makes the first state, without neighbours: our AS, our address, our capability (enum egp_capability) and the net
- * that we share with our neighbours. The block may hold anything. A table of zeros belongs to it.
+ * Makes the first state, without neighbours: our AS, our address, our capability (enum egp_capability), the net that we
+ * share with our neighbours, and whether stray messages in Idle draw no Cease (enum egp_quiet; egp_message has them).
+ * No later call changes these. The block may hold anything. A table of zeros belongs to it.
  * Answers: 20 block_len is not EGP_STATE_SIZE; 16 own_as is 0, capability is above 2, net is no left-justified net of
- * class A, B or C, or own is not on it.
+ * class A, B or C, own is not on it, or quiet is above 1.
  * On 0 the whole block is written; refused, nothing.
  */
-uint64_t egp_fresh(uint8_t *block, size_t block_len, uint16_t own_as, uint32_t own, uint8_t capability, uint32_t net);
+uint64_t egp_fresh(uint8_t *block, size_t block_len, uint16_t own_as, uint32_t own, uint8_t capability, uint32_t net,
+                   uint8_t quiet);
 
 /*
  * Adds a neighbour, in Idle, in the lowest free slot: its address, which need not be on the common net, and its AS.
@@ -198,7 +204,9 @@ uint64_t egp_tick(uint8_t *block, size_t block_len, uint8_t *table, size_t table
  * ticks after the last one that was carried out in this acquisition, or a Poll less than 120; and of an Update in Up,
  * 14 bad body or another net than the common one, 15 more than 128 rows.
  * On 0 the neighbour's slot is written; its 128 rows of the table if this was an Update in Up (its rows, then zeros)
- * or the neighbour left Up (zeros); and the reply as by egp_start.
+ * or the neighbour left Up (zeros); and the reply as by egp_start. In Idle a Confirm, Refuse, Hello, I-H-U, Poll or
+ * Update, of whatever body and sequence number, draws a Cease of status 7 and sequence number 0, unless the state is
+ * quiet; the neighbour stays in Idle.
  * Refused, block and table are not touched, but there may be a reply of one message, which the host sends as any other:
  *     9           a Refuse, 10 octets, if the neighbour is in Idle and this is a Request of 14 octets, status 0 to 2
  *     10, 11, 12  an Error of reason 1, 24 octets, in Down and Up, but never to a message of type 8

@@ -34,6 +34,7 @@ pub enum Call {
         address: u32,
         capability: u8,
         net: u32,
+        quiet: u8,
     },
     Add {
         address: u32,
@@ -222,7 +223,8 @@ impl Bench {
                 address,
                 capability,
                 net,
-            } => gateway::fresh(*as_number, *address, *capability, *net),
+                quiet,
+            } => gateway::fresh(*as_number, *address, *capability, *net, *quiet),
             Call::Add { address, as_number } => gateway::add(state, *address, *as_number),
             Call::Remove { address } => gateway::remove(state, *address),
             Call::Start { address, .. } => gateway::start(state, table, &mut buffer, *address),

@@ -583,6 +583,7 @@ fn expected() -> Vec<(Section, String)> {
         "Refuse 6",
         "Cease 5",
         "Cease 6",
+        "Cease 7",
         "Cease-ack",
         "Hello 1",
         "Hello 2",

@@ -84,6 +84,7 @@ pub fn call_of(input: &[u8]) -> HostCall {
     call.as_number = input.number16();
     call.address = input.number32();
     call.net = input.number32();
+    call.quiet = input.octet();
     if has(option::NET_FITTED) {
         call.net = good_net(call.net);
     }
@@ -208,6 +209,7 @@ fn made_state(input: &mut Input) -> State {
         address: address_on(net, input.number32()),
         capability: input.octet() % 3,
         net,
+        quiet: input.octet() % 2,
         ..State::default()
     };
     for slot in 0..SLOTS {
@@ -349,6 +351,7 @@ pub fn input_of(call: &HostCall) -> Option<Vec<u8>> {
     input.extend(call.as_number.to_be_bytes());
     input.extend(call.address.to_be_bytes());
     input.extend(call.net.to_be_bytes());
+    input.push(call.quiet);
     if takes(*kind, Part::Block) {
         let mut block = lent.block.clone();
         block.resize(STATE_BLOCK, 0);

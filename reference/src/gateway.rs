@@ -24,6 +24,8 @@ pub struct State {
     pub capability: u8,
     /// The common net.
     pub net: u32,
+    /// 1 if an Idle neighbour's stray messages draw no Cease (02, L6), else 0.
+    pub quiet: u8,
     pub neighbours: [Neighbour; SLOTS],
 }
 
@@ -41,6 +43,7 @@ impl State {
             && self.capability <= 2
             && net::is_net(self.net)
             && net::is_on(self.address, self.net)
+            && self.quiet <= 1
     }
 
     /// What add asks of an address and AS, apart from the address being present.
@@ -77,6 +80,7 @@ impl State {
             as_number: self.as_number,
             capability: self.capability,
             net: self.net,
+            is_quiet: self.quiet == 1,
             home,
         }
     }
@@ -158,12 +162,13 @@ impl Outcome {
 
 /// Fresh: the settings and eight free slots. A refusal gives the all-zero state, which is not
 /// well formed.
-pub fn fresh(as_number: u16, address: u32, capability: u8, net: u32) -> Outcome {
+pub fn fresh(as_number: u16, address: u32, capability: u8, net: u32, quiet: u8) -> Outcome {
     let state = State {
         as_number,
         address,
         capability,
         net,
+        quiet,
         neighbours: Default::default(),
     };
     if state.own_settings_hold() {

@@ -67,6 +67,7 @@ pub struct HostCall {
     pub as_number: u16,
     pub address: u32,
     pub net: u32,
+    pub quiet: u8,
     pub lent: Lent,
     /// The home list of a message call, or the rows to be written: 12 octets a row.
     pub rows: Vec<u8>,
@@ -81,6 +82,7 @@ pub struct Arguments<'a> {
     pub as_number: u16,
     pub address: u32,
     pub net: u32,
+    pub quiet: u8,
     pub block: &'a mut [u8],
     pub table: &'a mut [u8],
     pub buffer: &'a mut [u8],
@@ -97,6 +99,7 @@ impl HostCall {
             as_number: 0,
             address: 0,
             net: 0,
+            quiet: 0,
             lent: Lent::default(),
             rows: Vec::new(),
             octets: Vec::new(),
@@ -112,6 +115,7 @@ impl HostCall {
             as_number: self.as_number,
             address: self.address,
             net: self.net,
+            quiet: self.quiet,
             block: &mut after.block,
             table: &mut after.table,
             buffer: &mut after.buffer,
@@ -135,6 +139,7 @@ pub fn make(call: Arguments) -> u64 {
         as_number,
         address,
         net,
+        quiet,
         block,
         table,
         buffer,
@@ -142,7 +147,9 @@ pub fn make(call: Arguments) -> u64 {
         octets,
     } = call;
     match kind {
-        CallKind::Fresh => fresh(block, as_number, address, capability, net),
+        CallKind::Fresh => on_fresh(block, || {
+            gateway::fresh(as_number, address, capability, net, quiet)
+        }),
         CallKind::Add => on_block(block, |state| gateway::add(state, address, as_number)),
         CallKind::Remove => on_block(block, |state| gateway::remove(state, address)),
         CallKind::Start => on_table(block, table, |state, table| {
@@ -177,11 +184,11 @@ fn refused(answer: Answer) -> u64 {
 
 /// Fresh needs no state to start from, only room for one: checks 20 and 16. "No octet of it is
 /// touched ... nor by a refused fresh."
-fn fresh(block: &mut [u8], as_number: u16, address: u32, capability: u8, net: u32) -> u64 {
+fn on_fresh(block: &mut [u8], fresh: impl FnOnce() -> Outcome) -> u64 {
     if block.len() != STATE_BLOCK {
         return refused(Answer::BlockLength);
     }
-    leave(block, gateway::fresh(as_number, address, capability, net))
+    leave(block, fresh())
 }
 
 /// A call on the state that the block holds.
@@ -279,6 +286,7 @@ pub fn read_block(block: &[u8]) -> Result<State, Answer> {
         address: fields.number32(),
         capability: fields.octet(),
         net: fields.number32(),
+        quiet: fields.octet(),
         neighbours: [Neighbour::default(); SLOTS],
     };
     for neighbour in &mut state.neighbours {

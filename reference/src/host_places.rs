@@ -13,7 +13,8 @@ use crate::gateway::{State, SLOTS};
 use crate::generate::faults::STATE_FAULTS;
 use crate::generate::hosts::{
     unused_octets, Case, BLOCK_LENGTHS, EARLIER_BLOCK, LATER_BLOCK, MEANING_LENGTHS, MODE_OCTET,
-    ROW_LENGTHS, SETTINGS, SINCE_HELLO_OCTET, SINCE_POLL_OCTET, SLOT, STATE_OCTET, TABLE_LENGTHS,
+    QUIET_OCTET, ROW_LENGTHS, SETTINGS, SINCE_HELLO_OCTET, SINCE_POLL_OCTET, SLOT, STATE_OCTET,
+    TABLE_LENGTHS,
 };
 use crate::host::{self, are_whole_rows, takes, HostCall, Part, ROW, TABLE};
 use crate::neighbour::NeighbourState;
@@ -49,7 +50,7 @@ impl Group {
             Group::Answers => "each answer of each call",
             Group::Order => "two checks that fail at once",
             Group::BlockLengths => "a block of another length",
-            Group::Codes => "a number that no state, mode or count of ticks has",
+            Group::Codes => "a number that no state, mode, count of ticks or quiet has",
             Group::Clauses => "one rule of well-formedness broken",
             Group::Garbage => "blocks of any octets, or with one octet changed",
             Group::Fresh => "fresh over a block of any octets",
@@ -210,6 +211,9 @@ fn expected() -> Found {
             },
         ));
     }
+    for quiet in QUIETS {
+        found.push((Group::Codes, quiet_label(quiet)));
+    }
     for clause in STATE_FAULTS {
         found.push((Group::Clauses, clause.into()));
     }
@@ -262,6 +266,9 @@ const NUMBERS: [(&str, usize, u8); 8] = [
     ("since Poll", SINCE_POLL_OCTET, 255),
 ];
 
+/// Values that `quiet` may not have in a block.
+const QUIETS: [u8; 2] = [2, 255];
+
 const GARBAGE: [&str; 6] = [
     "garbage",
     "garbage: zeros",
@@ -271,13 +278,15 @@ const GARBAGE: [&str; 6] = [
     "garbage slot",
 ];
 
-const FRESH: [&str; 6] = [
+const FRESH: [&str; 8] = [
     "fresh: AS 0",
     "fresh: capability 3",
     "fresh: capability above 3",
     "fresh: net not left justified",
     "fresh: net of no class",
     "fresh: address off the net",
+    "fresh: quiet 2",
+    "fresh: quiet above 2",
 ];
 
 const USES: [&str; 10] = [
@@ -427,6 +436,10 @@ fn code_label(code: &str, slot: usize) -> String {
     format!("{code} in slot {slot}")
 }
 
+fn quiet_label(quiet: u8) -> String {
+    format!("quiet {quiet}")
+}
+
 /// Blocks that are refused with 1.
 fn broken_blocks(case: &Case, found: &mut Found) {
     if STATE_FAULTS.contains(&case.aim) {
@@ -436,6 +449,10 @@ fn broken_blocks(case: &Case, found: &mut Found) {
         found.push((Group::Garbage, case.aim.into()));
     }
     let block = &case.call.lent.block;
+    let quiet = block[QUIET_OCTET];
+    if quiet > 1 && is_good_with(block, QUIET_OCTET, 0..2) {
+        found.push((Group::Codes, quiet_label(quiet)));
+    }
     for (slot, octets) in block[SETTINGS..].chunks_exact(SLOT).enumerate() {
         let at = SETTINGS + SLOT * slot;
         for (name, place, code) in NUMBERS {

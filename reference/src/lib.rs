@@ -5,7 +5,7 @@
 //! that another implementation can be run against it call by call.
 //!
 //! * [`checksum`], [`net`], [`message`], [`update`]: the octets (01, "Octets").
-//! * [`neighbour`]: the state machine of one neighbour (01, "One neighbour"; 02, L3 and L5).
+//! * [`neighbour`]: the state machine of one neighbour (01, "One neighbour"; 02, L3, L5, L6).
 //! * [`gateway`]: the state, its well-formedness and the calls (01, "Answer numbers").
 //! * [`listing`]: the table as text (01, "The listing").
 //! * [`call`]: one call with all its raw arguments, and a bench that runs it.

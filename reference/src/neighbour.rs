@@ -1,4 +1,5 @@
-//! The state machine of one neighbour (01, "One neighbour"; 02, L3, L5; RFC 904, sections 3 and 4).
+//! The state machine of one neighbour (01, "One neighbour"; 02, L3, L5, L6; RFC 904, sections 3
+//! and 4).
 
 use crate::message::{Body, Intervals, Kind, Message};
 use crate::update::Row;
@@ -29,6 +30,7 @@ pub const LONGEST_POLL: u16 = 480;
 pub const ADMINISTRATIVELY_PROHIBITED: u8 = 4;
 pub const GOING_DOWN: u8 = 5;
 pub const PARAMETER_PROBLEM: u8 = 6;
+pub const PROTOCOL_VIOLATION: u8 = 7;
 
 /// Capabilities, which are also the statuses of Request and Confirm.
 pub const EITHER_MODE: u8 = 0;
@@ -147,6 +149,8 @@ pub struct Local<'a> {
     pub as_number: u16,
     pub capability: u8,
     pub net: u32,
+    /// Whether an Idle neighbour's stray messages draw no Cease.
+    pub is_quiet: bool,
     /// The rows with which a Poll is answered.
     pub home: &'a [Row],
 }
@@ -275,6 +279,9 @@ struct Machine<'a> {
 impl Machine<'_> {
     fn receive(&mut self, message: &Message, quote: [u8; 12]) {
         let before = self.neighbour;
+        if before.state == NeighbourState::Idle && is_stray(message.kind()) {
+            return self.stray();
+        }
         // "Outside Idle every command that passes its checks sets R first."
         if before.state != NeighbourState::Idle && message.kind().is_command() {
             self.neighbour.receive_sequence = message.sequence;
@@ -317,6 +324,14 @@ impl Machine<'_> {
         if before.state.is_acquired() && is_indication(before.mode, message) {
             self.neighbour.heard = 1;
             self.neighbour.t3 = P4;
+        }
+    }
+
+    /// A stray message in Idle (02, L6): the Cease carries 0, which S is there. It is not repeated,
+    /// so that its status is kept as no cause, and nothing else changes either.
+    fn stray(&mut self) {
+        if !self.local.is_quiet {
+            self.send_command(PROTOCOL_VIOLATION, Body::Cease);
         }
     }
 
@@ -592,6 +607,21 @@ impl Machine<'_> {
         self.send_command(STATUS_UP, Body::Poll { net });
     }
 }
+
+/// What Idle answers with Cease (02, L6; RFC 904, section 3.4): such as only a neighbour sends that
+/// thinks it is acquired, or about to be.
+pub(crate) fn is_stray(kind: Kind) -> bool {
+    STRAYS.contains(&kind)
+}
+
+pub const STRAYS: [Kind; 6] = [
+    Kind::Confirm,
+    Kind::Refuse,
+    Kind::Hello,
+    Kind::IHeardYou,
+    Kind::Poll,
+    Kind::Update,
+];
 
 /// "Active mode, a Confirm, I-H-U or Update carried out; passive mode, a Hello or Poll carried
 /// out with status 1 (section 3.3)." By 02's L3 also, "in passive mode, an Update carried out in

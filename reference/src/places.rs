@@ -3,7 +3,8 @@
 //! A place is a predicate on a call, the state and table before it, and what it gave. Each is
 //! one where a gateway can be wrong while nearly every other call agrees: two checks that fail
 //! at once, a number at its limit or one beyond, a message that nearly gets a reply, an Update
-//! that is or nearly is an indication, a Hello or Poll that is or nearly is too quick.
+//! that is or nearly is an indication, a Hello or Poll that is or nearly is too quick, a message
+//! that is or nearly is a stray one in Idle.
 
 use crate::answer::Answer;
 use crate::call::{Call, CallKind, Record};
@@ -14,7 +15,9 @@ use crate::generate::faults::ONES;
 use crate::generate::{Origin, Step};
 use crate::listing::{self, LISTING_BUFFER};
 use crate::message::{self, Body, Kind, LONGEST, REPLY_BUFFER, SHORTEST, VERSION};
-use crate::neighbour::{Mode, Neighbour, NeighbourState, HELLO_TICKS, MOST_TICKS, P4, POLL_TICKS};
+use crate::neighbour::{
+    Mode, Neighbour, NeighbourState, HELLO_TICKS, MOST_TICKS, P4, POLL_TICKS, STRAYS,
+};
 use crate::net::{self, Class};
 use crate::update::{self, Row, MOST_ROWS};
 
@@ -104,8 +107,10 @@ fn place(name: impl Into<String>, holds: impl Fn(&Seen) -> bool + 'static) -> Pl
 pub fn all() -> Vec<Place> {
     let mut places = checks_together();
     places.extend(states());
+    places.extend(quiet_values());
     places.extend(sizes());
     places.extend(strangers());
+    places.extend(strays());
     places.extend(updates());
     places.extend(indications());
     places.extend(rates());
@@ -443,6 +448,41 @@ fn makes_check_1(call: &Call) -> bool {
     call.kind().is_some_and(|kind| kind.answers().contains(&1))
 }
 
+/// `quiet` as fresh is given it, and as a state that is handed in has it.
+fn quiet_values() -> Vec<Place> {
+    let mut places = Vec::new();
+    for value in 0..=2 {
+        places.push(place(format!("Fresh: quiet {value}"), move |seen| {
+            let Call::Fresh {
+                as_number,
+                address,
+                capability,
+                net,
+                quiet,
+            } = seen.step.call
+            else {
+                return false;
+            };
+            // With a good value it would be carried out.
+            let mended = gateway::fresh(as_number, address, capability, net, 0);
+            quiet == value && mended.answer == Answer::Done
+        }));
+    }
+    for value in 1..=2 {
+        places.push(place(format!("state: quiet {value}"), move |seen| {
+            let state = State {
+                quiet: 0,
+                ..*seen.before.state
+            };
+            seen.step.origin == Origin::HandedIn
+                && makes_check_1(&seen.step.call)
+                && seen.before.state.quiet == value
+                && state.is_well_formed()
+        }));
+    }
+    places
+}
+
 // Messages.
 
 fn sizes() -> Vec<Place> {
@@ -504,7 +544,6 @@ fn strangers() -> Vec<Place> {
         place("other AS: Request in Idle, Refuse 4", |seen| {
             !seen.is_silent() && stranger(seen, Idle).is_some_and(|shape| shape.is(REQUEST))
         }),
-        silent("Confirm", Idle, |shape| shape.is(CONFIRM)),
         silent("other kind", Idle, |shape| {
             shape.is(shape.pair) && ![REQUEST, CONFIRM].contains(&shape.pair)
         }),
@@ -521,6 +560,50 @@ fn strangers() -> Vec<Place> {
     places
 }
 
+// Messages to a neighbour in Idle.
+
+/// What comes from a neighbour in Idle, by its kind, and gives this number.
+fn in_idle<'a>(seen: &'a Seen, quiet: u8, kind: Kind, number: u8) -> Option<&'a [u8]> {
+    let (neighbour, octets) = seen.message()?;
+    let is_wanted = seen.gives(number)
+        && neighbour.state == NeighbourState::Idle
+        && seen.before.state.quiet == quiet
+        && kind_of(octets) == Some(kind);
+    is_wanted.then_some(octets)
+}
+
+/// Each message that draws a Cease, good and nearly so, and those that draw none, with each setting.
+fn strays() -> Vec<Place> {
+    let mut places = Vec::new();
+    for quiet in [0, 1] {
+        let mut add = |kind: Kind, what: &str, number: u8, holds: fn(Kind, &[u8]) -> bool| {
+            let name = format!("{kind:?}{what} in Idle, quiet {quiet}");
+            places.push(place(name, move |seen| {
+                in_idle(seen, quiet, kind, number).is_some_and(|octets| holds(kind, octets))
+            }));
+        };
+        for kind in STRAYS {
+            // The Cease carries 0, whatever number the message has.
+            add(kind, "", 0, |_, octets| message::sequence(octets) != 0);
+            add(kind, " of another AS", 9, |kind, octets| {
+                kind.allows_status(octets[3]) && kind.allows_length(octets.len())
+            });
+            add(kind, " of a wrong status", 11, |kind, octets| {
+                kind.allows_length(octets.len())
+            });
+            add(kind, " of a wrong length", 12, |_, _| true);
+        }
+        for kind in [Kind::Request, Kind::Cease, Kind::CeaseAck, Kind::Error] {
+            add(kind, "", 0, |_, _| true);
+        }
+        let name = format!("Update with a bad body in Idle, quiet {quiet}");
+        places.push(place(name, move |seen| {
+            in_idle(seen, quiet, Kind::Update, 0).is_some_and(|octets| has_bad_body(seen, octets))
+        }));
+    }
+    places
+}
+
 // Bodies of Updates.
 
 fn has_bad_body(seen: &Seen, octets: &[u8]) -> bool {
@@ -528,9 +611,9 @@ fn has_bad_body(seen: &Seen, octets: &[u8]) -> bool {
 }
 
 fn updates() -> Vec<Place> {
-    use NeighbourState::{Acquisition, Cease, Down, Idle, Up};
+    use NeighbourState::{Acquisition, Cease, Down, Up};
     let mut places = Vec::new();
-    for state in [Idle, Acquisition, Down, Cease] {
+    for state in [Acquisition, Down, Cease] {
         let name = format!("Update with a bad body in {state:?}");
         places.push(place(name, move |seen| {
             seen.gives(0)
@@ -645,7 +728,7 @@ impl Rated {
 }
 
 fn rates() -> Vec<Place> {
-    use NeighbourState::{Acquisition, Cease, Down, Idle, Up};
+    use NeighbourState::{Acquisition, Cease, Down, Up};
     let mut places = Vec::new();
     for rated in &RATED {
         let kind = rated.kind;
@@ -675,10 +758,6 @@ fn rates() -> Vec<Place> {
                 }));
             }
         }
-        places.push(place(format!("{kind:?} in Idle"), move |seen| {
-            let sent = rated.sent(seen, 0);
-            sent.is_some_and(|(neighbour, _)| neighbour.state == Idle)
-        }));
         for state in [Down, Up] {
             // The Error carries R as it was, and nothing is noted.
             let name = format!("{kind:?} 1 too quick, unheard, other R, Passive in {state:?}");

@@ -1,20 +1,19 @@
-//! Plays a recording back (02, L1): "playing a recording must equal making the calls of its good
+//! Plays a recording back (02, L1 and L6): "playing a recording must equal making the calls of its good
 //! lines one by one, from a zeroed table and with an empty home list".
 
 use crate::call::{Bench, Buffer, Call};
 use crate::listing::LISTING_BUFFER;
 use crate::net::dotted;
-use crate::recording::{self, Event, HEAD_LINES};
+use crate::recording::{self, Event, Head, HEAD_LINES};
 
 /// What playing a recording writes.
 pub fn play(recording: &[u8]) -> Vec<u8> {
     let mut output = Vec::new();
-    let mut lines = recording::lines(recording);
-    match begin(&mut lines) {
-        Ok(mut bench) => {
-            for (index, line) in lines.enumerate() {
-                let number = HEAD_LINES + 1 + index;
-                play_line(&mut bench, number, line, &mut output);
+    let lines: Vec<&[u8]> = recording::lines(recording).collect();
+    match begin(&lines) {
+        Ok((mut bench, taken)) => {
+            for (index, line) in lines.iter().enumerate().skip(taken) {
+                play_line(&mut bench, index + 1, line, &mut output);
             }
             write_listing(&mut bench, &mut output);
         }
@@ -23,15 +22,15 @@ pub fn play(recording: &[u8]) -> Vec<u8> {
     output
 }
 
-/// Fresh by the first four lines, over a zeroed table; otherwise the line to report, "the fourth
-/// for fresh".
-pub fn begin<'a>(lines: impl Iterator<Item = &'a [u8]>) -> Result<Bench, usize> {
-    let fresh = recording::head(lines)?;
+/// Fresh by the settings, over a zeroed table, and how many lines these take; otherwise the line to
+/// report, "the fourth for fresh", whatever the fifth is.
+pub fn begin(lines: &[&[u8]]) -> Result<(Bench, usize), usize> {
+    let Head { fresh, lines } = recording::head(lines)?;
     let mut bench = Bench::default();
     if bench.run(&fresh).answer.is_refusal() {
         return Err(HEAD_LINES);
     }
-    Ok(bench)
+    Ok((bench, lines))
 }
 
 /// Plays one event line: "a bad event line is reported in its place ... and skipped whole".

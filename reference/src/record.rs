@@ -15,7 +15,7 @@ use crate::update::{Row, MOST_ROWS};
 pub const RECORD_HEAD: usize = 32;
 pub const ANSWER_HEAD: usize = 16;
 /// Octets of a state block: the settings, then eight slots.
-pub const STATE_BLOCK: usize = 11 + 8 * 29;
+pub const STATE_BLOCK: usize = 12 + 8 * 29;
 /// Octets of a message's meaning.
 pub const MEANING: usize = 24;
 /// What reading alone is lent: the meaning, then the numbers of 128 rows.
@@ -48,6 +48,7 @@ struct Head {
     net: u32,
     /// Octets lent as the buffer.
     room: usize,
+    quiet: u8,
 }
 
 impl Head {
@@ -76,7 +77,7 @@ impl Head {
         record.extend(times.to_be_bytes());
         record.extend((octets.len() as u32).to_be_bytes());
         record.extend((numbers.len() as u32).to_be_bytes());
-        record.extend([0; 4]);
+        record.extend([0, 0, 0, self.quiet]);
         record.extend(octets);
         for number in numbers {
             record.extend(number.to_be_bytes());
@@ -97,10 +98,12 @@ pub fn encode(call: &Call, times: u32) -> Vec<u8> {
             address,
             capability,
             net,
+            quiet,
         } => Head {
             octet: *capability,
             as_number: *as_number,
             net: *net,
+            quiet: *quiet,
             ..Head::about(kind::FRESH, *address)
         }
         .record(times, &[], &[]),
@@ -156,13 +159,15 @@ pub fn rows(message: &Message) -> &[Row] {
     }
 }
 
-/// The state in 243 octets.
+/// The state in 244 octets.
 pub fn state_block(state: &State) -> Vec<u8> {
     let mut block = Vec::with_capacity(STATE_BLOCK);
     block.extend(state.as_number.to_be_bytes());
     block.extend(state.address.to_be_bytes());
     block.push(state.capability);
     block.extend(state.net.to_be_bytes());
+    // "Later fields end their part in the order named, in as few octets as they need."
+    block.push(state.quiet);
     for neighbour in &state.neighbours {
         slot_block(neighbour, &mut block);
     }
@@ -198,7 +203,6 @@ fn slot_block(neighbour: &Neighbour, block: &mut Vec<u8>) {
         Mode::Passive => 2,
     };
     block.extend([state, mode, n.register, n.heard, n.cause]);
-    // "Later fields end their part in the order named, in as few octets as they need."
     block.extend([n.since_hello, n.since_poll]);
 }
 

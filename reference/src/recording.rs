@@ -1,4 +1,4 @@
-//! The lines of a recording (02, L1): four settings, then events.
+//! The lines of a recording (02, L1 and L6): four settings and maybe a fifth, then events.
 //!
 //! A line is `key=value` and ends in octet 10. Numbers and addresses are as in the listing; what
 //! is not exactly so makes a bad line (19), whatever it may have been meant to be.
@@ -14,7 +14,7 @@ pub const LINE_END: u8 = 10;
 pub const MOST_TICKS: u32 = 86_400;
 /// "Hex is capitals, at most 2,049 octets."
 pub const MOST_OCTETS: usize = 2049;
-/// How many lines the settings take.
+/// How many lines the settings take that every recording has.
 pub const HEAD_LINES: usize = 4;
 
 /// What is lent to a call of a recording.
@@ -35,15 +35,38 @@ pub fn lines(recording: &[u8]) -> impl Iterator<Item = &[u8]> {
     recording.split_inclusive(|octet| *octet == LINE_END)
 }
 
-/// The call of fresh that the first four lines give; otherwise the number of the first of them
-/// that is bad or missing.
-pub fn head<'a>(mut lines: impl Iterator<Item = &'a [u8]>) -> Result<Call, usize> {
-    Ok(Call::Fresh {
-        as_number: setting(lines.next(), "ownas", number).ok_or(1_usize)?,
-        address: setting(lines.next(), "own", quad).ok_or(2_usize)?,
-        capability: setting(lines.next(), "cap", number).ok_or(3_usize)?,
-        net: setting(lines.next(), "net", quad).ok_or(4_usize)?,
+/// The settings with which a recording begins.
+#[derive(Clone, Debug, PartialEq, Eq)]
+pub struct Head {
+    pub fresh: Call,
+    /// How many lines they take; the next is the first event.
+    pub lines: usize,
+}
+
+/// The settings of these lines; otherwise the number of the first of the four that is bad or
+/// missing. A fifth line that is no good `quiet` is an event's, and sets nothing.
+pub fn head(lines: &[&[u8]]) -> Result<Head, usize> {
+    let line = |number: usize| lines.get(number - 1).copied();
+    let as_number = setting(line(1), "ownas", number).ok_or(1_usize)?;
+    let address = setting(line(2), "own", quad).ok_or(2_usize)?;
+    let capability = setting(line(3), "cap", number).ok_or(3_usize)?;
+    let net = setting(line(4), "net", quad).ok_or(4_usize)?;
+    let quiet = line(5).and_then(quiet);
+    Ok(Head {
+        fresh: Call::Fresh {
+            as_number,
+            address,
+            capability,
+            net,
+            quiet: quiet.unwrap_or(0),
+        },
+        lines: HEAD_LINES + usize::from(quiet.is_some()),
     })
+}
+
+/// What a line right after `net`, with its end, sets: 0 or 1 if it is a good `quiet`.
+pub fn quiet(line: &[u8]) -> Option<u8> {
+    setting(Some(line), "quiet", number).filter(|quiet| *quiet <= 1)
 }
 
 /// One setting of the head, if its line is there and good.
@@ -194,22 +217,29 @@ pub fn hex(octets: &[u8]) -> String {
     octets.iter().map(|octet| format!("{octet:02X}")).collect()
 }
 
-/// The four lines of these settings, without their ends; none for another call.
-pub fn head_lines(fresh: &Call) -> Option<[String; HEAD_LINES]> {
-    match fresh {
-        Call::Fresh {
-            as_number,
-            address,
-            capability,
-            net,
-        } => Some([
-            format!("ownas={as_number}"),
-            format!("own={}", dotted(*address)),
-            format!("cap={capability}"),
-            format!("net={}", dotted(*net)),
-        ]),
-        _ => None,
+/// The lines of these settings, without their ends: four, and a fifth where the setting is not the
+/// default. None for another call.
+pub fn head_lines(fresh: &Call) -> Option<Vec<String>> {
+    let Call::Fresh {
+        as_number,
+        address,
+        capability,
+        net,
+        quiet,
+    } = fresh
+    else {
+        return None;
+    };
+    let mut lines = vec![
+        format!("ownas={as_number}"),
+        format!("own={}", dotted(*address)),
+        format!("cap={capability}"),
+        format!("net={}", dotted(*net)),
+    ];
+    if *quiet != 0 {
+        lines.push(format!("quiet={quiet}"));
     }
+    Some(lines)
 }
 
 /// The event line of a call made so many times, without its end; none for a call that no event

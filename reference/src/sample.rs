@@ -1,8 +1,9 @@
-//! A short stored list: cases of the bench sheet and a refusal or two, for a driver's own test.
+//! A short stored list: cases of the bench sheet, a stray message and a refusal or two, for a
+//! driver's own test.
 
 use crate::call::{Bench, Buffer, Call};
 use crate::gateway::TABLE_NUMBERS;
-use crate::message::{Body, Message, REPLY_BUFFER};
+use crate::message::{self, Body, Message, REPLY_BUFFER};
 use crate::net::address;
 use crate::record::{self, Given};
 use crate::update::Row;
@@ -31,6 +32,24 @@ fn calls() -> Vec<Call> {
         gateway: PEER,
         distance: 0,
     };
+    let fresh = |quiet| Call::Fresh {
+        as_number: 9,
+        address: OWN,
+        capability: 1,
+        net: NET,
+        quiet,
+    };
+    let stray = Call::Message {
+        address: PEER,
+        octets: message::encode(&Message {
+            status: 1,
+            as_number: 7,
+            sequence: 9,
+            body: Body::Hello,
+        }),
+        home: Vec::new(),
+        reply,
+    };
     let message = |octets: &[u8]| Call::Message {
         address: PEER,
         octets: octets.to_vec(),
@@ -55,12 +74,9 @@ fn calls() -> Vec<Call> {
             loose: Vec::new(),
             buffer: reply,
         },
-        Call::Fresh {
-            as_number: 9,
-            address: OWN,
-            capability: 1,
-            net: NET,
-        },
+        fresh(2),
+        fresh(1),
+        fresh(0),
         Call::Add {
             address: PEER,
             as_number: 7,
@@ -74,6 +90,7 @@ fn calls() -> Vec<Call> {
             reply,
         },
         Call::HandTable(vec![0; TABLE_NUMBERS]),
+        stray,
         message(CASE_Q),
         Call::Tick {
             address: PEER,

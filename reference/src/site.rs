@@ -141,6 +141,7 @@ pub fn recording() -> String {
         address: address(128, 9, 0, 1),
         capability: ACTIVE_ONLY,
         net: NET,
+        quiet: 0,
     });
     let lines = [
         head.into_iter().flatten().collect(),

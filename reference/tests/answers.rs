@@ -46,7 +46,7 @@ fn event_calls(address: u32, length: usize) -> [Call; 4] {
 
 #[test]
 fn answer_0_even_if_nothing_changes() {
-    let mut gateway = Gateway::new(1);
+    let mut gateway = Gateway::new(1).quiet();
     let before = gateway.bench.clone();
     assert_eq!(gateway.tick(), got(0, &[]));
     assert_eq!(gateway.stop(), got(0, &[]));
@@ -357,7 +357,7 @@ fn answer_13_outside_idle_for_five_kinds() {
         }
     }
     for octets in responses(77) {
-        let mut gateway = Gateway::with(in_state(Idle, Mode::None));
+        let mut gateway = Gateway::with(in_state(Idle, Mode::None)).quiet();
         assert_eq!(gateway.message(&octets), got(0, &[]));
         assert_eq!(gateway.n(), in_state(Idle, Mode::None));
     }
@@ -422,7 +422,7 @@ fn nothing_is_too_quick_in_other_states() {
             };
             assert_eq!(gateway.n(), after);
         }
-        let mut idle = Gateway::new(1);
+        let mut idle = Gateway::new(1).quiet();
         assert_eq!(idle.message(&octets), got(0, &[]));
         assert_eq!(idle.n(), in_state(Idle, Mode::None));
     }
@@ -442,6 +442,52 @@ fn answers_10_to_12_come_before_21() {
     }
 }
 
+/// 02, L6: checks 9 to 12 come first in Idle too, with the replies that 01 names.
+#[test]
+fn a_stray_is_checked_first() {
+    for mut gateway in [Gateway::new(1), Gateway::new(1).quiet()] {
+        for (pair, rest) in [
+            (CONFIRM, 4),
+            (REFUSE, 0),
+            (HELLO, 0),
+            (I_H_U, 0),
+            (POLL, 6),
+            (UPDATE, 6),
+        ] {
+            let rest = vec![0; rest];
+            let good = peer(pair, 0, 9, &rest);
+            let answer = gateway.message(&good);
+            assert_eq!(answer.answer, 0);
+            let drawn = answer.sent;
+            let mut damaged = good.clone();
+            damaged[4] ^= 1;
+            assert_eq!(gateway.message(&damaged), got(8, &[]));
+            assert_eq!(gateway.message(&raw(pair, 0, 12, 9, &rest)), got(9, &[]));
+            for status in [8, 127, 131, 255] {
+                let bad_status = peer(pair, status, 9, &rest);
+                assert_eq!(gateway.message(&bad_status), got(11, &[]));
+            }
+            let bad_length = peer(pair, 0, 9, &[&rest[..], &[0]].concat());
+            let answer = gateway.message(&bad_length);
+            match pair {
+                // Which may have any body, as long as its net is there.
+                UPDATE => assert_eq!(answer, got(0, &drawn)),
+                _ => assert_eq!(answer, got(12, &[])),
+            }
+            if !rest.is_empty() {
+                let short = peer(pair, 0, 9, &rest[1..]);
+                assert_eq!(gateway.message(&short), got(12, &[]));
+            }
+            assert_eq!(gateway.n(), in_state(Idle, Mode::None));
+        }
+        // 10, and a stranger's Request, which has a reply with either setting.
+        assert_eq!(gateway.message(&peer((5, 2), 0, 9, &[])), got(10, &[]));
+        let stranger = raw(REQUEST, 0, 12, 9, &intervals(30, 120));
+        let refuse = [ours(REFUSE, 4, 9, &[])];
+        assert_eq!(gateway.message(&stranger), got(9, &refuse));
+    }
+}
+
 #[test]
 fn answer_14_in_up_with_error_2() {
     let mut other_net = vec![0, 0];
@@ -458,7 +504,7 @@ fn answer_14_in_up_with_error_2() {
         assert_eq!(gateway.message(&octets), got(14, &[error]));
         assert_eq!(gateway.n().heard, 0);
         for state in [Idle, Acquisition, Down, Cease] {
-            let mut gateway = Gateway::with(in_state(state, Mode::Passive));
+            let mut gateway = Gateway::with(in_state(state, Mode::Passive)).quiet();
             assert_eq!(gateway.message(&octets), got(0, &[]));
         }
     }
@@ -487,26 +533,33 @@ fn answer_16_from_fresh() {
         assert_eq!(outcome.state, State::default());
         assert!(!outcome.state.is_well_formed());
     };
-    refused(gateway::fresh(0, OWN, 0, NET));
-    refused(gateway::fresh(9, OWN, 3, NET));
-    refused(gateway::fresh(9, OWN, 255, NET));
-    refused(gateway::fresh(9, OWN, 0, OWN));
-    refused(gateway::fresh(9, OWN, 0, address(128, 10, 0, 0)));
+    refused(gateway::fresh(0, OWN, 0, NET, 0));
+    refused(gateway::fresh(9, OWN, 3, NET, 0));
+    refused(gateway::fresh(9, OWN, 255, NET, 0));
+    refused(gateway::fresh(9, OWN, 0, OWN, 0));
+    refused(gateway::fresh(9, OWN, 0, address(128, 10, 0, 0), 0));
     refused(gateway::fresh(
         9,
         address(224, 0, 0, 1),
         0,
         address(224, 0, 0, 0),
+        0,
     ));
-    refused(gateway::fresh(9, address(128, 8, 0, 1), 0, NET));
-    for capability in 0..=2 {
-        let good = gateway::fresh(9, OWN, capability, NET);
+    refused(gateway::fresh(9, address(128, 8, 0, 1), 0, NET, 0));
+    for quiet in [2, 3, 128, 255] {
+        refused(gateway::fresh(9, OWN, 0, NET, quiet));
+    }
+    for (capability, quiet) in (0..=2).flat_map(|capability| [(capability, 0), (capability, 1)]) {
+        let good = gateway::fresh(9, OWN, capability, NET, quiet);
         assert_eq!(good.answer, Answer::Done);
         assert!(good.state.is_well_formed());
         assert_eq!(good.state.neighbours, [Neighbour::default(); 8]);
         let own = (good.state.as_number, good.state.address, good.state.net);
         assert_eq!(own, (9, OWN, NET));
-        assert_eq!(good.state.capability, capability);
+        assert_eq!(
+            (good.state.capability, good.state.quiet),
+            (capability, quiet)
+        );
     }
 }
 
@@ -522,7 +575,7 @@ fn answer_16_from_add() {
 
 #[test]
 fn answer_17_when_all_slots_are_used() {
-    let mut state = gateway::fresh(OWN_AS, OWN, 0, NET).state;
+    let mut state = gateway::fresh(OWN_AS, OWN, 0, NET, 0).state;
     for slot in 0..8 {
         let outcome = gateway::add(&state, N + slot, PEER_AS);
         assert_eq!(outcome.answer, Answer::Done);
@@ -591,6 +644,9 @@ fn well_formed_own_values() {
     assert!(!with(&|state| state.as_number = PEER_AS));
     assert!(!with(&|state| state.capability = 3));
     assert!(with(&|state| state.capability = 2));
+    assert!(with(&|state| state.quiet = 1));
+    assert!(!with(&|state| state.quiet = 2));
+    assert!(!with(&|state| state.quiet = 255));
     assert!(!with(&|state| state.net = OWN));
     assert!(!with(&|state| state.net = address(10, 0, 0, 0)));
     assert!(!with(&|state| state.address = address(128, 8, 0, 1)));

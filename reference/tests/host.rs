@@ -55,21 +55,35 @@ const WITH_TABLE: [CallKind; 5] = [Start, Stop, Tick, Message, Listing];
 
 #[test]
 fn fresh_writes_the_whole_block() {
-    let (result, after) = fresh_over(vec![0xEE; 243]).make();
+    let (result, after) = fresh_over(vec![0xEE; 244]).make();
     assert_eq!(result, 0);
-    assert_eq!(after.block[..11], hex("00 09 80 09 00 01 01 80 09 00 00"));
-    assert!(after.block[11..].iter().all(|octet| *octet == 0));
+    assert_eq!(
+        after.block[..12],
+        hex("00 09 80 09 00 01 01 80 09 00 00 00")
+    );
+    assert!(after.block[12..].iter().all(|octet| *octet == 0));
+    let mut quiet = fresh_over(vec![0xEE; 244]);
+    quiet.quiet = 1;
+    let (result, after) = quiet.make();
+    assert_eq!(result, 0);
+    assert_eq!(
+        after.block[..12],
+        hex("00 09 80 09 00 01 01 80 09 00 00 01")
+    );
+    assert!(after.block[12..].iter().all(|octet| *octet == 0));
 }
 
 #[test]
 fn a_refused_fresh_touches_no_octet() {
-    let good = fresh_over(vec![0xEE; 243]);
-    let spoils: [fn(&mut HostCall); 5] = [
+    let good = fresh_over(vec![0xEE; 244]);
+    let spoils: [fn(&mut HostCall); 7] = [
         |call| call.as_number = 0,
         |call| call.capability = 3,
         |call| call.net |= 1,
         |call| (call.net, call.address) = (0xE000_0000, 0xE000_0001),
         |call| call.address = 1,
+        |call| call.quiet = 2,
+        |call| call.quiet = 255,
     ];
     for spoil in spoils {
         let mut bad = good.clone();
@@ -83,7 +97,8 @@ fn a_refused_fresh_touches_no_octet() {
 #[test]
 fn twenty_comes_first() {
     for kind in WITH_BLOCK {
-        for length in [0, 1, 227, 242, 244, 404, 65_536 + 243] {
+        // 243 octets had the block before it had `quiet` (02, L6).
+        for length in [0, 1, 227, 243, 245, 404, 65_536 + 244] {
             let mut call = call(kind, up());
             call.lent.block.resize(length, 0);
             call.lent.table.clear();
@@ -100,7 +115,7 @@ fn numbers_of_no_state_and_no_mode_give_1() {
         for slot in 0..8 {
             for (at, code) in [(22, 5), (22, 255), (23, 3), (23, 255)] {
                 let mut call = call(kind, up());
-                call.lent.block[11 + 29 * slot + at] = code;
+                call.lent.block[12 + 29 * slot + at] = code;
                 call.lent.table.clear();
                 assert_refused(&call, 1);
             }
@@ -114,7 +129,7 @@ fn counts_above_120_give_1() {
     for slot in 0..8 {
         for at in [27, 28] {
             let mut call = call(Tick, up());
-            let octet = 11 + 29 * slot + at;
+            let octet = 12 + 29 * slot + at;
             call.lent.block[octet] = 121;
             assert_refused(&call, 1);
             // Nor has Idle or a free slot any.
@@ -124,14 +139,44 @@ fn counts_above_120_give_1() {
     }
 }
 
+/// Its octet ends the settings.
+#[test]
+fn quiet_above_1_gives_1() {
+    for kind in WITH_BLOCK.into_iter().filter(|kind| *kind != Fresh) {
+        for quiet in [2, 3, 255] {
+            let mut call = call(kind, up());
+            call.lent.block[11] = quiet;
+            call.lent.table.clear();
+            assert_refused(&call, 1);
+        }
+    }
+}
+
+/// The setting is the block's own: a stray message is answered by it, and leaves every octet.
+#[test]
+fn a_stray_leaves_the_block() {
+    for quiet in [0, 1] {
+        let mut call = call(Message, in_state(Idle, reference::neighbour::Mode::None));
+        call.octets = peer(POLL, 1, 9, &[0, 0, 128, 9, 0, 0]);
+        call.lent.block[11] = quiet;
+        let (result, after) = call.make();
+        let length = [10, 0][usize::from(quiet)];
+        assert_eq!(result, (length as u64) << 16);
+        assert_eq!(after.buffer[..length], stray_cease()[..length]);
+        assert!(after.buffer[length..].iter().all(|octet| *octet == FILL));
+        assert_eq!(after.block, call.lent.block);
+        assert_eq!(after.table, call.lent.table);
+    }
+}
+
 #[test]
 fn a_too_quick_hello_leaves_the_block() {
     let mut call = call(Message, up());
     call.octets = peer(HELLO, 1, 9, &[]);
     let (result, after) = call.make();
     assert_eq!(host::answer(result), 0);
-    assert_eq!(call.lent.block[11 + 27..11 + 29], [SINCE_HELLO, SINCE_POLL]);
-    assert_eq!(after.block[11 + 27..11 + 29], [0, SINCE_POLL]);
+    assert_eq!(call.lent.block[12 + 27..12 + 29], [SINCE_HELLO, SINCE_POLL]);
+    assert_eq!(after.block[12 + 27..12 + 29], [0, SINCE_POLL]);
     call.lent.block = after.block;
     let (result, after) = call.make();
     assert_eq!(result, 24 << 16 | 21);
@@ -214,7 +259,7 @@ fn the_lengths_stand_above_the_answer() {
     assert_eq!(after.buffer[..10], our_hello(1, 4));
     assert_eq!(after.buffer[10..26], our_poll(5));
     assert!(after.buffer[26..].iter().all(|octet| *octet == FILL));
-    assert_eq!(after.block[11 + 22], 3);
+    assert_eq!(after.block[12 + 22], 3);
 }
 
 #[test]
@@ -240,7 +285,7 @@ fn rows_are_written_in_the_slot_alone() {
     assert_eq!(after.table[..24], rows);
     assert!(after.table[24..1_536].iter().all(|octet| *octet == 0));
     assert!(after.table[1_536..].iter().all(|octet| *octet == 7));
-    assert_eq!(after.block[11 + 20..11 + 22], [0, 2]);
+    assert_eq!(after.block[12 + 20..12 + 22], [0, 2]);
 }
 
 #[test]

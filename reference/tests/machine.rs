@@ -1,4 +1,4 @@
-//! Every cell of the machine's table (01, "One neighbour"; 02, L3 and L5).
+//! Every cell of the machine's table (01, "One neighbour"; 02, L3, L5 and L6).
 //!
 //! The neighbour starts with S 4 and R 5; in Up it holds two rows. Each case compares the whole
 //! neighbour after the event, every octet sent, and the rows.
@@ -21,7 +21,17 @@ fn check(
     after: Neighbour,
     sent: &[Vec<u8>],
 ) {
-    let mut gateway = Gateway::new(capability);
+    check_on(Gateway::new(capability), before, event, after, sent);
+}
+
+/// The same on this gateway.
+fn check_on(
+    mut gateway: Gateway,
+    before: Neighbour,
+    event: impl Fn(&mut Gateway) -> Got,
+    after: Neighbour,
+    sent: &[Vec<u8>],
+) {
     gateway.put(before);
     // What is in rows not used, or of a neighbour not Up, shows who writes there.
     gateway.bench.table[383] = 77;
@@ -45,6 +55,24 @@ fn message(octets: Vec<u8>) -> impl Fn(&mut Gateway) -> Got {
 
 fn idle() -> Neighbour {
     Neighbour::idle(N, PEER_AS)
+}
+
+/// Idle answers this message with Cease, or with nothing if we are quiet; either way nothing else
+/// happens.
+fn check_stray(octets: &[u8]) {
+    let octets = || message(octets.to_vec());
+    for capability in 0..=2 {
+        check(idle(), capability, octets(), idle(), &[stray_cease()]);
+        let quiet = Gateway::new(capability).quiet();
+        check_on(quiet, idle(), octets(), idle(), &[]);
+    }
+}
+
+/// Whatever the setting, Idle does this.
+fn check_idle(octets: &[u8], sent: &[Vec<u8>]) {
+    for gateway in [Gateway::new(1), Gateway::new(1).quiet()] {
+        check_on(gateway, idle(), message(octets.to_vec()), idle(), sent);
+    }
 }
 
 /// After A or B with T1 32 and T2 122.
@@ -209,7 +237,7 @@ fn confirm() {
         common::confirm(0, 4, 30, 120),
         common::confirm(0, 4, 121, 500),
     ] {
-        check(idle(), 1, message(octets.clone()), idle(), &[]);
+        check_stray(&octets);
         let ceasing = in_state(Cease, Mode::None);
         check(ceasing, 1, message(octets.clone()), ceasing, &[]);
         for state in [Down, Up] {
@@ -224,7 +252,7 @@ fn confirm() {
 #[test]
 fn refuse() {
     let octets = || message(peer(REFUSE, 6, 4, &[]));
-    check(idle(), 1, octets(), idle(), &[]);
+    check_stray(&peer(REFUSE, 6, 4, &[]));
     check(in_state(Acquisition, Mode::None), 1, octets(), idle(), &[]);
     for state in [Down, Up, Cease] {
         for mode in MODES {
@@ -248,7 +276,7 @@ fn cease() {
 #[test]
 fn cease_ack() {
     let octets = || message(peer(CEASE_ACK, 0, 4, &[]));
-    check(idle(), 1, octets(), idle(), &[]);
+    check_idle(&peer(CEASE_ACK, 0, 4, &[]), &[]);
     for state in [Acquisition, Down, Up] {
         for mode in MODES {
             let before = in_state(state, mode);
@@ -262,7 +290,7 @@ fn cease_ack() {
 fn hello() {
     for status in 0..=2 {
         let octets = || message(peer(HELLO, status, 9, &[]));
-        check(idle(), 1, octets(), idle(), &[]);
+        check_stray(&peer(HELLO, status, 9, &[]));
         for state in [Acquisition, Cease] {
             let before = in_state(state, Mode::None);
             check(before, 1, octets(), with_r(before, 9), &[]);
@@ -284,7 +312,7 @@ fn hello() {
 fn i_h_u() {
     for status in 0..=2 {
         let octets = || message(peer(I_H_U, status, 4, &[]));
-        check(idle(), 1, octets(), idle(), &[]);
+        check_stray(&peer(I_H_U, status, 4, &[]));
         for state in OUTSIDE_IDLE {
             let active = in_state(state, Mode::Active);
             let after = if state == Down || state == Up {
@@ -304,7 +332,7 @@ fn poll() {
     for status in 0..=2 {
         for net in [NET, address(128, 10, 0, 0), NET + 1] {
             let octets = common::poll(status, 9, net);
-            check(idle(), 1, message(octets.clone()), idle(), &[]);
+            check_stray(&octets);
             for state in [Acquisition, Cease] {
                 let before = in_state(state, Mode::None);
                 let after = with_r(before, 9);
@@ -357,7 +385,7 @@ fn update_outside_up() {
         common::update(129, 1, 1, 1, &[9, 9]),
         common::update(0, 1, 0, 0, &[]),
     ] {
-        check(idle(), 1, message(octets.clone()), idle(), &[]);
+        check_stray(&octets);
         let s1 = |state, mode| Neighbour {
             send_sequence: 1,
             ..in_state(state, mode)
@@ -532,6 +560,83 @@ fn error_received() {
                 let octets = message(peer(ERROR, status, 77, &[0xFF; 14]));
                 check(before, 1, octets, before, &[]);
             }
+        }
+    }
+    check_idle(&peer(ERROR, 0, 77, &[0xFF; 14]), &[]);
+}
+
+/// Messages of the six kinds, each with this sequence number and of every status that it can have.
+fn strays(sequence: u16) -> Vec<Vec<u8>> {
+    let mut all = Vec::new();
+    for status in 0..=2 {
+        all.push(common::confirm(status, sequence, 30, 120));
+        all.push(common::confirm(status, sequence, 65_535, 65_535));
+        all.push(peer(HELLO, status, sequence, &[]));
+        all.push(peer(I_H_U, status, sequence, &[]));
+        all.push(common::poll(status, sequence, NET));
+        all.push(common::poll(status, sequence, 0));
+    }
+    for status in [0, 3, 4, 5, 6, 7] {
+        all.push(peer(REFUSE, status, sequence, &[]));
+    }
+    for status in UPDATE_STATUSES {
+        for Blocks(internal, blocks) in [one_row(), octet_left_over(), rows_129()] {
+            all.push(common::update(status, sequence, internal, 0, &blocks));
+        }
+        // About another net, and of no octets at all behind it.
+        all.push(peer(UPDATE, status, sequence, &[9, 9, 0, 0, 0, 0]));
+    }
+    all
+}
+
+/// 02, L6: status 7, sequence 0 whatever number the message has, and nothing is kept of it.
+#[test]
+fn strays_in_idle_draw_cease() {
+    assert_eq!(stray_cease(), hex("02 03 03 07 FA EC 00 09 00 00"));
+    for sequence in [0, 1, 9, 65_535] {
+        strays(sequence)
+            .iter()
+            .for_each(|octets| check_stray(octets));
+    }
+}
+
+/// They are answered as ever, with either setting.
+#[test]
+fn requests_and_ceases_in_idle_are_no_strays() {
+    check_idle(&peer(CEASE, 7, 9, &[]), &[ours(CEASE_ACK, 0, 9, &[])]);
+    check_idle(&request(0, 9, 121, 120), &[ours(REFUSE, 6, 9, &[])]);
+    for gateway in [Gateway::new(1), Gateway::new(1).quiet()] {
+        let acquired = just_down(Mode::Active, 0, 9);
+        let sent = [our_confirm(1, 9), our_hello(2, 0)];
+        let octets = message(request(0, 9, 30, 120));
+        check_on(gateway, idle(), octets, acquired, &sent);
+    }
+}
+
+/// A Cease that was drawn is not repeated, and a Cease-ack to it changes nothing.
+#[test]
+fn a_stray_starts_nothing() {
+    let mut gateway = Gateway::new(1);
+    assert_eq!(gateway.message(&peer(HELLO, 1, 9, &[])).sent.len(), 1);
+    for _ in 0..130 {
+        assert_eq!(gateway.tick(), got(0, &[]));
+    }
+    assert_eq!(gateway.message(&peer(CEASE_ACK, 0, 0, &[])), got(0, &[]));
+    assert_eq!(gateway.n(), idle());
+    assert_eq!(gateway.start(), got(0, &[our_request(1, 0)]));
+}
+
+/// Outside Idle both settings are the same.
+#[test]
+fn quiet_is_about_idle_only() {
+    for state in OUTSIDE_IDLE {
+        for octets in strays(4) {
+            let gateway = Gateway::with(in_state(state, Mode::Active));
+            let answers = [gateway.clone(), gateway.quiet()].map(|mut gateway| {
+                let answer = gateway.message(&octets);
+                (answer, gateway.n(), gateway.bench.table)
+            });
+            assert_eq!(answers[0], answers[1]);
         }
     }
 }

@@ -8,8 +8,8 @@ use reference::coverage::{self, Moment};
 use reference::gateway::TABLE_NUMBERS;
 use reference::generate::{Origin, Step};
 use reference::listing::LISTING_BUFFER;
-use reference::message::{Body, Intervals, Message};
-use reference::neighbour::{Mode, Neighbour, NeighbourState};
+use reference::message::{Body, Intervals, Kind, Message};
+use reference::neighbour::{Mode, Neighbour, NeighbourState, STRAYS};
 use reference::net::address;
 use reference::places::{self, Seen};
 use reference::update::Row;
@@ -332,7 +332,6 @@ fn a_message_from_another_as() {
     let idle = Gateway::new(1);
     for (octets, name) in [
         (stranger(REQUEST, 2, 4), "Request in Idle, Refuse 4"),
-        (stranger(CONFIRM, 0, 4), "Confirm in Idle"),
         (stranger(HELLO, 1, 4), "other kind in Idle"),
         (stranger(REQUEST, 3, 4), "Request of status 3 in Idle"),
         (stranger(REQUEST, 0, 3), "Request of other length in Idle"),
@@ -354,7 +353,7 @@ fn a_message_from_another_as() {
 
 #[test]
 fn bodies_that_are_not_looked_at() {
-    for state in [Idle, Acquisition, Down, Cease] {
+    for state in [Acquisition, Down, Cease] {
         let gateway = Gateway::with(in_state(state, Mode::Active));
         let name = format!("Update with a bad body in {state:?}");
         assert!(reaches(&gateway, message(update_failing(&[14])), &name));
@@ -474,13 +473,102 @@ fn a_hello_or_poll_near_its_rate() {
             assert!(reaches(&near, poll_call(NET), &name), "{name}");
         }
     }
-    for (name, call) in [
-        ("Hello in Idle", hello_call()),
-        ("Poll in Idle", poll_call(NET)),
-    ] {
-        assert!(reaches(&Gateway::new(1), call.clone(), name));
-        let down = counted(Down, Mode::Active, 120, 120);
-        assert!(!reaches(&down, call, name));
+}
+
+/// A message of each kind that draws a Cease in Idle, with this AS, status and sequence number, and
+/// so many octets behind what its kind has.
+fn stray(kind: Kind, as_number: u16, status: u8, sequence: u16, more: usize) -> Call {
+    let rest = match kind {
+        Kind::Confirm => 4,
+        Kind::Poll => 6,
+        // As long as it may not be.
+        Kind::Update if more > 0 => 5,
+        Kind::Update => 6,
+        _ => 0,
+    };
+    let more = if kind == Kind::Update { 0 } else { more };
+    let pair = kind.type_and_code();
+    message(raw(
+        pair,
+        status,
+        as_number,
+        sequence,
+        &vec![0; rest + more],
+    ))
+}
+
+#[test]
+fn strays_good_and_nearly_so() {
+    for quiet in [0, 1] {
+        let mut idle = Gateway::new(1);
+        idle.bench.state.quiet = quiet;
+        let mut other = idle.clone();
+        other.bench.state.quiet = 1 - quiet;
+        let mut acquired = idle.clone();
+        acquired.put(in_state(Down, Mode::Active));
+        for kind in STRAYS {
+            for (what, call) in [
+                ("", stray(kind, PEER_AS, 0, 9, 0)),
+                (" of another AS", stray(kind, 8, 0, 9, 0)),
+                (" of a wrong status", stray(kind, PEER_AS, 127, 9, 0)),
+                (" of a wrong length", stray(kind, PEER_AS, 0, 9, 1)),
+            ] {
+                let name = format!("{kind:?}{what} in Idle, quiet {quiet}");
+                assert!(reaches(&idle, call.clone(), &name), "{name}");
+                assert!(!reaches(&other, call.clone(), &name), "{name}");
+                assert!(!reaches(&acquired, call, &name), "{name}");
+            }
+            // With 0 of its own it says nothing of the Cease's number.
+            let name = format!("{kind:?} in Idle, quiet {quiet}");
+            let zero = stray(kind, PEER_AS, 0, 0, 0);
+            assert!(!reaches(&idle, zero, &name), "{name}");
+            // Two things wrong.
+            let name = format!("{kind:?} of another AS in Idle, quiet {quiet}");
+            assert!(!reaches(&idle, stray(kind, 8, 127, 9, 0), &name));
+            assert!(!reaches(&idle, stray(kind, 8, 0, 9, 1), &name));
+            let name = format!("{kind:?} of a wrong status in Idle, quiet {quiet}");
+            assert!(!reaches(&idle, stray(kind, PEER_AS, 127, 9, 1), &name));
+        }
+        let name = format!("Update with a bad body in Idle, quiet {quiet}");
+        assert!(reaches(&idle, message(update_failing(&[14])), &name));
+        assert!(!reaches(&idle, message(update_failing(&[])), &name));
+        assert!(!reaches(&other, message(update_failing(&[14])), &name));
+        for (kind, octets) in [
+            (Kind::Request, request(1, 9, 30, 120)),
+            (Kind::Cease, peer(CEASE, 0, 9, &[])),
+            (Kind::CeaseAck, peer(CEASE_ACK, 0, 9, &[])),
+            (Kind::Error, peer(ERROR, 0, 9, &[0; 14])),
+        ] {
+            let name = format!("{kind:?} in Idle, quiet {quiet}");
+            assert!(reaches(&idle, message(octets.clone()), &name), "{name}");
+            assert!(!reaches(&other, message(octets), &name), "{name}");
+        }
+    }
+}
+
+#[test]
+fn values_of_quiet() {
+    for value in 1..=2 {
+        let mut gateway = Gateway::new(1);
+        let name = format!("state: quiet {value}");
+        assert!(!reaches(&gateway, tick(), &name));
+        gateway.bench.state.quiet = value;
+        assert!(reaches(&gateway, tick(), &name));
+        // A second thing wrong hides it.
+        gateway.bench.state.capability = 3;
+        assert!(!reaches(&gateway, tick(), &name));
+    }
+    for value in 0..=2 {
+        let fresh = |capability| Call::Fresh {
+            as_number: OWN_AS,
+            address: OWN,
+            capability,
+            net: NET,
+            quiet: value,
+        };
+        let name = format!("Fresh: quiet {value}");
+        assert!(reaches(&Gateway::new(1), fresh(2), &name));
+        assert!(!reaches(&Gateway::new(1), fresh(3), &name));
     }
 }
 

@@ -1,9 +1,11 @@
-//! Playing a recording back (02, L1). The number in a test's name is the reading's.
+//! Playing a recording back (02, L1 and L6). The number in a test's name is the reading's.
 
 mod common;
 
 use common::*;
 use reference::generate::recordings;
+use reference::message::Kind;
+use reference::neighbour::STRAYS;
 use reference::net::dotted;
 use reference::playback;
 use reference::recording;
@@ -356,6 +358,101 @@ fn bad_line_comes_before_all_others() {
     bad_after(&eight, "add=128.9.1.9/7/");
 }
 
+/// N in Idle says Hello, behind these lines.
+fn hello_behind(lines: &[&str]) -> String {
+    let hello = rx(N, &peer(HELLO, 1, 9, &[]));
+    after_head(&[lines, &["add=128.9.0.5/7", &hello]].concat())
+}
+
+/// 02, L6: without a setting it is 0.
+#[test]
+fn a_stray_draws_cease_unless_quiet() {
+    let cease = tx(N, &stray_cease()) + N_IDLE;
+    assert_eq!(hello_behind(&[]), cease);
+    assert_eq!(hello_behind(&["quiet=0"]), cease);
+    assert_eq!(hello_behind(&["quiet=1"]), N_IDLE);
+}
+
+#[test]
+fn lines_are_counted_with_quiet_too() {
+    for quiet in ["quiet=0", "quiet=1"] {
+        assert_eq!(after_head(&[quiet]), NOBODY);
+        let output = after_head(&[quiet, "nonsense", "add=128.9.0.5/7", ""]);
+        assert_eq!(output, format!("bad=6\nbad=8\n{N_IDLE}"));
+    }
+}
+
+#[test]
+fn b92_any_other_quiet_line_is_bad_and_sets_nothing() {
+    let cease = tx(N, &stray_cease()) + N_IDLE;
+    for line in [
+        "quiet=2",
+        "quiet=01",
+        "quiet=",
+        "quiet",
+        "quiet=1\r",
+        "Quiet=1",
+    ] {
+        assert_eq!(hello_behind(&[line]), format!("bad=5\n{cease}"), "{line:?}");
+        // Behind a good one, which stands.
+        let behind = hello_behind(&["quiet=1", line]);
+        assert_eq!(behind, format!("bad=6\n{N_IDLE}"), "{line:?}");
+    }
+    // At line 6, behind an event, a bad line, or a bad one of its own.
+    for before in ["remove=128.9.0.5", "", "quiet=2"] {
+        let is_bad = event_is_bad(before);
+        let bad = if is_bad { "bad=5\nbad=6\n" } else { "bad=6\n" };
+        assert_eq!(hello_behind(&[before, "quiet=1"]), format!("{bad}{cease}"));
+    }
+    // A second one sets nothing.
+    assert_eq!(
+        hello_behind(&["quiet=0", "quiet=1"]),
+        format!("bad=6\n{cease}")
+    );
+    assert_eq!(
+        hello_behind(&["quiet=1", "quiet=0"]),
+        format!("bad=6\n{N_IDLE}")
+    );
+    assert_eq!(
+        hello_behind(&["quiet=1", "quiet=1"]),
+        format!("bad=6\n{N_IDLE}")
+    );
+    // An unended one is bad, as any last line is.
+    for last in ["quiet=0", "quiet=1", "quiet="] {
+        assert_eq!(play(&format!("{HEAD}{last}")), format!("bad=5\n{NOBODY}"));
+        let second = play(&format!("{HEAD}quiet=1\n{last}"));
+        assert_eq!(second, format!("bad=6\n{NOBODY}"));
+    }
+}
+
+fn event_is_bad(line: &str) -> bool {
+    recording::event(format!("{line}\n").as_bytes()).is_err()
+}
+
+/// The fifth line changes nothing of how a bad head, or one that fresh refuses, is told of.
+#[test]
+fn a_head_without_its_fifth_line_is_reported_alone() {
+    let fifths = [
+        "",
+        "quiet=0\n",
+        "quiet=1\n",
+        "quiet=2\n",
+        "quiet=1",
+        "quiet=01\nstart=",
+        "\n",
+    ];
+    for fifth in fifths {
+        for refused in ["net=128.9.0.1", "net=224.0.0.0", "net=10.0.0.0"] {
+            let recording = HEAD.replace("net=128.9.0.0", refused) + fifth;
+            assert_eq!(play(&recording), "bad=4\n", "{fifth:?}");
+        }
+        for (number, line) in HEAD.lines().enumerate() {
+            let recording = HEAD.replacen(line, "quiet=1", 1) + fifth;
+            assert_eq!(play(&recording), format!("bad={}\n", number + 1));
+        }
+    }
+}
+
 /// The head and the lines of a generated recording with a good head and ended lines.
 fn generated(seed: u64) -> Option<(Vec<String>, String)> {
     let recording = recordings::recording(seed, 150);
@@ -467,5 +564,78 @@ fn the_passive_example_stays_up() {
         let output = play(&played);
         assert!(output.contains("state=up\nmode=passive\nrows=2\n"));
         assert!(!output.contains("bad="));
+    }
+}
+
+/// The messages that the stray example has from its neighbour, in order, each with what comes of it.
+fn stray_example(recording: &str) -> Vec<(Vec<u8>, String)> {
+    let lines: Vec<&str> = recording.lines().collect();
+    let played = |count: usize| {
+        let lines: String = lines[..count]
+            .iter()
+            .map(|line| format!("{line}\n"))
+            .collect();
+        let output = play(&lines);
+        let listing = output.find("neighbours=").expect("a listing");
+        output[..listing].to_string()
+    };
+    let octets = |line: &str| {
+        let (_, digits) = line.strip_prefix("rx=")?.split_once('/')?;
+        let pairs = digits.as_bytes().chunks(2);
+        let text: Vec<&str> = pairs.flat_map(std::str::from_utf8).collect();
+        Some(hex(&text.join(" ")))
+    };
+    let messages = lines.iter().enumerate();
+    messages
+        .filter_map(|(index, line)| {
+            let before = played(index.max(4));
+            let after = || played(index + 1)[before.len()..].to_string();
+            Some((octets(line)?, after()))
+        })
+        .collect()
+}
+
+/// 02, L6: each of the six kinds draws the Cease, a Cease-ack, an Error and what is refused draw
+/// nothing, and the Request acquires.
+#[test]
+fn the_stray_example_is_told() {
+    let stored = include_str!("../../examples/stray.rec");
+    assert_eq!(play(stored), include_str!("../../examples/stray.out"));
+    let cease = tx(N, &stray_cease());
+    let messages = stray_example(stored);
+    let of = |kind: Kind| {
+        let pair = kind.type_and_code();
+        messages
+            .iter()
+            .filter(move |(octets, _)| (octets[1], octets[2]) == pair)
+    };
+    for kind in STRAYS {
+        assert!(of(kind).any(|(_, drawn)| *drawn == cease), "{kind:?}");
+        assert!(of(kind).all(|(_, drawn)| drawn.is_empty() || *drawn == cease));
+    }
+    for kind in [Kind::CeaseAck, Kind::Error] {
+        assert!(of(kind).count() == 1 && of(kind).all(|(_, drawn)| drawn.is_empty()));
+    }
+    let refused = of(Kind::Hello).chain(of(Kind::Poll));
+    assert_eq!(refused.filter(|(_, drawn)| drawn.is_empty()).count(), 3);
+    let acquired = tx(N, &our_confirm(1, 16)) + &tx(N, &our_hello(2, 0));
+    assert!(of(Kind::Request).all(|(_, drawn)| *drawn == acquired));
+    // With the old silence it is that alone.
+    let quiet = stored.replacen("net=128.9.0.0\n", "net=128.9.0.0\nquiet=1\n", 1);
+    assert_eq!(play(&quiet), play(stored).replace(&cease, ""));
+    assert!(play(&quiet).starts_with(&acquired));
+}
+
+/// The other examples have no stray messages: they play the same with either setting.
+#[test]
+fn the_older_examples_do_not_lean_on_silence() {
+    for stored in [
+        include_str!("../../examples/site.rec"),
+        include_str!("../../examples/passive.rec"),
+    ] {
+        let (head, events) = stored.split_once("add=").expect("events");
+        let numbers = |text: String| without_bad_lines(&text);
+        let quiet = play(&format!("{head}quiet=1\nadd={events}"));
+        assert_eq!(numbers(quiet), numbers(play(stored)));
     }
 }

@@ -264,7 +264,7 @@ fn b20_the_home_list_comes_before_the_address() {
 
 #[test]
 fn b21_address_0_is_no_neighbour() {
-    let state = gateway::fresh(OWN_AS, OWN, 1, NET).state;
+    let state = gateway::fresh(OWN_AS, OWN, 1, NET, 0).state;
     let mut table = vec![0; 3072];
     let mut reply = vec![0; 2048];
     let hello = peer(HELLO, 1, 9, &[]);
@@ -337,14 +337,14 @@ fn b27_no_error_outside_down_and_up() {
 
 #[test]
 fn b28_a_refused_fresh_gives_the_all_zero_state() {
-    let outcome = gateway::fresh(0, OWN, 1, NET);
+    let outcome = gateway::fresh(0, OWN, 1, NET, 0);
     assert_eq!(outcome.answer.number(), 16);
     assert_eq!(outcome.state, gateway::State::default());
 }
 
 #[test]
 fn b29_add_makes_16_before_17() {
-    let mut state = gateway::fresh(OWN_AS, OWN, 1, NET).state;
+    let mut state = gateway::fresh(OWN_AS, OWN, 1, NET, 0).state;
     for host in 0..8 {
         state = gateway::add(&state, N + host, PEER_AS).state;
     }
@@ -375,7 +375,7 @@ fn b31_a_listing_makes_2_before_3() {
 
 #[test]
 fn b32_net_0_and_address_0_are_good() {
-    let outcome = gateway::fresh(OWN_AS, 0, 0, 0);
+    let outcome = gateway::fresh(OWN_AS, 0, 0, 0, 0);
     assert_eq!(outcome.answer.number(), 0);
     let mut state = gateway::add(&outcome.state, N, PEER_AS).state;
     state.neighbours[0] = changed(in_state(Up, Mode::Active), |n| {
@@ -395,19 +395,21 @@ fn b32_net_0_and_address_0_are_good() {
 
 #[test]
 fn b33_any_host_part_is_allowed() {
-    assert_eq!(gateway::fresh(OWN_AS, NET, 1, NET).answer.number(), 0);
+    assert_eq!(gateway::fresh(OWN_AS, NET, 1, NET, 0).answer.number(), 0);
     let ones = address(128, 9, 255, 255);
-    assert_eq!(gateway::fresh(OWN_AS, ones, 1, NET).answer.number(), 0);
+    assert_eq!(gateway::fresh(OWN_AS, ones, 1, NET, 0).answer.number(), 0);
     let loopback = address(127, 0, 0, 0);
     assert_eq!(
-        gateway::fresh(9, loopback + 1, 1, loopback).answer.number(),
+        gateway::fresh(9, loopback + 1, 1, loopback, 0)
+            .answer
+            .number(),
         0
     );
 }
 
 #[test]
 fn b34_a_neighbour_may_be_anywhere() {
-    let state = gateway::fresh(OWN_AS, OWN, 1, NET).state;
+    let state = gateway::fresh(OWN_AS, OWN, 1, NET, 0).state;
     let outcome = gateway::add(&state, address(224, 0, 0, 1), PEER_AS);
     assert_eq!(outcome.answer.number(), 0);
     assert!(outcome.state.is_well_formed());
@@ -490,7 +492,7 @@ fn b42_only_consecutive_gateways_make_a_block() {
 
 #[test]
 fn b43_the_longest_answer_to_a_poll() {
-    let outcome = gateway::fresh(OWN_AS, OTHER_NET + 1, 1, OTHER_NET);
+    let outcome = gateway::fresh(OWN_AS, OTHER_NET + 1, 1, OTHER_NET, 0);
     let mut state = gateway::add(&outcome.state, N, PEER_AS).state;
     state.neighbours[0] = in_state(Up, Mode::Active);
     let home: Vec<u32> = (0..128)
@@ -521,7 +523,7 @@ fn b44_an_error_quotes_the_message_as_received() {
 
 #[test]
 fn b45_home_rows_are_internal() {
-    let mut gateway = Gateway::new(1);
+    let mut gateway = Gateway::new(1).quiet();
     gateway.home = vec![OTHER_NET, OWN, 256];
     assert_eq!(gateway.message(&peer(HELLO, 1, 9, &[])), got(4, &[]));
     gateway.home = vec![OTHER_NET, OWN, 255];
@@ -733,8 +735,8 @@ fn b66_events_without_effect_answer_0() {
 }
 
 #[test]
-fn b67_idle_stays_silent() {
-    let mut gateway = Gateway::new(1);
+fn b67_idle_stays_silent_if_quiet() {
+    let mut gateway = Gateway::new(1).quiet();
     for octets in [
         confirm(0, 9, 30, 120),
         peer(REFUSE, 0, 9, &[]),
@@ -890,8 +892,32 @@ fn b89_after_29_and_30_ticks() {
 }
 
 #[test]
+fn b90_a_stray_update_of_any_body_and_number() {
+    let mut gateway = Gateway::new(1);
+    for sequence in [0, 1, 65_535] {
+        for octets in [
+            update(1, sequence, 1, 0, &[]),
+            update(129, sequence, 255, 255, &[9; 2032]),
+            peer(UPDATE, 0, sequence, &[0, 0, 10, 0, 0, 0]),
+        ] {
+            assert_eq!(gateway.message(&octets), got(0, &[stray_cease()]));
+        }
+        // 10 to 12 refuse first.
+        let short = peer(UPDATE, 0, sequence, &[0; 5]);
+        assert_eq!(gateway.message(&short), got(12, &[]));
+    }
+}
+
+#[test]
+fn b91_cease_ack_and_error_draw_none() {
+    let mut gateway = Gateway::new(1);
+    assert_eq!(gateway.message(&peer(CEASE_ACK, 0, 9, &[])), got(0, &[]));
+    assert_eq!(gateway.message(&peer(ERROR, 0, 9, &[0; 14])), got(0, &[]));
+}
+
+#[test]
 fn b117_capability_is_a_number() {
-    assert_eq!(gateway::fresh(OWN_AS, OWN, 3, NET).answer.number(), 16);
+    assert_eq!(gateway::fresh(OWN_AS, OWN, 3, NET, 0).answer.number(), 16);
 }
 
 #[test]
@@ -904,6 +930,14 @@ fn b120_a_refused_update_is_no_indication() {
     let mut gateway = gateway_with(Down, Mode::Passive, |_| {});
     assert_eq!(gateway.message(&update(1, 4, 0, 1, &[])), got(0, &[]));
     assert_eq!((gateway.n().heard, gateway.n().t3), (1, 3600));
+}
+
+#[test]
+fn b122_status_7_is_never_a_cause() {
+    let mut gateway = Gateway::new(1);
+    assert_eq!(gateway.message(&peer(HELLO, 1, 9, &[])).sent[0][3], 7);
+    assert_eq!(gateway.n(), Neighbour::idle(N, PEER_AS));
+    assert!(gateway.state().is_well_formed());
 }
 
 #[test]

@@ -1,4 +1,4 @@
-//! The lines of a recording (02, L1): what each good one asks for, and what is bad.
+//! The lines of a recording (02, L1 and L6): what each good one asks for, and what is bad.
 
 mod common;
 
@@ -6,7 +6,7 @@ use common::*;
 use reference::answer::Answer;
 use reference::call::Call;
 use reference::net::address;
-use reference::recording::{self, Event};
+use reference::recording::{self, Event, Head};
 
 fn event(line: &str) -> Result<Event, Answer> {
     recording::event(format!("{line}\n").as_bytes())
@@ -33,10 +33,18 @@ fn assert_all_bad(lines: &[&str]) {
     lines.iter().for_each(assert_bad);
 }
 
-/// The settings of four lines, or the line to report.
-fn head(lines: &[&str]) -> Result<Call, usize> {
+/// The settings of these lines, or the line to report.
+fn whole_head(lines: &[&str]) -> Result<Head, usize> {
     let text: String = lines.iter().map(|line| format!("{line}\n")).collect();
-    recording::head(recording::lines(text.as_bytes()))
+    let lines: Vec<&[u8]> = recording::lines(text.as_bytes()).collect();
+    recording::head(&lines)
+}
+
+/// The same where no fifth line is a setting.
+fn head(lines: &[&str]) -> Result<Call, usize> {
+    let head = whole_head(lines)?;
+    assert_eq!(head.lines, 4);
+    Ok(head.fresh)
 }
 
 const HEAD: [&str; 4] = ["ownas=9", "own=128.9.0.1", "cap=1", "net=128.9.0.0"];
@@ -273,6 +281,7 @@ fn a_good_head() {
         address: OWN,
         capability,
         net: NET,
+        quiet: 0,
     };
     assert_eq!(head(&HEAD), Ok(fresh(9, 1)));
     assert_eq!(head_with(1, "ownas=65535"), Ok(fresh(65_535, 1)));
@@ -282,6 +291,83 @@ fn a_good_head() {
     assert_eq!(head_with(3, "cap=3"), Ok(fresh(9, 3)));
     assert!(head_with(2, "own=1.2.3.4").is_ok());
     assert!(head_with(4, "net=224.0.0.0").is_ok());
+}
+
+/// What the fifth line, with its end, makes of the good head: the setting, and how many lines the
+/// settings take.
+fn with_fifth(line: &[u8]) -> (u8, usize) {
+    let four: Vec<Vec<u8>> = HEAD.map(|line| format!("{line}\n").into()).to_vec();
+    let mut lines: Vec<&[u8]> = four.iter().map(Vec::as_slice).collect();
+    lines.push(line);
+    let Ok(Head {
+        fresh: Call::Fresh { quiet, .. },
+        lines,
+    }) = recording::head(&lines)
+    else {
+        panic!("a good head");
+    };
+    (quiet, lines)
+}
+
+/// 02, L6: two lines are settings there, and no other `quiet` line is one anywhere.
+#[test]
+fn quiet_right_after_net() {
+    assert_eq!(with_fifth(b"quiet=0\n"), (0, 5));
+    assert_eq!(with_fifth(b"quiet=1\n"), (1, 5));
+    // An event, and what is none.
+    assert_eq!(with_fifth(b"add=128.9.0.5/7\n"), (0, 4));
+    assert_eq!(with_fifth(b"\n"), (0, 4));
+    for line in NO_QUIET {
+        assert_eq!(
+            with_fifth(format!("{line}\n").as_bytes()),
+            (0, 4),
+            "{line:?}"
+        );
+    }
+    // Not ended.
+    assert_eq!(with_fifth(b"quiet=1"), (0, 4));
+    assert_eq!(with_fifth(b"quiet=0"), (0, 4));
+}
+
+const NO_QUIET: [&str; 24] = [
+    "quiet=2",
+    "quiet=3",
+    "quiet=10",
+    "quiet=255",
+    "quiet=256",
+    "quiet=257",
+    "quiet=4294967297",
+    "quiet=18446744073709551617",
+    "quiet=00",
+    "quiet=01",
+    "quiet=",
+    "quiet",
+    "quiet=+1",
+    "quiet=-1",
+    "quiet=1 ",
+    "quiet= 1",
+    " quiet=1",
+    "quiet=1\r",
+    "quiet==1",
+    "quiet=1=",
+    "quiet=1/",
+    "Quiet=1",
+    "quiets=1",
+    "quiet=\u{0661}",
+];
+
+#[test]
+fn quiet_anywhere_else_is_bad() {
+    assert_all_bad(&["quiet=0", "quiet=1"]);
+    assert_all_bad(&NO_QUIET);
+    for number in 1..=4 {
+        assert_eq!(head_with(number, "quiet=1"), Err(number));
+    }
+    // Right before `net`, or a second one.
+    let [as_number, own, cap, net] = HEAD;
+    assert_eq!(head(&[as_number, own, cap, "quiet=1", net]), Err(4));
+    let twice = whole_head(&[as_number, own, cap, net, "quiet=1", "quiet=0"]);
+    assert_eq!(twice.map(|head| head.lines), Ok(5));
 }
 
 #[test]
@@ -350,6 +436,9 @@ fn the_first_bad_or_missing_line_of_a_head() {
 fn lines_are_written_as_they_are_read() {
     let fresh = head(&HEAD).expect("a good head");
     assert_eq!(recording::head_lines(&fresh).expect("lines"), HEAD);
+    let quiet = [&HEAD[..], &["quiet=1"]].concat();
+    let head = whole_head(&quiet).expect("a good head");
+    assert_eq!(recording::head_lines(&head.fresh).expect("lines"), quiet);
     assert_eq!(recording::event_line(&fresh, 1), None);
     let add = good("add=0.0.0.0/65535");
     assert_eq!(recording::head_lines(&add), None);
@@ -384,8 +473,8 @@ fn shown_in(heading: &str, column: usize) -> Vec<String> {
 #[test]
 fn the_page_for_technicians_shows_good_and_bad_lines() {
     let good_lines = shown_in("## Lines", 1);
-    let (settings, events) = good_lines.split_at(HEAD.len());
-    assert_eq!(settings, HEAD);
+    let (settings, events) = good_lines.split_at(HEAD.len() + 1);
+    assert_eq!(settings, [&HEAD[..], &["quiet=1"]].concat());
     assert_eq!(events.len(), 6);
     assert!(events.iter().all(|line| event(line).is_ok()));
     let bad_lines = shown_in("## Bad lines", 0);

@@ -1,5 +1,7 @@
 //! Generated recordings: the same for the same seed, wide, deep, and damaged in every way.
 
+use std::collections::BTreeMap;
+
 use reference::answer::Answer;
 use reference::call::Bench;
 use reference::compare_recordings::difference;
@@ -116,6 +118,71 @@ fn every_line_of_a_head_is_bad_somewhere() {
     }
 }
 
+/// `quiet` lines of every sort: such as set something and such as set nothing, and in front of what
+/// fresh refuses.
+#[test]
+fn quiet_lines_of_every_sort_come_up() {
+    let mut counts: BTreeMap<&str, usize> = BTreeMap::new();
+    for seed in 0..2000 {
+        let recording = recording(seed, 12);
+        let all: Vec<&[u8]> = lines::lines(&recording).collect();
+        let fifth = all.get(4).copied().unwrap_or_default();
+        let has_quiet = |line: &[u8]| line.starts_with(b"quiet");
+        let refused = playback::play(&recording) == b"bad=4\n" && lines::head(&all).is_ok();
+        let is_good = lines::quiet(fifth).is_some();
+        let mut note = |what, is_so| *counts.entry(what).or_default() += usize::from(is_so);
+        note("quiet=0", fifth == b"quiet=0\n");
+        note("quiet=1", fifth == b"quiet=1\n");
+        note("quiet=1, not ended", fifth == b"quiet=1");
+        note(
+            "bad",
+            has_quiet(fifth) && !is_good && fifth.ends_with(b"\n"),
+        );
+        note("none", !has_quiet(fifth));
+        note(
+            "second",
+            is_good && all[5..].iter().any(|line| has_quiet(line)),
+        );
+        let late = all.get(5).is_some_and(|line| lines::quiet(line).is_some());
+        note("quiet=0 or 1 on line 6 alone", late && !is_good);
+        note("good, fresh refuses", refused && is_good);
+        note(
+            "bad, fresh refuses",
+            refused && has_quiet(fifth) && !is_good,
+        );
+        note("none, fresh refuses", refused && !has_quiet(fifth));
+    }
+    for (what, count) in counts {
+        assert!(count >= 4, "{what}: {count}");
+    }
+}
+
+/// Both settings are tried by what draws a Cease: one of status 7 comes where the recording is not
+/// quiet, and none where it is.
+#[test]
+fn strays_come_up_with_either_setting() {
+    let mut answered = [0; 2];
+    let mut silent = 0;
+    for seed in 0..400 {
+        let recording = recording(seed, 150);
+        let all: Vec<&[u8]> = lines::lines(&recording).collect();
+        let Ok((mut bench, taken)) = playback::begin(&all) else {
+            continue;
+        };
+        let quiet = bench.state.quiet;
+        for line in &all[taken..] {
+            let (before, mut output) = (bench.clone(), Vec::new());
+            playback::play_line(&mut bench, 0, line, &mut output);
+            let output = String::from_utf8(output).expect("text");
+            answered[usize::from(quiet)] += output.matches("/02030307").count();
+            let is_message = line.starts_with(b"rx=") && output.is_empty();
+            silent += usize::from(quiet == 1 && is_message && before == bench);
+        }
+    }
+    assert!(answered[0] > 100 && silent > 100, "{answered:?} {silent}");
+    assert_eq!(answered[1], 0);
+}
+
 #[test]
 fn lines_are_as_many_as_asked_for() {
     for asked in [0, 1, 3, 4, 5, 77, 300] {
@@ -141,7 +208,8 @@ fn a_day_keeps_all_eight_neighbours_up() {
     let text = day::recording(1, 7200);
     let mut all = text.lines().map(|line| format!("{line}\n"));
     let head: Vec<String> = all.by_ref().take(lines::HEAD_LINES).collect();
-    let mut bench: Bench = playback::begin(head.iter().map(String::as_bytes)).expect("a good head");
+    let head: Vec<&[u8]> = head.iter().map(String::as_bytes).collect();
+    let (mut bench, _): (Bench, usize) = playback::begin(&head).expect("a good head");
     let mut output = Vec::new();
     let (mut seconds, mut modes) = (0, [0; 2]);
     for line in all {

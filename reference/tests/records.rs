@@ -55,6 +55,15 @@ fn a_record_has_its_fields_where_the_format_says() {
         octets[RECORD_HEAD..],
         hex("01 02 03 80 09 00 00 80 09 00 01")
     );
+    let fresh = Call::Fresh {
+        as_number: 9,
+        address: OWN,
+        capability: 2,
+        net: NET,
+        quiet: 1,
+    };
+    let head = hex("00 02 00 09 80 09 00 01 80 09 00 00 00 00 00 00 00 00 00 01 00 00 00 00 00 00 00 00 00 00 00 01");
+    assert_eq!(record::encode(&fresh, 1), head);
 }
 
 #[test]
@@ -91,20 +100,23 @@ fn a_state_has_its_fields_where_the_format_says() {
     gateway.message(&request(0, 0x0102, 30, 120));
     let block = record::state_block(&gateway.bench.state);
     assert_eq!(block.len(), STATE_BLOCK);
-    assert_eq!(block[..11], hex("00 09 80 09 00 01 01 80 09 00 00"));
+    assert_eq!(block.len(), 244);
+    assert_eq!(block[..12], hex("00 09 80 09 00 01 01 80 09 00 00 00"));
+    let quiet = record::state_block(&gateway.clone().quiet().bench.state);
+    assert_eq!((quiet[11], &quiet[12..]), (1, &block[12..]));
     // N is in Down and active: S 0, R 0102, T1 32, T2 122, t1 32, t2 0, t3 120, no rows.
     assert_eq!(
-        block[11..38],
+        block[12..39],
         hex("80 09 00 05 00 07 00 00 01 02 00 20 00 7A 00 20 00 00 00 78 00 00 02 01 00 00 00")
     );
     // As many ticks since Hello and Poll as are counted; a Hello and 10 ticks later, 10 since it.
-    assert_eq!(block[38..40], [120, 120]);
+    assert_eq!(block[39..41], [120, 120]);
     gateway.message(&peer(HELLO, 1, 3, &[]));
     for _ in 0..10 {
         gateway.tick();
     }
     let block = record::state_block(&gateway.bench.state);
-    assert_eq!(block[38..40], [10, 120]);
+    assert_eq!(block[39..41], [10, 120]);
 }
 
 #[test]
@@ -115,6 +127,7 @@ fn a_difference_is_found_where_it_is() {
         address: OWN,
         capability: 1,
         net: NET,
+        quiet: 0,
     };
     let record = bench.run(&call);
     let given = Given::expected(&call, &record, &bench);

@@ -191,6 +191,7 @@ impl Site {
             address: OWN,
             capability: EITHER_MODE,
             net: NET,
+            quiet: 0,
         };
         for line in recording::head_lines(&fresh).into_iter().flatten() {
             self.write(&line);

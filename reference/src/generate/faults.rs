@@ -10,12 +10,13 @@ use crate::random::Random;
 use crate::update::{Row, EXTERNAL, MOST_ROWS};
 
 /// The rules of well-formedness, one to break each.
-pub const STATE_FAULTS: [&str; 54] = [
+pub const STATE_FAULTS: [&str; 55] = [
     "own AS 0",
     "capability above 2",
     "common net not left justified",
     "common net of no class",
     "own address off the net",
+    "quiet above 1",
     "neighbour AS 0",
     "neighbour AS ours",
     "neighbour address ours",
@@ -147,6 +148,7 @@ pub fn break_state(random: &mut Random, state: &mut State) -> &'static str {
             state.address = net::address(224, 0, 0, 1);
         }
         "own address off the net" => state.address ^= 0x8000_0000,
+        "quiet above 1" => state.quiet = nearest(random, 2, &[3, 128, 255]),
         "neighbour AS 0" => n.as_number = 0,
         "neighbour AS ours" => n.as_number = own_as,
         "neighbour address ours" => {
@@ -414,17 +416,11 @@ pub fn message(random: &mut Random, sender: Sender, fault: &str) -> Vec<u8> {
         ),
         "status" => {
             let kind = kind_or_error(random);
-            let mut octets = good_of(random, sender, kind);
-            octets[3] = loop {
-                let status = random.pick(&[1, 2, 3, 8, 127, 128, 129, 131, 255]);
-                if !kind.allows_status(status) {
-                    break status;
-                }
-            };
+            let mut octets = wrong_status(random, sender, kind);
             if random.thousandths(200) {
                 octets.push(0);
+                checksum::seal(&mut octets);
             }
-            checksum::seal(&mut octets);
             octets
         }
         "length" => {
@@ -578,6 +574,32 @@ pub fn good_of(random: &mut Random, sender: Sender, kind: Kind) -> Vec<u8> {
     )
 }
 
+/// A message to a neighbour in Idle, of this kind and any sequence number: good, an Update's body
+/// aside, or from another AS, with a status or of a length that the kind has not.
+pub fn stray(random: &mut Random, sender: Sender, kind: Kind) -> Vec<u8> {
+    let sender = Sender {
+        sequence: material::sequence(random),
+        ..sender
+    };
+    match random.below(5) {
+        0 => {
+            let as_number = other_as(random, sender.as_number);
+            let stranger = Sender {
+                as_number,
+                ..sender
+            };
+            good_of(random, stranger, kind)
+        }
+        1 => wrong_status(random, sender, kind),
+        2 => wrong_length(random, sender, kind),
+        3 if kind == Kind::Update => {
+            let body_fault = random.pick(&BODY_FAULTS);
+            bad_update(random, sender, body_fault)
+        }
+        _ => good_of(random, sender, kind),
+    }
+}
+
 /// A good command whose right checksum is 0000: its sequence number makes all words sum to FFFF.
 pub fn zero_checksum(random: &mut Random, sender: Sender) -> Vec<u8> {
     let kind = random.pick(&[Kind::Hello, Kind::Poll, Kind::Request, Kind::Error]);
@@ -643,6 +665,18 @@ fn kind_or_error(random: &mut Random) -> Kind {
     } else {
         random.pick(&Kind::ALL)
     }
+}
+
+fn wrong_status(random: &mut Random, sender: Sender, kind: Kind) -> Vec<u8> {
+    let mut octets = good_of(random, sender, kind);
+    octets[3] = loop {
+        let status = random.pick(&[1, 2, 3, 8, 127, 128, 129, 131, 255]);
+        if !kind.allows_status(status) {
+            break status;
+        }
+    };
+    checksum::seal(&mut octets);
+    octets
 }
 
 fn wrong_length(random: &mut Random, sender: Sender, kind: Kind) -> Vec<u8> {

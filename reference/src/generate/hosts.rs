@@ -18,7 +18,8 @@ use crate::update::MOST_ROWS;
 
 /// What a length has besides where 16 bits of it are good.
 pub const BEYOND_16_BITS: usize = 65_536;
-/// Octets of a block before it had counts of ticks (02, L5), and with what L6 and L7 add.
+/// Octets of a block before it had counts of ticks (02, L5), and with what L7 adds. One octet less
+/// is a block before it had `quiet` (L6).
 pub const EARLIER_BLOCK: usize = 227;
 pub const LATER_BLOCK: usize = 404;
 /// Lengths of a block that has not its own.
@@ -58,9 +59,10 @@ pub const ROW_LENGTHS: [usize; 10] = [
 /// Lengths of a meaning that has not its own.
 pub const MEANING_LENGTHS: [usize; 6] = [0, 1, 23, 25, 48, BEYOND_16_BITS + MEANING];
 
-/// Octets of the settings and of a slot in a block, and where in a slot its state and mode stand,
-/// and its counts of ticks.
-pub const SETTINGS: usize = 11;
+/// Octets of the settings and of a slot in a block, where among the settings `quiet` stands, and
+/// where in a slot its state and mode, and its counts of ticks.
+pub const SETTINGS: usize = 12;
+pub const QUIET_OCTET: usize = 11;
 pub const SLOT: usize = 29;
 pub const STATE_OCTET: usize = 22;
 pub const MODE_OCTET: usize = 23;
@@ -108,7 +110,7 @@ pub struct Listed {
 #[derive(Clone, Copy, Debug, PartialEq, Eq)]
 enum Fault {
     BlockLength,
-    /// A number that no state, mode or count of ticks has.
+    /// A number that no state, mode, count of ticks or `quiet` has.
     BlockCode,
     /// One rule of well-formedness.
     BlockClause,
@@ -296,11 +298,13 @@ impl Hosts {
                 address,
                 capability,
                 net,
+                quiet,
             } => {
                 made.as_number = *as_number;
                 made.address = *address;
                 made.capability = *capability;
                 made.net = *net;
+                made.quiet = *quiet;
                 if self.random.thousandths(700) {
                     self.fill(&mut made.lent.block);
                 }
@@ -393,7 +397,7 @@ impl Hosts {
         self.maker.bench.state = *state;
         let slot = self.slot(|slot| state.neighbours[slot].is_used());
         let (call, _) = match kind {
-            CallKind::Fresh => (self.fresh(), ""),
+            CallKind::Fresh => (material::settings(&mut self.random).fresh(), ""),
             CallKind::Add => (self.add(state), ""),
             CallKind::Remove => {
                 let address = state.neighbours[slot].address;
@@ -413,16 +417,6 @@ impl Hosts {
             CallKind::Write => (self.write(), ""),
         };
         call
-    }
-
-    fn fresh(&mut self) -> Call {
-        let own = material::settings(&mut self.random);
-        Call::Fresh {
-            as_number: own.as_number,
-            address: own.address,
-            capability: own.capability,
-            net: own.net,
-        }
     }
 
     fn add(&mut self, state: &State) -> Call {
@@ -562,19 +556,26 @@ impl Hosts {
         };
     }
 
-    /// A state above 4, a mode above 2 or a count above 120, one above the last more often than not.
+    /// A state above 4, a mode above 2, a count above 120 or `quiet` above 1, one above the last more
+    /// often than not.
     fn block_code(&mut self, call: &mut HostCall, state: &State) -> &'static str {
         let is_free = self.random.thousandths(150);
         let slot = self.slot(|slot| state.neighbours[slot].is_used() != is_free);
+        let in_slot = |at: usize| SETTINGS + SLOT * slot + at;
         let (aim, at, least) = self.random.pick(&[
-            ("state above 4", STATE_OCTET, 5),
-            ("mode above 2", MODE_OCTET, 3),
-            ("ticks since Hello above 120", SINCE_HELLO_OCTET, 121),
-            ("ticks since Poll above 120", SINCE_POLL_OCTET, 121),
+            ("state above 4", in_slot(STATE_OCTET), 5),
+            ("mode above 2", in_slot(MODE_OCTET), 3),
+            (
+                "ticks since Hello above 120",
+                in_slot(SINCE_HELLO_OCTET),
+                121,
+            ),
+            ("ticks since Poll above 120", in_slot(SINCE_POLL_OCTET), 121),
+            ("quiet above 1", QUIET_OCTET, 2),
         ]);
         let any = self.random.between(least, 255) as u8;
         let code = self.random.pick(&[least as u8, least as u8, 255, any]);
-        if let Some(octet) = call.lent.block.get_mut(SETTINGS + SLOT * slot + at) {
+        if let Some(octet) = call.lent.block.get_mut(at) {
             *octet = code;
         }
         aim
@@ -623,7 +624,7 @@ impl Hosts {
 
     /// Settings that fresh refuses.
     fn settings(&mut self, call: &mut HostCall) -> &'static str {
-        match self.random.below(6) {
+        match self.random.below(8) {
             0 => {
                 call.as_number = 0;
                 "fresh: AS 0"
@@ -644,6 +645,14 @@ impl Hosts {
                 call.net = net::address(224, 0, 0, 0);
                 call.address = net::address(224, 0, 0, 1);
                 "fresh: net of no class"
+            }
+            5 => {
+                call.quiet = 2;
+                "fresh: quiet 2"
+            }
+            6 => {
+                call.quiet = self.random.pick(&[3, 128, 255]);
+                "fresh: quiet above 2"
             }
             _ => {
                 call.address ^= 0x4000_0000;

@@ -38,7 +38,7 @@ impl Sound {
 /// A way to damage a line, by its name.
 pub type LineFault = (&'static str, fn(&mut Random, &Sound) -> Vec<u8>);
 
-pub const LINE_FAULTS: [LineFault; 34] = [
+pub const LINE_FAULTS: [LineFault; 35] = [
     ("blank at an end", blank_at_an_end),
     ("carriage return", carriage_return),
     ("empty line", empty_line),
@@ -47,6 +47,7 @@ pub const LINE_FAULTS: [LineFault; 34] = [
     ("high bit set", high_bit),
     ("unknown key", unknown_key),
     ("head key among the events", head_key),
+    ("quiet among the events", stray_quiet),
     ("no equals sign", no_equals_sign),
     ("two equals signs", two_equals_signs),
     ("nothing after the equals sign", no_value),
@@ -123,9 +124,9 @@ fn high_bit(random: &mut Random, sound: &Sound) -> Vec<u8> {
 }
 
 fn unknown_key(random: &mut Random, sound: &Sound) -> Vec<u8> {
-    match random.below(14) {
+    match random.below(13) {
         0 => sound.about("drop", ""),
-        1 => b"quiet=1".to_vec(),
+        1 => sound.about("at", ""),
         2 => sound.about("tx", &format!("/{}", hex(&sound.message))),
         3 => b"bad=5".to_vec(),
         4 => b"neighbours=1".to_vec(),
@@ -135,8 +136,7 @@ fn unknown_key(random: &mut Random, sound: &Sound) -> Vec<u8> {
         8 => sound.about("ticks", "/1"),
         9 => sound.about("", ""),
         10 => sound.dotted().into_bytes(),
-        11 => sound.about("at", ""),
-        12 => format!("# {}", sound.line).into_bytes(),
+        11 => format!("# {}", sound.line).into_bytes(),
         _ => vec![random.pick(b"=/.0Aarst")],
     }
 }
@@ -147,6 +147,58 @@ fn head_key(random: &mut Random, sound: &Sound) -> Vec<u8> {
         1 => sound.about("own", ""),
         2 => format!("cap={}", random.octet()).into_bytes(),
         _ => sound.about("net", ""),
+    }
+}
+
+/// A line that would be no setting right after `net` either.
+pub fn bad_quiet(random: &mut Random) -> Vec<u8> {
+    let number = wrapped(random, 1);
+    let nearest = random.pick(&["quiet=2", "quiet=01", "quiet="]);
+    let line = random.pick(&[
+        "quiet=3",
+        "quiet=9",
+        "quiet=10",
+        "quiet=11",
+        "quiet=255",
+        "quiet=256",
+        "quiet=257",
+        "quiet=00",
+        "quiet",
+        "quiet1",
+        "quiet==1",
+        "quiet=1=",
+        "quiet=1/",
+        "quiet=/1",
+        "quiet:1",
+        "quiet=+1",
+        "quiet=-0",
+        "quiet=1 ",
+        "quiet= 1",
+        " quiet=1",
+        "quiet =1",
+        "quiet=1\r",
+        "quiet=true",
+        "quiet=\u{0661}",
+        "Quiet=1",
+        "QUIET=1",
+        "quie=1",
+        "quiets=1",
+    ]);
+    match random.below(10) {
+        0 => format!("quiet={number}").into_bytes(),
+        1 => b"quiet=\xB1".to_vec(),
+        2 => format!("quiet={}1", "0".repeat(5000)).into_bytes(),
+        3..=5 => nearest.into(),
+        _ => line.into(),
+    }
+}
+
+/// A `quiet` line that is good in another place, or in none.
+pub fn stray_quiet(random: &mut Random, _: &Sound) -> Vec<u8> {
+    match random.below(3) {
+        0 => b"quiet=0".to_vec(),
+        1 => b"quiet=1".to_vec(),
+        _ => bad_quiet(random),
     }
 }
 

@@ -1,5 +1,6 @@
 //! Good material for call lists: nets, settings, rows, messages, well-formed states.
 
+use crate::call::Call;
 use crate::checksum;
 use crate::gateway::{State, SLOTS, SLOT_NUMBERS, TABLE_NUMBERS};
 use crate::message::{Body, Intervals, Kind, Message, LONGEST, VERSION};
@@ -17,6 +18,19 @@ pub struct Settings {
     pub address: u32,
     pub capability: u8,
     pub net: u32,
+    pub quiet: u8,
+}
+
+impl Settings {
+    pub fn fresh(&self) -> Call {
+        Call::Fresh {
+            as_number: self.as_number,
+            address: self.address,
+            capability: self.capability,
+            net: self.net,
+            quiet: self.quiet,
+        }
+    }
 }
 
 /// A left-justified net, of each class about as often, with the edges of the classes.
@@ -70,6 +84,7 @@ pub fn settings(random: &mut Random) -> Settings {
         address: address_on(random, net),
         capability: random.below(3) as u8,
         net,
+        quiet: random.below(2) as u8,
     }
 }
 
@@ -457,6 +472,7 @@ pub fn state(random: &mut Random) -> State {
         address: own.address,
         capability: own.capability,
         net: own.net,
+        quiet: own.quiet,
         ..State::default()
     };
     let sure = random.below(SLOTS);

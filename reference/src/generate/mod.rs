@@ -20,7 +20,7 @@ use crate::gateway::{self, State, SLOTS, TABLE_NUMBERS};
 use crate::listing::LISTING_BUFFER;
 use crate::message::{self, Body, Intervals, Kind, Message, LONGEST, REPLY_BUFFER};
 use crate::neighbour::{
-    Mode, Neighbour, NeighbourState, HELLO_TICKS, MOST_TICKS, POLL_TICKS, STATUS_UP,
+    Mode, Neighbour, NeighbourState, HELLO_TICKS, MOST_TICKS, POLL_TICKS, STATUS_UP, STRAYS,
 };
 use crate::net;
 use crate::random::Random;
@@ -110,6 +110,8 @@ enum Handed {
     State,
     /// A well-formed state whose neighbours are all acquired and unheard.
     Unheard,
+    /// A well-formed state whose neighbours are all in Idle.
+    Idle,
     /// A well-formed state in which about as many ticks have gone by as Hellos and Polls must be
     /// apart.
     NearTheRates,
@@ -205,8 +207,8 @@ impl Generator {
             100..=174 => self.hand_well_formed(),
             175..=209 => self.hand_broken(),
             210..=226 => self.hand_table(),
-            227..=233 => self.refused_fresh(),
-            234..=278 => self.wrong_argument(),
+            227..=235 => self.refused_fresh(),
+            236..=278 => self.wrong_argument(),
             279..=378 => {
                 let slot = self.used_slot();
                 self.faulty_message(slot)
@@ -215,7 +217,8 @@ impl Generator {
             394..=398 => self.list(SELDOM),
             399..=400 => self.near_the_turn(),
             401..=412 => self.hand_unheard(),
-            413..=453 => self.hand_near_the_rates(),
+            413..=457 => self.hand_near_the_rates(),
+            458..=475 => self.hand_idle(),
             _ => self.live(),
         }
     }
@@ -235,15 +238,11 @@ impl Generator {
             self.random.pick(&[1, 2, 3, 5, 7, 8, 8, 8])
         };
         let zeroed = Call::HandTable(vec![0; TABLE_NUMBERS]);
-        let fresh = Call::Fresh {
-            as_number: own.as_number,
-            address: own.address,
-            capability: own.capability,
-            net: own.net,
-        };
         self.queue.push_back((zeroed, "new list"));
-        self.queue.push_back((fresh, "new list"));
-        let mut state = gateway::fresh(own.as_number, own.address, own.capability, own.net).state;
+        self.queue.push_back((own.fresh(), "new list"));
+        let mut bench = Bench::default();
+        bench.run(&own.fresh());
+        let mut state = bench.state;
         for _ in 0..wanted {
             let address = material::peer_address(&mut self.random, &state);
             let as_number = material::peer_as(&mut self.random, own.as_number);
@@ -390,6 +389,10 @@ impl Generator {
                 (2, Act::Tick),
                 (2, Act::Hello),
                 (2, Act::Update),
+                (1, Act::Poll),
+                (1, Act::IHeardYou),
+                (1, Act::Confirm),
+                (1, Act::Refuse),
             ]),
             NeighbourState::Acquisition => random.weighted(&[
                 (50, Act::Confirm),
@@ -737,7 +740,7 @@ impl Generator {
         self.put_aside(Handed::State);
         self.handed_left = self.random.below(3);
         let mut own = material::settings(&mut self.random);
-        let aim = match self.random.below(6) {
+        let aim = match self.random.below(8) {
             0 => {
                 own.as_number = 0;
                 "fresh AS 0"
@@ -759,15 +762,13 @@ impl Generator {
                 own.address ^= 0x4000_0000;
                 "fresh address off the net"
             }
+            5..=6 => {
+                own.quiet = self.random.pick(&[2, 2, 2, 3, 255]);
+                "fresh quiet"
+            }
             _ => "fresh",
         };
-        let call = Call::Fresh {
-            as_number: own.as_number,
-            address: own.address,
-            capability: own.capability,
-            net: own.net,
-        };
-        (call, aim)
+        (own.fresh(), aim)
     }
 
     // States and tables from outside.
@@ -817,6 +818,14 @@ impl Generator {
         let phases = [(1, NeighbourState::Down), (1, NeighbourState::Up)];
         let state = self.state_in(&phases, |_, neighbour| neighbour.heard = 0);
         (Call::HandState(Box::new(state)), "state handed in, unheard")
+    }
+
+    /// A state where every neighbour is in Idle, and about a message for each such as only a
+    /// neighbour sends that thinks it is acquired.
+    fn hand_idle(&mut self) -> (Call, &'static str) {
+        self.put_aside(Handed::Idle);
+        let state = self.state_in(&[(1, NeighbourState::Idle)], |_, _| {});
+        (Call::HandState(Box::new(state)), "state handed in, Idle")
     }
 
     /// A state where most neighbours may send their next Hello and Poll in a tick or two, or just
@@ -917,6 +926,7 @@ impl Generator {
         let (call, aim) = match handed {
             Handed::State => self.any_call(self.focus),
             Handed::Unheard => self.update_to_unheard(),
+            Handed::Idle => self.stray(self.focus),
             Handed::NearTheRates => self.call_near_the_rates(self.focus),
             Handed::BrokenState => self.call_on_broken(self.focus),
             Handed::Table => self.call_on_table(self.focus),
@@ -949,6 +959,16 @@ impl Generator {
             _ => self.update(slot, s),
         };
         self.message(slot, octets, "Update to an unheard neighbour")
+    }
+
+    /// A message that Idle answers with Cease, good or broken; now and then one of another kind.
+    fn stray(&mut self, slot: usize) -> (Call, &'static str) {
+        let sender = self.sender(slot);
+        let random = &mut self.random;
+        let (stray, any) = (random.pick(&STRAYS), random.pick(&Kind::ALL));
+        let kind = random.weighted(&[(4, stray), (1, any)]);
+        let octets = faults::stray(random, sender, kind);
+        self.message(slot, octets, "message to a neighbour in Idle")
     }
 
     /// A Hello or Poll more often than not.

@@ -7,10 +7,16 @@ use super::line_faults::{self, Sound, LINE_FAULTS};
 use super::{faults, Generator, Temper};
 use crate::call::Call;
 use crate::message::LONGEST;
-use crate::neighbour::Neighbour;
+use crate::neighbour::{Neighbour, NeighbourState};
 use crate::playback;
 use crate::random::Random;
 use crate::recording::{self, HEAD_LINES, LINE_END, MOST_OCTETS};
+
+/// Lines among which another `quiet` line comes up most often: the next behind the one that would
+/// be a setting.
+const NEAR_THE_HEAD: std::ops::Range<usize> = HEAD_LINES + 2..HEAD_LINES + 5;
+/// Up to this line stray messages come up most often, the neighbours being in Idle still.
+const EARLY: usize = 40;
 
 /// How many ticks the lines of one recording ask for at most, so that it is soon played.
 const TICKS: u32 = 120_000;
@@ -44,34 +50,60 @@ impl Recorder {
             .iter()
             .find_map(|(call, _)| recording::head_lines(call))
             .expect("a list begins with fresh");
-        let lines: Vec<Vec<u8>> = head.into_iter().map(|line| end(line.into())).collect();
-        life.bench =
-            playback::begin(lines.iter().map(Vec::as_slice)).expect("fresh takes the settings");
-        Recorder {
+        let head = head.into_iter().take(HEAD_LINES);
+        let lines: Vec<Vec<u8>> = head.map(|line| end(line.into())).collect();
+        let (bench, _) = playback::begin(&slices(&lines)).expect("fresh takes the settings");
+        life.bench = bench;
+        let mut recorder = Recorder {
             life,
             lines,
             ticks_left: TICKS,
             add_again: None,
-        }
+        };
+        recorder.add_setting();
+        recorder
+    }
+
+    /// What stands right after `net` if it is a `quiet` line, good or bad.
+    fn add_setting(&mut self) {
+        let random = &mut self.life.random;
+        let line = match random.below(10) {
+            0..=2 => return,
+            3 => b"quiet=0".to_vec(),
+            4..=7 => b"quiet=1".to_vec(),
+            _ => line_faults::bad_quiet(random),
+        };
+        self.take(end(line));
     }
 
     /// Makes a line and plays it.
     fn add_line(&mut self) {
         let sound = self.sound();
-        let line = match self.life.random.below(1000) {
+        let random = &mut self.life.random;
+        let is_near = NEAR_THE_HEAD.contains(&(self.lines.len() + 1));
+        let line = match random.below(1000) {
             0..=89 => {
-                let (_, damage) = self.life.random.pick(&LINE_FAULTS);
-                damage(&mut self.life.random, &sound)
+                let (_, damage) = random.pick(&LINE_FAULTS);
+                damage(random, &sound)
             }
-            90..=119 => line_faults::changed_at_random(&mut self.life.random, &sound.line),
+            90..=119 => line_faults::changed_at_random(random, &sound.line),
+            120..=299 if is_near => line_faults::stray_quiet(random, &sound),
             _ => sound.line.into_bytes(),
         };
         // What was changed at random may be two lines.
         for part in line.split(|octet| *octet == LINE_END) {
-            let line = end(part.to_vec());
-            playback::play_line(&mut self.life.bench, 0, &line, &mut Vec::new());
-            self.lines.push(line);
+            self.take(end(part.to_vec()));
         }
+    }
+
+    /// Puts a line behind the others and plays it, if it is no setting.
+    fn take(&mut self, line: Vec<u8>) {
+        let is_fifth = self.lines.len() == HEAD_LINES;
+        match recording::quiet(&line).filter(|_| is_fifth) {
+            Some(quiet) => self.life.bench.state.quiet = quiet,
+            None => playback::play_line(&mut self.life.bench, 0, &line, &mut Vec::new()),
+        }
+        self.lines.push(line);
     }
 
     /// A good line, and what it is made of.
@@ -98,6 +130,7 @@ impl Recorder {
         if self.life.filling {
             return self.life.fill().0;
         }
+        let is_early = self.lines.len() < EARLY;
         match self.life.random.below(1000) {
             0..=79 => {
                 let slot = self.life.used_slot();
@@ -106,6 +139,8 @@ impl Recorder {
             80..=109 => self.membership(),
             110..=129 => self.call_about_unknown(),
             130..=139 => self.long_message(),
+            140..=159 => self.stray(),
+            160..=259 if is_early => self.stray(),
             _ => self.life.live().0,
         }
     }
@@ -136,6 +171,16 @@ impl Recorder {
             2 => recording::tick(address),
             _ => recording::received(address, faults::good(random, sender)),
         }
+    }
+
+    /// A message to a neighbour in Idle, if there is one.
+    fn stray(&mut self) -> Call {
+        let neighbours = &self.life.bench.state.neighbours;
+        let idle = neighbours
+            .iter()
+            .position(|n| n.is_used() && n.state == NeighbourState::Idle);
+        let slot = idle.unwrap_or_else(|| self.life.used_slot());
+        self.life.stray(slot).0
     }
 
     /// As many octets as a message or a line may have.
@@ -173,6 +218,12 @@ impl Recorder {
         if self.life.random.thousandths(60) {
             self.damage_head();
         }
+        if self.life.random.thousandths(10) && self.lines.len() > HEAD_LINES {
+            // All that is left of a recording behind `net`.
+            self.lines.truncate(HEAD_LINES);
+            self.lines.push(b"quiet=1".to_vec());
+            return self.lines.concat();
+        }
         let mut octets = self.lines.concat();
         if self.life.random.thousandths(150) {
             octets.pop();
@@ -187,7 +238,7 @@ impl Recorder {
         if lines.len() <= place {
             return;
         }
-        match random.below(6) {
+        match random.below(8) {
             0 => lines.truncate(place),
             1 => {
                 lines.remove(place);
@@ -195,12 +246,20 @@ impl Recorder {
             2 => lines.swap(place, 0),
             3 => lines.insert(place, end(Vec::new())),
             4 => lines[place] = end(unusual_setting(random, place)),
+            5..=6 => {
+                let refused = ["ownas=0", "own=240.0.0.1", "cap=3", "net=224.0.0.0"];
+                lines[place] = end(refused[place].into());
+            }
             _ => {
                 let (_, damage) = random.pick(&LINE_FAULTS);
                 lines[place] = end(damage(random, &sound_setting(&lines[place])));
             }
         }
     }
+}
+
+fn slices(lines: &[Vec<u8>]) -> Vec<&[u8]> {
+    lines.iter().map(Vec::as_slice).collect()
 }
 
 /// A head line as something to damage.

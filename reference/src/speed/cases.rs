@@ -72,7 +72,7 @@ impl Case {
         change: impl Fn(&mut Neighbour),
         call: impl Fn(u32) -> Call,
     ) -> Case {
-        let mut state = gateway::fresh(OWN_AS, OWN, 1, NET).state;
+        let mut state = gateway::fresh(OWN_AS, OWN, 1, NET, 0).state;
         let mut table = vec![0; TABLE_NUMBERS];
         for slot in 0..used {
             state.neighbours[slot] = neighbour(slot, rows);
@@ -364,6 +364,13 @@ pub fn all() -> Vec<Case> {
         SLOTS,
         MOST_ROWS,
         |neighbour| neighbour.since_hello = HELLO_TICKS - 1,
+        hello,
+    ));
+    cases.push(Case::of(
+        "stray Hello in Idle, answered with Cease",
+        SLOTS,
+        MOST_ROWS,
+        |neighbour| *neighbour = Neighbour::idle(neighbour.address, neighbour.as_number),
         hello,
     ));
     cases.push(Case::the_loop());

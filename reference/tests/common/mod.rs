@@ -1,5 +1,5 @@
 //! The setup most cases start from: own AS 9, own address 128.9.0.1, capability 1 (active), net
-//! 128.9.0.0; neighbour N is 128.9.0.5, AS 7, in slot 0; P is 128.9.0.6, AS 7, in slot 1.
+//! 128.9.0.0, not quiet; neighbour N is 128.9.0.5, AS 7, in slot 0; P is 128.9.0.6, AS 7, in slot 1.
 
 #![allow(dead_code)]
 
@@ -121,6 +121,11 @@ pub fn our_poll(sequence: u16) -> Vec<u8> {
     ours(POLL, 1, sequence, &rest)
 }
 
+/// What a stray message draws in Idle, unless we are quiet.
+pub fn stray_cease() -> Vec<u8> {
+    ours(CEASE, 7, 0, &[])
+}
+
 /// Our Error about these octets.
 pub fn our_error(status: u8, sequence: u16, reason: u16, about: &[u8]) -> Vec<u8> {
     let mut rest = reason.to_be_bytes().to_vec();
@@ -210,7 +215,7 @@ pub fn got(answer: u8, sent: &[Vec<u8>]) -> Got {
 impl Gateway {
     /// Fresh, then N and P added.
     pub fn new(capability: u8) -> Gateway {
-        let fresh = gateway::fresh(OWN_AS, OWN, capability, NET);
+        let fresh = gateway::fresh(OWN_AS, OWN, capability, NET, 0);
         assert_eq!(fresh.answer, Answer::Done);
         let with_n = gateway::add(&fresh.state, N, PEER_AS);
         assert_eq!(with_n.answer, Answer::Done);
@@ -223,6 +228,12 @@ impl Gateway {
             },
             home: Vec::new(),
         }
+    }
+
+    /// The same where `quiet` was 1 when the state was fresh.
+    pub fn quiet(mut self) -> Gateway {
+        self.bench.state.quiet = 1;
+        self
     }
 
     /// Active only, N as given, rows in the table where it has some.

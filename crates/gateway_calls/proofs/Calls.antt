@@ -21,7 +21,7 @@ use Rattle.neighbour_machine.specs.declared.Event.{Event}
 use Rattle.neighbour_machine.specs.declared.Event.the-variants.{Tick}
 use Rattle.neighbour_machine.specs.declared.After.{After}
 use Rattle.neighbour_machine.specs.declared.Reply.{Reply}
-use Rattle.neighbour_machine.specs.Intrinsics.{Intrinsic, Start, asEvent}
+use Rattle.neighbour_machine.specs.Intrinsics.{Intrinsic, asEvent}
 use Rattle.neighbour_machine.specs.Table.{unanswered}
 use Rattle.neighbour_machine.specs.Tick.{onTick}
 use Rattle.neighbour_machine.specs.Step.{stepOf}
@@ -37,9 +37,11 @@ use Rattle.gateway_state.proofs.Theorems.{formed-settings}
 use Rattle.gateway_rules.specs.declared.Verdict.{Verdict}
 use Rattle.gateway_rules.specs.Number.{messageNumber, namedReply}
 use Rattle.gateway_rules.specs.Ruling.{keep, Ruling, stepped, refuses, receiveRuling, verdictOf}
+use Rattle.gateway_rules.specs.Seconds.{booked}
 use Rattle.gateway_rules.specs.Carried.{firstOctets, secondOctets, replyOctets, outcomeAfter, slotAfter, countAfter, tableAfter, refusedWith, bufferAfter}
 use Rattle.gateway_rules.specs.Calls.{eventChecks, messageChecks, noHead, updateRoom, eventRuling, messageRuling, eventOutcome, eventTable, eventBuffer, messageOutcome, messageTable, messageBuffer}
-use Rattle.gateway_rules.proofs.Checks.{Passed, event-passed, message-passed}
+use Rattle.gateway_rules.proofs.Checks.{Passed, message-passed}
+use Rattle.gateway_rules.proofs.Seconds.{booked-neighbour, booked-asn}
 use Rattle.gateway_rules.proofs.Rulings.{stepped-backed, receive-backed}
 use Rattle.gateway_rules.proofs.Sends.{named-sends, stepped-sends, receive-sends}
 use Rattle.gateway_home.proofs.Laws.{home-writable, none-writable}
@@ -59,21 +61,19 @@ pub record Happened (st : State) (table buffer : List ℕ) (a : ℕ) (event : Ev
   pub rows : (e : Intrinsic) → event ≡ asEvent e → t ≡ eventTable e st table buffer a
   pub octets : (e : Intrinsic) → event ≡ asEvent e → b ≡ eventBuffer e st table buffer a
 
-module _ (event : Event) (st : State) (table buffer : List ℕ) (a k : ℕ) (c : (e : Intrinsic) → k ≡ eventChecks e st table buffer a) where
+module _ (event : Event) (st : State) (table buffer : List ℕ) (a k : ℕ) (c : (e : Intrinsic) → event ≡ asEvent e → k ≡ eventChecks e st table buffer a) where
   pub event-refused : (k ≡ 0 → ⊥) → (out : Outcome) → out ≡ refusedOf st k → Happened st table buffer a event out table buffer
   unfolding eventOutcome eventTable eventBuffer
   event-refused n out f =
       record {
-        outcome = λ e _. f ∙ ap (refusedOf st) (c e) ∙ sym (ifOk-old _ _ _ (λ q. n (c e ∙ q)));
-        rows = λ e _. sym (ifOk-old _ _ _ (λ q. n (c e ∙ q)));
-        octets = λ e _. sym (ifOk-old _ _ _ (λ q. n (c e ∙ q)));
+        outcome = λ e x. f ∙ ap (refusedOf st) (c e x) ∙ sym (ifOk-old _ _ _ (λ q. n (c e x ∙ q)));
+        rows = λ e x. sym (ifOk-old _ _ _ (λ q. n (c e x ∙ q)));
+        octets = λ e x. sym (ifOk-old _ _ _ (λ q. n (c e x ∙ q)));
       }
 
-  module _ (z : k ≡ 0) where
-    found : Passed st table buffer a
-    found = event-passed st table buffer a Start (sym (c Start) ∙ z)
-
-    module _ (i : ℕ) (slot : Slot) (after : After) (v : Verdict) (p : i ≡ slotOf st a) (s : slot ≡ slotAt st i)
+  module _ (z : k ≡ 0) (found : Passed st table buffer a) where
+    -- the slot that was found, with a tick booked
+    module _ (i : ℕ) (slot : Slot) (after : After) (v : Verdict) (p : i ≡ slotOf st a) (s : slot ≡ booked event (slotAt st i))
         (m : after ≡ stepOf (st .settings) (slot .asn) (slot .neighbour) event (record { first = 0; second = 0; third = 0 })) (w : v ≡ verdictOf (stepped (slot .neighbour) after)) where
       pub event-asked : (o : List ℕ)
           → ((i < 8) × (length table ≡ 3072) × (2048 ≤ length buffer)) × ((sendable (v .reply) [] ≡ true) × (takes (v .effect) (walkedBlocks (st .settings .net) o) ≡ true))
@@ -90,9 +90,9 @@ module _ (event : Event) (st : State) (table buffer : List ℕ) (a k : ℕ) (c :
 
       ruled : (e : Intrinsic) → event ≡ asEvent e → stepped (slot .neighbour) after ≡ eventRuling e st a
       unfolding eventRuling noHead
-      ruled e q = rw (m, s, p, q)
+      ruled e q = rw (m, s, booked-neighbour event (slotAt st i), booked-asn event (slotAt st i), p, q)
 
-      module _ (o : List ℕ) (out : Outcome) (t b : List ℕ) (f : out ≡ outcomeAfter st i (rulingOf v (walkedRows (walkedBlocks (st .settings .net) o))) (rowsOf []))
+      module _ (o : List ℕ) (out : Outcome) (t b : List ℕ) (f : out ≡ outcomeAfter st i slot (rulingOf v (walkedRows (walkedBlocks (st .settings .net) o))) (rowsOf []))
           (r : t ≡ tableAfter table (rowCounts st) i (changeOf (v .effect) (walkedRows (walkedBlocks (st .settings .net) o)))) (h : b ≡ bufferAfter buffer (v .reply) (rowsOf [])) where
         back : rulingOf v (walkedRows (walkedBlocks (st .settings .net) o)) ≡ stepped (slot .neighbour) after
         back = rw w (ruling-back (st .settings .net) o (stepped (slot .neighbour) after) (stepped-backed 128 (st .settings .net) o (slot .neighbour) after))
@@ -105,14 +105,15 @@ module _ (event : Event) (st : State) (table buffer : List ℕ) (a k : ℕ) (c :
         event-done =
             record {
               outcome = λ e q.
-                  f ∙ rw p (ap (λ (x : Ruling). outcomeAfter st (slotOf st a) x []) (rule e q)) ∙ sym (ifOk-new _ _ _ (sym (c e) ∙ z));
+                  f ∙ rw (s, p, q) (ap (λ (x : Ruling). outcomeAfter st (slotOf st a) (booked (asEvent e) (slotAt st (slotOf st a))) x []) (rule e q))
+                  ∙ sym (ifOk-new _ _ _ (sym (c e q) ∙ z));
               rows = λ e q.
-                  r ∙ rw p (ap (λ (x : Ruling). tableAfter table (rowCounts st) (slotOf st a) (x .change)) (rule e q)) ∙ sym (ifOk-new _ _ _ (sym (c e) ∙ z));
-              octets = λ e q. h ∙ ap (λ (x : Ruling). bufferAfter buffer (x .reply) []) (rule e q) ∙ sym (ifOk-new _ _ _ (sym (c e) ∙ z));
+                  r ∙ rw p (ap (λ (x : Ruling). tableAfter table (rowCounts st) (slotOf st a) (x .change)) (rule e q)) ∙ sym (ifOk-new _ _ _ (sym (c e q) ∙ z));
+              octets = λ e q. h ∙ ap (λ (x : Ruling). bufferAfter buffer (x .reply) []) (rule e q) ∙ sym (ifOk-new _ _ _ (sym (c e q) ∙ z));
             }
 
     -- a tick that only counts
-    module _ (i : ℕ) (slot : Slot) (n : Neighbour) (next : Slot) (p : i ≡ slotOf st a) (s : slot ≡ slotAt st i) (tick : event ≡ Tick) (up : slot .neighbour .phase ≡ Up)
+    module _ (i : ℕ) (slot : Slot) (n : Neighbour) (next : Slot) (p : i ≡ slotOf st a) (s : slot ≡ booked event (slotAt st i)) (tick : event ≡ Tick) (up : slot .neighbour .phase ≡ Up)
         (left : (g : Settings) → unanswered n ≡ onTick g (slot .neighbour)) (still : n .phase ≡ Up) (w : (x : Ruling) → x .neighbour ≡ n → x .change ≡ keep → next ≡ slotAfter slot x) where
       counted-step : unanswered n ≡ stepOf (st .settings) (slot .asn) (slot .neighbour) event (record { first = 0; second = 0; third = 0 })
       unfolding stepOf
@@ -130,11 +131,12 @@ module _ (event : Event) (st : State) (table buffer : List ℕ) (a k : ℕ) (c :
       event-counted state f =
           record {
             outcome = λ e q.
-                carried st i (keeping (unanswered n)) [] (record { first = 0; second = 0 }) slot next state refl s (w (keeping (unanswered n)) refl refl) f
-                ∙ rw p (ap (λ (x : Ruling). outcomeAfter st (slotOf st a) x []) (counted-rule e q)) ∙ sym (ifOk-new _ _ _ (sym (c e) ∙ z));
+                carried st i (keeping (unanswered n)) [] (record { first = 0; second = 0 }) slot next state refl (w (keeping (unanswered n)) refl refl) f
+                ∙ rw (s, p, q) (ap (λ (x : Ruling). outcomeAfter st (slotOf st a) (booked (asEvent e) (slotAt st (slotOf st a))) x []) (counted-rule e q))
+                ∙ sym (ifOk-new _ _ _ (sym (c e q) ∙ z));
             rows = λ e q.
-                ap (λ (x : Ruling). tableAfter table (rowCounts st) (slotOf st a) (x .change)) (counted-rule e q) ∙ sym (ifOk-new _ _ _ (sym (c e) ∙ z));
-            octets = λ e q. ap (λ (x : Ruling). bufferAfter buffer (x .reply) []) (counted-rule e q) ∙ sym (ifOk-new _ _ _ (sym (c e) ∙ z));
+                ap (λ (x : Ruling). tableAfter table (rowCounts st) (slotOf st a) (x .change)) (counted-rule e q) ∙ sym (ifOk-new _ _ _ (sym (c e q) ∙ z));
+            octets = λ e q. ap (λ (x : Ruling). bufferAfter buffer (x .reply) []) (counted-rule e q) ∙ sym (ifOk-new _ _ _ (sym (c e q) ∙ z));
           }
 
 -- ---- a message
@@ -183,7 +185,7 @@ module _ (st : State) (table buffer home : List ℕ) (a : ℕ) (o : List ℕ) (k
                     second = length (secondOctets named (rowsOf home));
                     state = sym (same-slot st (slotOf st a)) j;
                   })
-                  ∙ ap (λ (y : Ruling). outcomeAfter st (slotOf st a) y (rowsOf home)) (sym refusal) ∙ sym (ifOk-new _ _ _ done),
+                  ∙ ap (λ (y : Ruling). outcomeAfter st (slotOf st a) (slotAt st (slotOf st a)) y (rowsOf home)) (sym refusal) ∙ sym (ifOk-new _ _ _ done),
               (
                 ap (λ (y : Ruling). tableAfter table (rowCounts st) (slotOf st a) (y .change)) (sym refusal) ∙ sym (ifOk-new _ _ _ done),
                 g ∙ ap (λ (y : Ruling). bufferAfter buffer (y .reply) (rowsOf home)) (sym refusal) ∙ sym (ifOk-new _ _ _ done),
@@ -219,8 +221,8 @@ module _ (st : State) (table buffer home : List ℕ) (a : ℕ) (o : List ℕ) (k
         unfolding messageOutcome messageTable messageBuffer keeping tableAfter
         reach-done lengths next state b l w f h =
             let done : messageChecks st table buffer home a ≡ 0 = sym e ∙ z in (
-              carried st i (keeping after) (rowsOf home) lengths slot next state l s (w (keeping after) refl refl) f
-                  ∙ rw p (ap (λ (x : Ruling). outcomeAfter st (slotOf st a) x (rowsOf home)) reach-rule) ∙ sym (ifOk-new _ _ _ done),
+              carried st i (keeping after) (rowsOf home) lengths slot next state l (w (keeping after) refl refl) f
+                  ∙ rw (s, p) (ap (λ (x : Ruling). outcomeAfter st (slotOf st a) (slotAt st (slotOf st a)) x (rowsOf home)) reach-rule) ∙ sym (ifOk-new _ _ _ done),
               (
                 ap (λ (x : Ruling). tableAfter table (rowCounts st) (slotOf st a) (x .change)) reach-rule ∙ sym (ifOk-new _ _ _ done),
                 h ∙ ap (λ (x : Ruling). bufferAfter buffer (x .reply) (rowsOf home)) reach-rule ∙ sym (ifOk-new _ _ _ done),
@@ -245,13 +247,13 @@ module _ (st : State) (table buffer home : List ℕ) (a : ℕ) (o : List ℕ) (k
             let x = receiveRuling 128 (st .settings) (slot .asn) (slot .neighbour) o in
             rw w (ruling-back (st .settings .net) o x (receive-backed 128 (st .settings) (slot .asn) (slot .neighbour) o) ∙ rw (s, p))
 
-        pub message-done : (out : Outcome) (t b : List ℕ) → out ≡ outcomeAfter st i (rulingOf v (walkedRows (walkedBlocks (st .settings .net) o))) (rowsOf home)
+        pub message-done : (out : Outcome) (t b : List ℕ) → out ≡ outcomeAfter st i slot (rulingOf v (walkedRows (walkedBlocks (st .settings .net) o))) (rowsOf home)
             → t ≡ tableAfter table (rowCounts st) i (changeOf (v .effect) (walkedRows (walkedBlocks (st .settings .net) o))) → b ≡ bufferAfter buffer (v .reply) (rowsOf home)
             → Received st table buffer home a o out t b
         unfolding messageOutcome messageTable messageBuffer rulingOf
         message-done out t b f g h =
             let done : messageChecks st table buffer home a ≡ 0 = sym e ∙ z in (
-              f ∙ rw p (ap (λ (x : Ruling). outcomeAfter st (slotOf st a) x (rowsOf home)) rule-is) ∙ sym (ifOk-new _ _ _ done),
+              f ∙ rw (s, p) (ap (λ (x : Ruling). outcomeAfter st (slotOf st a) (slotAt st (slotOf st a)) x (rowsOf home)) rule-is) ∙ sym (ifOk-new _ _ _ done),
               (
                 g ∙ rw p (ap (λ (x : Ruling). tableAfter table (rowCounts st) (slotOf st a) (x .change)) rule-is) ∙ sym (ifOk-new _ _ _ done),
                 h ∙ ap (λ (x : Ruling). bufferAfter buffer (x .reply) (rowsOf home)) rule-is ∙ sym (ifOk-new _ _ _ done),

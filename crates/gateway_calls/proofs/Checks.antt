@@ -8,12 +8,15 @@ use lib.Dec.{leb, eqb, ltb}
 use lib.ListN.{length}
 use Rattle.checks.proofs.Laws.{check-passed, check-holds, check-fails}
 use Rattle.checks.specs.Checks.{check}
-use Rattle.neighbour_machine.specs.Intrinsics.{Intrinsic}
+use Rattle.neighbour_machine.specs.declared.Event.{Event}
+use Rattle.neighbour_machine.specs.Intrinsics.{Intrinsic, asEvent}
 use Rattle.gateway_state.specs.declared.State.{State}
-use Rattle.gateway_state.specs.Slots.{slotOf, present}
+use Rattle.gateway_state.specs.Slots.{slotAt, slotOf, present}
 use Rattle.gateway_state.specs.Formed.{stateFormed}
 use Rattle.gateway_rules.specs.Home.{goodHome}
+use Rattle.gateway_rules.specs.Seconds.{hasTime}
 use Rattle.gateway_rules.specs.Calls.{tableFits, bufferFits, lentChecks, eventChecks, messageChecks}
+use Rattle.gateway_rules.proofs.Checks.{Passed, found, lent-passed}
 
 -- ---- 1, 2 and 3
 
@@ -63,18 +66,19 @@ module _ (st : State) (table buffer : Bool) (rest : ℕ) where
       let three = check-passed buffer 3 _ refl (two .1) in
       check-holds (stateFormed st) 1 _ (one .0) ∙ check-holds table 2 _ (two .0) ∙ check-holds buffer 3 _ (three .0)
 
--- ---- then 4 and 5
+-- ---- then 4, 5 and 22
 
 module _ (st : State) (a numbers octets lent : ℕ) (e : Lent st numbers octets lent) where
-  abbrev Event : ℕ → Type 0
-  Event k = (event : Intrinsic) (table buffer : List ℕ) → length table ≡ numbers → length buffer ≡ octets → k ≡ eventChecks event st table buffer a
+  abbrev Happens : Event → ℕ → Type 0
+  Happens event k =
+      (e : Intrinsic) → event ≡ asEvent e → (table buffer : List ℕ) → length table ≡ numbers → length buffer ≡ octets → k ≡ eventChecks e st table buffer a
 
   abbrev Message : List ℕ → ℕ → Type 0
   Message home k = (table buffer : List ℕ) → length table ≡ numbers → length buffer ≡ octets → k ≡ messageChecks st table buffer home a
 
-  pub event-lent : (lent ≡ 0 → ⊥) → Event lent
+  pub event-lent : (event : Event) → (lent ≡ 0 → ⊥) → Happens event lent
   unfolding eventChecks
-  event-lent z event table buffer p q = lent-fails st _ _ _ lent z (e table buffer p q)
+  event-lent event z x f table buffer p q = lent-fails st _ _ _ lent z (e table buffer p q)
 
   pub message-lent : (home : List ℕ) → (lent ≡ 0 → ⊥) → Message home lent
   unfolding messageChecks
@@ -84,13 +88,29 @@ module _ (st : State) (a numbers octets lent : ℕ) (e : Lent st numbers octets 
     passes : (table buffer : List ℕ) (rest : ℕ) → length table ≡ numbers → length buffer ≡ octets → lentChecks st (tableFits table) (bufferFits buffer) rest ≡ rest
     passes table buffer rest p q = lent-passes st (tableFits table) (bufferFits buffer) rest (sym (e table buffer p q) ∙ z)
 
-    pub event-5 : (i : ℕ) → i ≡ slotOf st a → 8 ≤ i → Event 5
-    unfolding eventChecks
-    event-5 i f n event table buffer p q = sym (passes table buffer _ p q ∙ check-fails (ltb (slotOf st a) 8) 5 0 (le-ltb (slotOf st a) 8 (rw (← f) n)))
+    module _ (event : Event) (i : ℕ) (f : i ≡ slotOf st a) where
+      pub event-5 : 8 ≤ i → Happens event 5
+      unfolding eventChecks
+      event-5 n x y table buffer p q = sym (passes table buffer _ p q ∙ check-fails (ltb (slotOf st a) 8) 5 _ (le-ltb (slotOf st a) 8 (rw (← f) n)))
 
-    pub event-0 : (i : ℕ) → i ≡ slotOf st a → i < 8 → Event 0
-    unfolding eventChecks
-    event-0 i f n event table buffer p q = sym (passes table buffer _ p q ∙ check-holds (ltb (slotOf st a) 8) 5 0 (lt-ltb (slotOf st a) 8 (rw (← f) n)))
+      module _ (n : i < 8) where
+        -- the slot is there: its clock decides
+        by-time : (b : Bool) → hasTime event ((slotAt st i) .seconds) ≡ b → Happens event (check b 22 0)
+        unfolding eventChecks
+        by-time b h x y table buffer p q =
+            sym (passes table buffer _ p q ∙ check-holds (ltb (slotOf st a) 8) 5 _ (lt-ltb (slotOf st a) 8 (rw (← f) n)) ∙ rw (← y, ← f, h))
+
+        pub event-22 : hasTime event ((slotAt st i) .seconds) ≡ false → Happens event 22
+        unfolding check
+        event-22 = by-time false
+
+        pub event-0 : hasTime event ((slotAt st i) .seconds) ≡ true → Happens event 0
+        unfolding check
+        event-0 = by-time true
+
+        pub event-met : (table buffer : List ℕ) → length table ≡ numbers → length buffer ≡ octets → Passed st table buffer a
+        event-met table buffer p q =
+            found st table buffer a 0 (lent-passed st (tableFits table) (bufferFits buffer) 0 (sym (e table buffer p q) ∙ z)) (lt-ltb (slotOf st a) 8 (rw (← f) n))
 
     module _ (home : List ℕ) where
       pub message-4 : goodHome (st .settings) home ≡ false → Message home 4

@@ -59,7 +59,12 @@ fn happen(mut st: State, table: &mut [u32], reply: &mut [u8], address: u32, even
     if gateway_state::SLOTS <= i {
         return gateway_state::refused(st, 5);
     }
-    let slot = st.slots[i];
+    let found = st.slots[i];
+    let seconds = found.seconds;
+    if !gateway_carry::has_time(event, seconds) {
+        return gateway_state::refused(st, 22);
+    }
+    let slot = gateway_carry::book(event, found);
     let n = slot.neighbour;
     if only_counts(event, n) {
         st.slots[i] = gateway_carry::with_neighbour(slot, neighbour_tick::count_down(n));
@@ -80,7 +85,7 @@ fn happen(mut st: State, table: &mut [u32], reply: &mut [u8], address: u32, even
     let v = gateway_stages::step_verdict(n, after);
     let home = [0u32; 0];
     let message = [0u8; 0];
-    gateway_carry::apply(st, i, v, table, reply, &home, &message)
+    gateway_carry::apply(st, i, slot, v, table, reply, &home, &message)
 }
 
 // The operator wants this neighbour.
@@ -162,5 +167,5 @@ pub fn receive(
         };
     }
     let v = gateway_stages::take(settings, slot.asn, n, message, m, UPDATE_ROOM);
-    gateway_carry::apply(st, i, v, table, reply, home, message)
+    gateway_carry::apply(st, i, slot, v, table, reply, home, message)
 }

@@ -100,6 +100,6 @@ module _ (count : ℕ) (effect : Effect) where
 
 pub slot-is : (slot : Slot) (v : Verdict) (count : ℕ) → ((walk : Walk) → takes (v .effect) walk ≡ true → count ≡ countAfter (slot .rows) (changeOf (v .effect) (walkedRows walk)))
     → (walk : Walk) → takes (v .effect) walk ≡ true
-    → _≡_ {A = Slot} (record { address = slot .address; asn = slot .asn; neighbour = v .neighbour; rows = count }) (slotAfter slot (rulingOf v (walkedRows walk)))
+    → _≡_ {A = Slot} (record { address = slot .address; asn = slot .asn; neighbour = v .neighbour; rows = count; seconds = slot .seconds }) (slotAfter slot (rulingOf v (walkedRows walk)))
 unfolding slotAfter rulingOf
 slot-is slot v count f walk t = rw (f walk t)

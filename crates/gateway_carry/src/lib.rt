@@ -5,7 +5,9 @@ use gateway_state::Outcome;
 use gateway_state::Slot;
 use gateway_state::State;
 use neighbour::Neighbour;
+use neighbour_machine::Event;
 use neighbour_machine::Reply;
+use neighbour_seconds::Seconds;
 ghost use mathlib.Core.Path.{_≡_};
 ghost use mathlib.Core.Bool.{true};
 ghost use mathlib.Core.List.{List};
@@ -14,8 +16,10 @@ ghost use lib.ListN.{length};
 ghost use Rattle.nets.specs.Rows.{rowsOf};
 ghost use Rattle.update_walk.specs.Body.{Walk, walkedBlocks};
 ghost use Rattle.update_rows.specs.Storing.{walkedRows};
+ghost use Rattle.neighbour_seconds.specs.Seconds.{mostSeconds, secondsSum, secondsFormed};
 ghost use Rattle.gateway_state.specs.Places.{rowCounts};
 ghost use Rattle.gateway_rules.specs.Ruling.{Ruling, keep};
+ghost use Rattle.gateway_rules.specs.Seconds.{hasTime, secondMore, booked};
 ghost use Rattle.gateway_rules.specs.Carried.{tableAfter, countAfter, slotAfter, outcomeAfter, refusedWith, bufferAfter};
 ghost use Rattle.gateway_carry.specs.Asked.{sendable, lengthsOf, takes, changeOf, rulingOf};
 
@@ -85,11 +89,13 @@ pub fn slot_after(slot: Slot, v: Verdict) -> Slot
 {
     let next = v.neighbour;
     let effect = v.effect;
+    let seconds = slot.seconds;
     Slot {
         address: slot.address,
         asn: slot.asn,
         neighbour: next,
         rows: count_after(slot.rows, effect),
+        seconds,
     }
 }
 
@@ -97,18 +103,63 @@ pub fn slot_after(slot: Slot, v: Verdict) -> Slot
 pub fn with_neighbour(slot: Slot, n: Neighbour) -> Slot
     ensures { λ r. ⌜ ((x : Ruling) → x .neighbour ≡ n → x .change ≡ keep → r ≡ slotAfter slot x) ⌝ }
 {
+    let seconds = slot.seconds;
     Slot {
         address: slot.address,
         asn: slot.asn,
         neighbour: n,
         rows: slot.rows,
+        seconds,
     }
 }
 
-// Carries a verdict on the neighbour in slot i out: the reply, the rows, the slot.
+// Whether the clock has room for this event: a tick alone takes a second.
+pub fn has_time(event: Event, seconds: Seconds) -> bool
+    ensures { λ r. ⌜ r ≡ hasTime event seconds ⌝ }
+{
+    match event {
+        Event::Received(_) => true,
+        Event::Start => true,
+        Event::Stop => true,
+        Event::Tick => !neighbour_seconds::is_full(seconds),
+    }
+}
+
+fn second_more(slot: Slot) -> Slot
+    requires { ⌜ secondsSum (slot .seconds) < mostSeconds ⌝ }
+    ensures { λ r. ⌜ r ≡ secondMore slot ⌝ }
+{
+    let n = slot.neighbour;
+    let phase = n.phase;
+    let rows = slot.rows;
+    let seconds = slot.seconds;
+    Slot {
+        address: slot.address,
+        asn: slot.asn,
+        neighbour: n,
+        rows,
+        seconds: neighbour_seconds::count(phase, seconds),
+    }
+}
+
+// The slot as an event's own rules find it: a tick is booked on the state before it.
+pub fn book(event: Event, slot: Slot) -> Slot
+    requires { ⌜ (secondsFormed (slot .seconds) ≡ true) × (hasTime event (slot .seconds) ≡ true) ⌝ }
+    ensures { λ r. ⌜ r ≡ booked event slot ⌝ }
+{
+    match event {
+        Event::Received(_) => slot,
+        Event::Start => slot,
+        Event::Stop => slot,
+        Event::Tick => second_more(slot),
+    }
+}
+
+// Carries a verdict on the neighbour in slot i, booked as this, out: the reply, the rows, the slot.
 pub fn apply(
     mut st: State,
     i: usize,
+    slot: Slot,
     v: Verdict,
     table: &mut [u32],
     buffer: &mut [u8],
@@ -117,7 +168,7 @@ pub fn apply(
 ) -> Outcome
     requires { ⌜ (i < 8) × (length (now table) ≡ 3072) × (2048 ≤ length (now buffer)) ⌝ }
     requires { ⌜ (sendable (v .reply) (now home) ≡ true) × (takes (v .effect) (walkedBlocks (st .settings .net) (now message)) ≡ true) ⌝ }
-    ensures { λ r. ⌜ r ≡ outcomeAfter st i (rulingOf v (walkedRows (walkedBlocks (st .settings .net) (now (message .entry))))) (rowsOf (now (home .entry))) ⌝ }
+    ensures { λ r. ⌜ r ≡ outcomeAfter st i slot (rulingOf v (walkedRows (walkedBlocks (st .settings .net) (now (message .entry))))) (rowsOf (now (home .entry))) ⌝ }
     ensures { λ _. ⌜ now (table .exit) ≡ tableAfter (now (table .entry)) (rowCounts st) i (changeOf (v .effect) (walkedRows (walkedBlocks (st .settings .net) (now (message .entry))))) ⌝ }
     ensures { λ _. ⌜ now (buffer .exit) ≡ bufferAfter (now (buffer .entry)) (v .reply) (rowsOf (now (home .entry))) ⌝ }
 {
@@ -126,7 +177,6 @@ pub fn apply(
     let effect = v.effect;
     let settings = st.settings;
     change_rows(table, i, effect, settings.net, message);
-    let slot = st.slots[i];
     st.slots[i] = slot_after(slot, v);
     Outcome {
         answer: v.answer,

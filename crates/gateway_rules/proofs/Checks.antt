@@ -6,11 +6,12 @@ use mathlib.Core.Bool.{Bool, true}
 use mathlib.Core.List.{List}
 use lib.ListN.{length}
 use Rattle.checks.proofs.Laws.{check-passed}
-use Rattle.neighbour_machine.specs.Intrinsics.{Intrinsic}
+use Rattle.neighbour_machine.specs.Intrinsics.{Intrinsic, asEvent}
 use Rattle.gateway_state.specs.declared.State.{State}
-use Rattle.gateway_state.specs.Slots.{slotOf, present}
+use Rattle.gateway_state.specs.Slots.{slotAt, slotOf, present}
 use Rattle.gateway_state.specs.Formed.{stateFormed}
 use Rattle.gateway_rules.specs.Home.{goodHome}
+use Rattle.gateway_rules.specs.Seconds.{hasTime}
 use Rattle.gateway_rules.specs.Calls.{tableFits, bufferFits, lentChecks, eventChecks, messageChecks}
 
 -- 1, 2 and 3
@@ -36,7 +37,7 @@ pub record Passed (st : State) (table buffer : List ℕ) (a : ℕ) : Type 0 wher
   pub found : slotOf st a < 8
 
 module _ (st : State) (table buffer : List ℕ) (a : ℕ) where
-  found : (rest : ℕ) → LentPassed st (tableFits table) (bufferFits buffer) rest → present st a ≡ true → Passed st table buffer a
+  pub found : (rest : ℕ) → LentPassed st (tableFits table) (bufferFits buffer) rest → present st a ≡ true → Passed st table buffer a
   found rest p f =
       record {
         formed = p .formed;
@@ -48,7 +49,15 @@ module _ (st : State) (table buffer : List ℕ) (a : ℕ) where
   pub event-passed : (event : Intrinsic) → eventChecks event st table buffer a ≡ 0 → Passed st table buffer a
   unfolding eventChecks
   event-passed event e =
-      let p = lent-passed st (tableFits table) (bufferFits buffer) _ e in found _ p (check-passed (present st a) 5 0 refl (p .then) .0)
+      let p = lent-passed st (tableFits table) (bufferFits buffer) _ e in found _ p (check-passed (present st a) 5 _ refl (p .then) .0)
+
+  -- then 22
+  pub event-timed : (event : Intrinsic) → eventChecks event st table buffer a ≡ 0 → hasTime (asEvent event) ((slotAt st (slotOf st a)) .seconds) ≡ true
+  unfolding eventChecks
+  event-timed event e =
+      let p = lent-passed st (tableFits table) (bufferFits buffer) _ e in
+      let five = check-passed (present st a) 5 _ refl (p .then) in
+      check-passed (hasTime (asEvent event) ((slotAt st (slotOf st a)) .seconds)) 22 0 refl (five .1) .0
 
   pub message-passed : (home : List ℕ) → messageChecks st table buffer home a ≡ 0 → Passed st table buffer a × (goodHome (st .settings) home ≡ true)
   unfolding messageChecks

@@ -2,3 +2,4 @@ pub mod Number
 pub mod Rulings
 pub mod Sends
 pub mod Checks
+pub mod Seconds

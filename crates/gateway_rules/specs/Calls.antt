@@ -17,6 +17,7 @@ use Rattle.gateway_state.specs.Formed.{stateFormed}
 use Rattle.gateway_state.specs.Outcomes.{refusedOf}
 use Rattle.gateway_rules.specs.Home.{goodHome}
 use Rattle.gateway_rules.specs.Ruling.{Ruling, stepped, receiveRuling}
+use Rattle.gateway_rules.specs.Seconds.{hasTime, booked}
 use Rattle.gateway_rules.specs.Carried.{outcomeAfter, tableAfter, bufferAfter}
 
 -- 01: "The lent table is exactly 3,072 32-bit numbers"; "Reply buffer at least 2,048 octets"
@@ -30,9 +31,11 @@ bufferFits buffer = leb 2048 (length buffer)
 unfoldable pub lentChecks : State → Bool → Bool → ℕ → ℕ
 lentChecks st table buffer rest = check (stateFormed st) 1 (check table 2 (check buffer 3 rest))
 
--- Start, Stop and tick make 1, 2, 3 and 5
+-- Start, Stop and tick make 1, 2, 3 and 5; 02: "22, a tick when the sum is 4,294,967,295, after 5"
 unfoldable pub eventChecks : Intrinsic → State → List ℕ → List ℕ → ℕ → ℕ
-eventChecks event st table buffer a = lentChecks st (tableFits table) (bufferFits buffer) (check (present st a) 5 0)
+eventChecks event st table buffer a =
+    lentChecks st (tableFits table) (bufferFits buffer)
+    (check (present st a) 5 (check (hasTime (asEvent event) ((slotAt st (slotOf st a)) .seconds)) 22 0))
 
 -- a message makes 4 as well, and 6 to 15 once its neighbour is found
 unfoldable pub messageChecks : State → List ℕ → List ℕ → List ℕ → ℕ → ℕ
@@ -62,7 +65,8 @@ messageRuling st a o =
 -- Start, Stop, tick
 unfoldable pub eventOutcome : Intrinsic → State → List ℕ → List ℕ → ℕ → Outcome
 eventOutcome event st table buffer a =
-    ifOk (eventChecks event st table buffer a) (outcomeAfter st (slotOf st a) (eventRuling event st a) [])
+    ifOk (eventChecks event st table buffer a)
+    (outcomeAfter st (slotOf st a) (booked (asEvent event) (slotAt st (slotOf st a))) (eventRuling event st a) [])
     (refusedOf st (eventChecks event st table buffer a))
 
 unfoldable pub eventTable : Intrinsic → State → List ℕ → List ℕ → ℕ → List ℕ
@@ -77,7 +81,7 @@ eventBuffer event st table buffer a =
 unfoldable pub messageOutcome : State → List ℕ → List ℕ → List ℕ → ℕ → List ℕ → Outcome
 messageOutcome st table buffer home a o =
     ifOk (messageChecks st table buffer home a)
-    (outcomeAfter st (slotOf st a) (messageRuling st a o) (rowsOf home)) (refusedOf st (messageChecks st table buffer home a))
+    (outcomeAfter st (slotOf st a) (slotAt st (slotOf st a)) (messageRuling st a o) (rowsOf home)) (refusedOf st (messageChecks st table buffer home a))
 
 unfoldable pub messageTable : State → List ℕ → List ℕ → List ℕ → ℕ → List ℕ → List ℕ
 messageTable st table buffer home a o =

@@ -10,7 +10,7 @@ use Rattle.neighbour_machine.specs.declared.Reply.the-variants.{Nothing, One, T
 use Rattle.gateway_state.specs.declared.Slot.{Slot}
 use Rattle.gateway_state.specs.declared.State.{State}
 use Rattle.gateway_state.specs.declared.Outcome.{Outcome}
-use Rattle.gateway_state.specs.Slots.{slotAt, withSlot}
+use Rattle.gateway_state.specs.Slots.{withSlot}
 use Rattle.gateway_state.specs.Places.{rowCounts, writeRows}
 use Rattle.gateway_rules.specs.Ruling.{Change, keep, clear, replace, Ruling}
 
@@ -40,17 +40,25 @@ countAfter count keep = count
 countAfter count clear = 0
 countAfter count (replace rows) = length rows
 
+-- 02: the seconds "survive Idle": no ruling touches them
 unfoldable pub slotAfter : Slot → Ruling → Slot
 slotAfter slot x =
-    record { address = slot .address; asn = slot .asn; neighbour = x .neighbour; rows = countAfter (slot .rows) (x .change) }
+    record {
+      address = slot .address;
+      asn = slot .asn;
+      neighbour = x .neighbour;
+      rows = countAfter (slot .rows) (x .change);
+      seconds = slot .seconds;
+    }
 
-unfoldable pub outcomeAfter : State → ℕ → Ruling → List Row → Outcome
-outcomeAfter st i x home =
+-- of this slot, which is slot i's but for a second that was booked
+unfoldable pub outcomeAfter : State → ℕ → Slot → Ruling → List Row → Outcome
+outcomeAfter st i slot x home =
     record {
       answer = x .answer;
       first = length (firstOctets (x .reply) home);
       second = length (secondOctets (x .reply) home);
-      state = withSlot st i (slotAfter (slotAt st i) x);
+      state = withSlot st i (slotAfter slot x);
     }
 
 -- 01: "Every refusal returns the state as given .. and reports lengths 0 and 0 unless a reply is named"

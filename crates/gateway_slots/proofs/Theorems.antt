@@ -12,6 +12,7 @@ use Rattle.checks.specs.Lists.{first, every, distinct}
 use Rattle.neighbour.specs.declared.Settings.{Settings}
 use Rattle.neighbour.specs.Record.{idle, isUp}
 use Rattle.gateway_state.specs.declared.Slot.{Slot}
+use Rattle.neighbour_seconds.specs.Seconds.{noSeconds, secondsSum, secondsFormed}
 use Rattle.gateway_state.specs.declared.State.{State}
 use Rattle.gateway_state.specs.declared.Outcome.{Outcome}
 use Rattle.gateway_state.specs.Slots.{newcomer, freeSlot, slotAt, withSlot, addressOf, addresses, clash, apart, slotOf, present, isNone, lowestFree}
@@ -113,9 +114,13 @@ idle-not-up : isUp (idle .phase) ≡ false
 unfolding idle
 idle-not-up = refl
 
+none-formed : secondsFormed noSeconds ≡ true
+unfolding secondsFormed secondsSum
+none-formed = refl
+
 newcomer-formed : (g : Settings) (address asn : ℕ) → goodPeer g address asn ≡ true → (address ≡ 0 → ⊥) → slotFormed g (newcomer address asn) ≡ true
 unfolding slotFormed usedFormed rowsFormed
-newcomer-formed g address asn p n = rw (ne-eqb address 0 n, p, idle-formed, idle-not-up)
+newcomer-formed g address asn p n = rw (ne-eqb address 0 n, p, idle-formed, idle-not-up, none-formed)
 
 peer-used : (g : Settings) (address asn : ℕ) → goodPeer g address asn ≡ true → address ≡ 0 → ⊥
 unfolding goodPeer

@@ -10,6 +10,7 @@ use Rattle.neighbour.specs.declared.Phase.the-variants.{Idle, Acquisition, Down
 use Rattle.neighbour.specs.declared.Settings.{Settings}
 use Rattle.neighbour.specs.Record.{isIdle, isUp}
 use Rattle.neighbour_wellformed.specs.Formed.{allZero, wellFormed}
+use Rattle.neighbour_seconds.specs.Seconds.{areNone, secondsFormed}
 pub use Rattle.neighbour_wellformed.proofs.ByState.{zero-idle, idle-formed, idle-zero}
 use Rattle.gateway_state.specs.declared.Slot.{Slot}
 use Rattle.gateway_state.specs.Formed.{goodPeer, rowsFormed, freeFormed, usedFormed, slotFormed}
@@ -37,16 +38,16 @@ peer-used g address asn h =
 -- what is asked of a slot in Up
 module _ (g : Settings) (slot : Slot) where
   pub up-slot : isUp (slot .neighbour .phase) ≡ true → wellFormed (slot .neighbour) ≡ true → goodPeer g (slot .address) (slot .asn) ≡ true
-      → leb (slot .rows) 128 ≡ true → slotFormed g slot ≡ true
+      → leb (slot .rows) 128 ≡ true → secondsFormed (slot .seconds) ≡ true → slotFormed g slot ≡ true
   unfolding slotFormed usedFormed rowsFormed
-  up-slot u w p r = rw (peer-used g (slot .address) (slot .asn) p, p, w, r, u)
+  up-slot u w p r s = rw (peer-used g (slot .address) (slot .asn) p, p, w, r, u, s)
 
   -- no slot is formed whose record is not
   ill-free : wellFormed (slot .neighbour) ≡ false → freeFormed slot ≡ false
   unfolding freeFormed
   ill-free w = go (eqb (slot .asn) 0) (isIdle (slot .neighbour .phase)) refl
     where
-      go : (a i : Bool) → isIdle (slot .neighbour .phase) ≡ i → (a && i && allZero (slot .neighbour) && eqb (slot .rows) 0) ≡ false
+      go : (a i : Bool) → isIdle (slot .neighbour .phase) ≡ i → (a && i && allZero (slot .neighbour) && eqb (slot .rows) 0 && areNone (slot .seconds)) ≡ false
       go false i e = refl
       go true false e = refl
       go true true e = rw (sym (idle-zero (slot .neighbour) e) ∙ w)
@@ -55,7 +56,7 @@ module _ (g : Settings) (slot : Slot) where
   unfolding usedFormed
   ill-used w = go (goodPeer g (slot .address) (slot .asn))
     where
-      go : (a : Bool) → (a && wellFormed (slot .neighbour) && rowsFormed (slot .neighbour .phase) (slot .rows)) ≡ false
+      go : (a : Bool) → (a && wellFormed (slot .neighbour) && rowsFormed (slot .neighbour .phase) (slot .rows) && secondsFormed (slot .seconds)) ≡ false
       go false = refl
       go true = rw w
 

@@ -12,6 +12,9 @@ use Rattle.checks.specs.Lists.{first, every, distinct}
 use Rattle.neighbour.specs.declared.Settings.{Settings}
 use Rattle.neighbour.specs.Record.{idle, isIdle, isUp}
 use Rattle.neighbour_wellformed.specs.Formed.{allZero}
+use Rattle.neighbour_seconds.specs.declared.Seconds.{Seconds}
+use Rattle.neighbour_seconds.specs.Seconds.{secondsSum, areNone, secondsFormed}
+use Rattle.neighbour_seconds.proofs.Laws.{seconds-laws}
 use Rattle.gateway_state.specs.declared.Slot.{Slot}
 use Rattle.gateway_state.specs.declared.State.{State}
 use Rattle.gateway_state.specs.Slots.{freeSlot, slotAt, withSlot, addressOf, addresses, clash, apart, slotOf}
@@ -105,12 +108,16 @@ formed-settings st f =
     }
 
 pub free-slot-formed : (g : Settings) → slotFormed g freeSlot ≡ true
-unfolding slotFormed freeFormed freeSlot idle allZero
+unfolding slotFormed freeFormed freeSlot idle allZero areNone secondsSum
 free-slot-formed g = refl
 
 pub slot-formed : (st : State) (i : ℕ) → stateFormed st ≡ true → slotFormed (st .settings) (slotAt st i) ≡ true
 unfolding slotAt
 slot-formed st i f = every-getD (slotFormed (st .settings)) (st .slots) i freeSlot (formed-slots st f) (free-slot-formed (st .settings))
+
+none-formed : (s : Seconds) → areNone s ≡ true → secondsFormed s ≡ true
+unfolding areNone secondsFormed
+none-formed s e = rw (eqb-true (secondsSum s) 0 e)
 
 free-slot-good : (slot : Slot) → freeFormed slot ≡ true → SlotGood slot
 unfolding freeFormed
@@ -118,7 +125,8 @@ free-slot-good slot e =
     let i : isIdle (slot .neighbour .phase) ≡ true = search (and-left, and-right) in
     let z : allZero (slot .neighbour) ≡ true = search (and-left, and-right) in
     let r : slot .rows ≡ 0 = eqb-true _ _ (search (and-left, and-right)) in
-    record { neighbour = idle-zero (slot .neighbour) i ∙ z; few = omega arith; none = λ _. r }
+    let s : areNone (slot .seconds) ≡ true = search (and-left, and-right) in
+    record { neighbour = idle-zero (slot .neighbour) i ∙ z; few = omega arith; none = λ _. r; seconds = none-formed (slot .seconds) s }
 
 used-slot-good : (g : Settings) (slot : Slot) → usedFormed g slot ≡ true → SlotGood slot
 unfolding usedFormed rowsFormed
@@ -128,6 +136,7 @@ used-slot-good g slot e =
       neighbour = search (and-left, and-right);
       few = leb-true _ _ (search (and-left, and-right));
       none = λ d. eqb-true (slot .rows) 0 (rw d at u);
+      seconds = search (and-left, and-right);
     }
 
 slot-good : (g : Settings) (slot : Slot) → slotFormed g slot ≡ true → SlotGood slot
@@ -148,7 +157,8 @@ free-is slot a e =
     let z : allZero (slot .neighbour) ≡ true = search (and-left, and-right) in
     let asn : slot .asn ≡ 0 = eqb-true _ _ (search (and-left, and-right)) in
     let rows : slot .rows ≡ 0 = eqb-true _ _ (search (and-left, and-right)) in
-    λ k. record { address = a k; asn = asn k; neighbour = zero-idle (slot .neighbour) i z k; rows = rows k }
+    let s : areNone (slot .seconds) ≡ true = search (and-left, and-right) in
+    λ k. record { address = a k; asn = asn k; neighbour = zero-idle (slot .neighbour) i z k; rows = rows k; seconds = seconds-laws .zero (slot .seconds) s k }
 
 pub free-is-zero : FreeIsZero
 unfolding slotFormed
@@ -169,9 +179,9 @@ with-slot-formed st i slot f a s =
 
 pub step-formed : StepFormed
 unfolding slotFormed usedFormed
-step-formed st a slot eight f h p q n r =
+step-formed st a slot eight f h p q n r s =
     let used = slot-found st a eight h in
     let z : (slotAt st (slotOf st a)) .address ≡ 0 → ⊥ = λ e. used .used (sym (used .address) ∙ e) in
     let old : usedFormed (st .settings) (slotAt st (slotOf st a)) ≡ true = rw (ne-eqb ((slotAt st (slotOf st a)) .address) 0 z) at (slot-formed st (slotOf st a) f) in
     let peer : goodPeer (st .settings) ((slotAt st (slotOf st a)) .address) ((slotAt st (slotOf st a)) .asn) ≡ true = search (and-left, and-right) in
-    with-slot-formed st (slotOf st a) slot f p (rw (p, q, ne-eqb ((slotAt st (slotOf st a)) .address) 0 z, peer, n, r))
+    with-slot-formed st (slotOf st a) slot f p (rw (p, q, ne-eqb ((slotAt st (slotOf st a)) .address) 0 z, peer, n, r, s))

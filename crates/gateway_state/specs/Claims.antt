@@ -7,6 +7,7 @@ use Rattle.neighbour.specs.Record.{isUp}
 use Rattle.nets.specs.Classes.{goodNet, onNet}
 use Rattle.neighbour.specs.declared.Settings.{Settings}
 use Rattle.neighbour_wellformed.specs.Formed.{wellFormed}
+use Rattle.neighbour_seconds.specs.Seconds.{secondsFormed}
 use Rattle.gateway_state.specs.declared.Slot.{Slot}
 use Rattle.gateway_state.specs.declared.State.{State}
 use Rattle.gateway_state.specs.Slots.{freeSlot, slotAt, withSlot, slotOf}
@@ -56,6 +57,7 @@ pub record SlotGood (slot : Slot) : Type 0 where
   pub neighbour : wellFormed (slot .neighbour) ≡ true
   pub few : slot .rows ≤ 128
   pub none : isUp (slot .neighbour .phase) ≡ false → slot .rows ≡ 0
+  pub seconds : secondsFormed (slot .seconds) ≡ true
 
 abbrev pub FormedSlot : Type 0
 FormedSlot = (st : State) (i : ℕ) → stateFormed st ≡ true → (slotFormed (st .settings) (slotAt st i) ≡ true) × SlotGood (slotAt st i)
@@ -75,5 +77,5 @@ abbrev pub StepFormed : Type 0
 StepFormed =
     (st : State) (a : ℕ) (slot : Slot) → length (st .slots) ≡ 8 → stateFormed st ≡ true → slotOf st a < 8
     → slot .address ≡ (slotAt st (slotOf st a)) .address → slot .asn ≡ (slotAt st (slotOf st a)) .asn
-    → wellFormed (slot .neighbour) ≡ true → rowsFormed (slot .neighbour .phase) (slot .rows) ≡ true
+    → wellFormed (slot .neighbour) ≡ true → rowsFormed (slot .neighbour .phase) (slot .rows) ≡ true → secondsFormed (slot .seconds) ≡ true
     → stateFormed (withSlot st (slotOf st a) slot) ≡ true

@@ -8,6 +8,7 @@ use Rattle.neighbour.specs.declared.Phase.{Phase}
 use Rattle.neighbour.specs.declared.Settings.{Settings}
 use Rattle.neighbour.specs.Record.{isIdle, isUp}
 use Rattle.neighbour_wellformed.specs.Formed.{allZero, wellFormed}
+use Rattle.neighbour_seconds.specs.Seconds.{areNone, secondsFormed}
 use Rattle.gateway_state.specs.declared.Slot.{Slot}
 use Rattle.gateway_state.specs.declared.State.{State}
 use Rattle.gateway_state.specs.Slots.{addresses, apart}
@@ -28,12 +29,15 @@ rowsFormed phase rows = leb rows slotRows && (isUp phase || eqb rows 0)
 
 -- 01: "free slots are all zero", in a slot whose address is 0
 unfoldable pub freeFormed : Slot → Bool
-freeFormed slot = eqb (slot .asn) 0 && isIdle (slot .neighbour .phase) && allZero (slot .neighbour) && eqb (slot .rows) 0
+freeFormed slot =
+    eqb (slot .asn) 0 && isIdle (slot .neighbour .phase) && allZero (slot .neighbour) && eqb (slot .rows) 0 && areNone (slot .seconds)
 
--- 01: "add's settings hold for .. each used slot", and the rest of the paragraph
+-- 01: "add's settings hold for .. each used slot", and the rest of the paragraph; 02: the counts "survive Idle, and well formed now allows it, with
+-- a sum of at most 4,294,967,295"
 unfoldable pub usedFormed : Settings → Slot → Bool
 usedFormed g slot =
     goodPeer g (slot .address) (slot .asn) && wellFormed (slot .neighbour) && rowsFormed (slot .neighbour .phase) (slot .rows)
+    && secondsFormed (slot .seconds)
 
 -- a slot is free where its address is 0
 unfoldable pub slotFormed : Settings → Slot → Bool

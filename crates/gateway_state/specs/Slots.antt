@@ -6,12 +6,13 @@ use lib.ListN.{getD, set}
 use lib.Dec.{ltb, eqb}
 use Rattle.checks.specs.Lists.{first}
 use Rattle.neighbour.specs.Record.{idle}
+use Rattle.neighbour_seconds.specs.Seconds.{noSeconds}
 use Rattle.gateway_state.specs.declared.Slot.{Slot}
 use Rattle.gateway_state.specs.declared.State.{State}
 
--- 01: "Entering Idle zeroes all but address and AS"; a neighbour is added in Idle, without rows
+-- 01: "Entering Idle zeroes all but address and AS"; a neighbour is added in Idle, without rows; 02: "Remove and add start from zero"
 abbrev pub newcomer : ℕ → ℕ → Slot
-newcomer address asn = record { address = address; asn = asn; neighbour = idle; rows = 0 }
+newcomer address asn = record { address = address; asn = asn; neighbour = idle; rows = 0; seconds = noSeconds }
 
 -- 01: "free slots are all zero"; Idle and no mode are the first of their kinds
 unfoldable pub freeSlot : Slot

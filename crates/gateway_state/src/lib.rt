@@ -14,6 +14,7 @@ ghost use Rattle.gateway_state.specs.Outcomes.{refusedOf};
 use neighbour::Neighbour;
 use neighbour::Phase;
 use neighbour::Settings;
+use neighbour_seconds::Seconds;
 
 // 01's number of slots.
 pub const SLOTS: usize = 8;
@@ -28,6 +29,8 @@ pub struct Slot {
     pub neighbour: Neighbour,
     // How many rows of the slot's part of the table are used.
     pub rows: u16,
+    // What the neighbour's ticks found it in.
+    pub seconds: Seconds,
 }
 
 // What stands between calls; the caller keeps it, with the table.
@@ -44,7 +47,7 @@ pub struct Outcome {
     pub state: State,
 }
 
-// A neighbour that is added is Idle.
+// A neighbour that is added is Idle, its clock at zero.
 pub fn new_slot(address: u32, asn: u16) -> Slot
     ensures { λ r. ⌜ r ≡ newcomer address asn ⌝ }
 {
@@ -53,6 +56,7 @@ pub fn new_slot(address: u32, asn: u16) -> Slot
         asn,
         neighbour: neighbour::to_idle(),
         rows: 0,
+        seconds: neighbour_seconds::none(),
     }
 }
 
@@ -196,7 +200,11 @@ fn is_free_formed(slot: Slot) -> bool
     if !neighbour::is_idle(phase) {
         return false;
     }
-    slot.rows == 0
+    if slot.rows != 0 {
+        return false;
+    }
+    let seconds = slot.seconds;
+    neighbour_seconds::are_none(seconds)
 }
 
 fn is_used_formed(settings: Settings, slot: Slot) -> bool
@@ -208,7 +216,11 @@ fn is_used_formed(settings: Settings, slot: Slot) -> bool
     }
     let n = slot.neighbour;
     let phase = n.phase;
-    are_rows_formed(phase, slot.rows)
+    if !are_rows_formed(phase, slot.rows) {
+        return false;
+    }
+    let seconds = slot.seconds;
+    neighbour_seconds::are_formed(seconds)
 }
 
 pub fn is_slot_formed(settings: Settings, slot: Slot) -> bool
@@ -224,11 +236,17 @@ pub fn is_slot_formed(settings: Settings, slot: Slot) -> bool
     is_used_formed(settings, slot)
 }
 
-// A short way for a slot in Up, which most are: true where it is formed. Of another slot false says nothing.
-pub fn is_up_slot_formed(settings: Settings, slot: Slot) -> bool
-    ensures { λ r. ⌜ (r ≡ true → slotFormed settings slot ≡ true) ⌝ }
+// A short way for a slot in Up, which most are: true where a slot of these is formed. Of another slot false says nothing.
+pub fn is_up_slot_formed(
+    settings: Settings,
+    address: u32,
+    asn: u16,
+    n: Neighbour,
+    count: u16,
+    seconds: Seconds,
+) -> bool
+    ensures { λ r. ⌜ (r ≡ true → slotFormed settings (record { address = address; asn = asn; neighbour = n; rows = count; seconds = seconds }) ≡ true) ⌝ }
 {
-    let n = slot.neighbour;
     let phase = n.phase;
     if !is_up(phase) {
         return false;
@@ -236,10 +254,13 @@ pub fn is_up_slot_formed(settings: Settings, slot: Slot) -> bool
     if !neighbour_wellformed::is_up_formed(n) {
         return false;
     }
-    if !good_peer(settings, slot.address, slot.asn) {
+    if !good_peer(settings, address, asn) {
         return false;
     }
-    slot.rows <= 128
+    if 128 < count {
+        return false;
+    }
+    neighbour_seconds::are_formed(seconds)
 }
 
 // How many slots, from the first on, are found formed by the short way.
@@ -251,7 +272,9 @@ fn count_up_formed(st: State) -> usize
     let mut i = 0;
     while i < SLOTS {
         let slot = st.slots[i];
-        if !is_up_slot_formed(settings, slot) {
+        let n = slot.neighbour;
+        let seconds = slot.seconds;
+        if !is_up_slot_formed(settings, slot.address, slot.asn, n, slot.rows, seconds) {
             return i;
         }
         i += 1;

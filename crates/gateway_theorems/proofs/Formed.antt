@@ -27,6 +27,7 @@ use Rattle.neighbour_machine.specs.declared.After.{After}
 use Rattle.neighbour_machine.specs.Table.{unanswered}
 use Rattle.neighbour_machine.specs.Step.{stepOf}
 use Rattle.neighbour_machine.proofs.Theorems.{step-lawful, update-stays-up}
+use Rattle.neighbour_seconds.specs.Seconds.{secondsFormed}
 use Rattle.gateway_state.specs.declared.Slot.{Slot}
 use Rattle.gateway_state.specs.declared.State.{State}
 use Rattle.gateway_state.specs.Slots.{slotAt, slotOf}
@@ -42,7 +43,8 @@ use Rattle.gateway_rules.specs.Carried.{countAfter, slotAfter, outcomeAfter}
 use Rattle.gateway_rules.specs.Calls.{eventChecks, messageChecks, noHead, updateRoom, eventRuling, messageRuling, eventOutcome, messageOutcome}
 use Rattle.gateway_rules.proofs.Number.{NumberPassed, number-passed}
 use Rattle.gateway_rules.proofs.Rulings.{receive-holds}
-use Rattle.gateway_rules.proofs.Checks.{event-passed, message-passed}
+use Rattle.gateway_rules.proofs.Seconds.{booked-address, booked-asn, booked-rows, booked-formed}
+use Rattle.gateway_rules.proofs.Checks.{event-passed, event-timed, message-passed}
 use Rattle.gateway_theorems.specs.Claims.{FormedState, WellFormedKept}
 use Rattle.gateway_theorems.proofs.Calls.{after-up, call-holds}
 use Rattle.gateway_theorems.proofs.Listings.{listing-state, listing-formed}
@@ -123,14 +125,21 @@ module _ (slot : Slot) (good : SlotGood slot) where
 
 -- ---- carried out
 
-carried-formed : (st : State) (a : ℕ) (v : Ruling) (home : List Row) → FormedState st → slotOf st a < 8 → Sound ((slotAt st (slotOf st a)) .rows) v
-    → FormedState ((outcomeAfter st (slotOf st a) v home) .state)
+-- the slot that was found, but for its seconds
+record Same (slot before : Slot) : Type 0 where
+  pub address : slot .address ≡ before .address
+  pub asn : slot .asn ≡ before .asn
+  pub rows : slot .rows ≡ before .rows
+  pub seconds : secondsFormed (slot .seconds) ≡ true
+
+carried-formed : (st : State) (a : ℕ) (slot : Slot) (v : Ruling) (home : List Row) → FormedState st → slotOf st a < 8 → Same slot (slotAt st (slotOf st a))
+    → Sound ((slotAt st (slotOf st a)) .rows) v → FormedState ((outcomeAfter st (slotOf st a) slot v home) .state)
 unfolding outcomeAfter slotAfter
-carried-formed st a v home k h s =
-    let slot = slotAfter (slotAt st (slotOf st a)) v in
+carried-formed st a slot v home k h m s =
+    let next = slotAfter slot v in
     record {
-      formed = step-formed st a slot (k .eight) (k .formed) h refl refl (s .neighbour) (s .count);
-      eight = slots-length st (slotOf st a) slot ∙ k .eight;
+      formed = step-formed st a next (k .eight) (k .formed) h (m .address) (m .asn) (s .neighbour) (rw (m .rows) (s .count)) (m .seconds);
+      eight = slots-length st (slotOf st a) next ∙ k .eight;
     }
 
 event-sound : (event : Intrinsic) (st : State) (a : ℕ) → stateFormed st ≡ true → Sound ((slotAt st (slotOf st a)) .rows) (eventRuling event st a)
@@ -145,13 +154,21 @@ event-formed : (event : Intrinsic) (st : State) (table buffer : List ℕ) (a : �
 unfolding eventOutcome refusedOf
 event-formed event st table buffer a k =
     call-holds (λ r t b. FormedState (r .state)) (eventChecks event st table buffer a) _ _ table table buffer buffer
-    (λ z. carried-formed st a (eventRuling event st a) [] k (event-passed st table buffer a event z .found) (event-sound event st a (k .formed))) (λ _. k)
+    (λ z. carried-formed st a _ (eventRuling event st a) [] k (event-passed st table buffer a event z .found)
+    (record {
+      address = booked-address (asEvent event) _;
+      asn = booked-asn (asEvent event) _;
+      rows = booked-rows (asEvent event) _;
+      seconds = booked-formed (asEvent event) _ (formed-slot st (slotOf st a) (k .formed) .1 .seconds) (event-timed st table buffer a event z);
+    })
+    (event-sound event st a (k .formed))) (λ _. k)
 
 message-formed : (st : State) (table buffer home : List ℕ) (a : ℕ) (o : List ℕ) → FormedState st → FormedState ((messageOutcome st table buffer home a o) .state)
 unfolding messageOutcome refusedOf
 message-formed st table buffer home a o k =
     call-holds (λ r t b. FormedState (r .state)) (messageChecks st table buffer home a) _ _ table table buffer buffer
-    (λ z. carried-formed st a (messageRuling st a o) (rowsOf home) k (message-passed st table buffer a home z .0 .found) (message-sound st a o (k .formed))) (λ _. k)
+    (λ z. carried-formed st a _ (messageRuling st a o) (rowsOf home) k (message-passed st table buffer a home z .0 .found)
+    (record { address = refl; asn = refl; rows = refl; seconds = formed-slot st (slotOf st a) (k .formed) .1 .seconds }) (message-sound st a o (k .formed))) (λ _. k)
 
 pub well-formed-kept : WellFormedKept
 well-formed-kept =

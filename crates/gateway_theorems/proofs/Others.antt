@@ -10,7 +10,7 @@ use Rattle.nets.specs.Rows.{Row, flat, rowsOf}
 use Rattle.update_walk.proofs.Accepted.{accepted-is}
 use Rattle.update_rows.specs.Storing.{padded}
 use Rattle.update_rows.proofs.Laws.{flat-length, padded-length}
-use Rattle.neighbour_machine.specs.Intrinsics.{Intrinsic}
+use Rattle.neighbour_machine.specs.Intrinsics.{Intrinsic, asEvent}
 use Rattle.gateway_state.specs.declared.Slot.{Slot}
 use Rattle.gateway_state.specs.declared.State.{State}
 use Rattle.gateway_state.specs.Slots.{newcomer, freeSlot, slotAt, withSlot, slotOf, lowestFree}
@@ -23,6 +23,7 @@ use Rattle.gateway_rules.specs.Ruling.{Change, keep, clear, replace, Ruling}
 use Rattle.gateway_rules.specs.Carried.{tableAfter, slotAfter, outcomeAfter}
 use Rattle.gateway_rules.specs.Calls.{eventChecks, messageChecks, updateRoom, eventRuling, messageRuling, eventOutcome, eventTable, messageOutcome, messageTable}
 use Rattle.gateway_rules.proofs.Rulings.{Backed, stepped-backed, receive-backed}
+use Rattle.gateway_rules.proofs.Seconds.{booked-address, booked-asn}
 use Rattle.gateway_rules.proofs.Checks.{Passed, event-passed, message-passed}
 use Rattle.gateway_theorems.specs.Claims.{Untouched, OthersUntouched}
 use Rattle.gateway_theorems.proofs.Calls.{call-holds}
@@ -89,22 +90,23 @@ rows-stay : (st : State) (table₀ table₁ : List ℕ) (i j : ℕ) (slot : Slot
 unfolding readRows
 rows-stay st table₀ table₁ i j slot n e = rw (count-stays st i j slot n, e)
 
--- whatever the ruling
-module _ (st : State) (table buffer : List ℕ) (a : ℕ) (v : Ruling) (home : List Row) where
+-- whatever the ruling, with the slot's address and AS
+module _ (st : State) (table buffer : List ℕ) (a : ℕ) (slot : Slot) (address : slot .address ≡ (slotAt st (slotOf st a)) .address)
+    (asn : slot .asn ≡ (slotAt st (slotOf st a)) .asn) (v : Ruling) (home : List Row) where
   carried-untouched : Passed st table buffer a → Few (v .change)
-      → Untouched st table (slotOf st a) ((outcomeAfter st (slotOf st a) v home) .state) (tableAfter table (rowCounts st) (slotOf st a) (v .change))
+      → Untouched st table (slotOf st a) ((outcomeAfter st (slotOf st a) slot v home) .state) (tableAfter table (rowCounts st) (slotOf st a) (v .change))
   unfolding outcomeAfter
   carried-untouched p r =
       let i = slotOf st a in
       let t = table-parts table (rowCounts st) i (v .change) (p .long) (p .found) r in
       record {
-        slots = λ j n. other-slots st i j (slotAfter (slotAt st i) v) n;
-        rows = λ j n. rows-stay st table _ i j (slotAfter (slotAt st i) v) n (t .parts j n);
+        slots = λ j n. other-slots st i j (slotAfter slot v) n;
+        rows = λ j n. rows-stay st table _ i j (slotAfter slot v) n (t .parts j n);
         parts = t .parts;
-        settings = settings-stay st i (slotAfter (slotAt st i) v);
-        addresses = field-stays (λ s. s .address) st i (slotAfter (slotAt st i) v) (address-stays (slotAt st i) v);
-        asns = field-stays (λ s. s .asn) st i (slotAfter (slotAt st i) v) (asn-stays (slotAt st i) v);
-        found = λ b. slot-stays st i (slotAfter (slotAt st i) v) b (address-stays (slotAt st i) v);
+        settings = settings-stay st i (slotAfter slot v);
+        addresses = field-stays (λ s. s .address) st i (slotAfter slot v) (address-stays slot v ∙ address);
+        asns = field-stays (λ s. s .asn) st i (slotAfter slot v) (asn-stays slot v ∙ asn);
+        found = λ b. slot-stays st i (slotAfter slot v) b (address-stays slot v ∙ address);
         long = t .long;
       }
 
@@ -125,14 +127,14 @@ event-untouched : (event : Intrinsic) (st : State) (table buffer : List ℕ) (a 
 unfolding eventOutcome eventTable refusedOf
 event-untouched event st table buffer a =
     call-holds (λ r t b. Untouched st table (slotOf st a) (r .state) t) (eventChecks event st table buffer a) _ _ _ _ buffer buffer
-    (λ z. carried-untouched st table buffer a (eventRuling event st a) [] (event-passed st table buffer a event z) (event-few event st a)) (λ _. untouched st table (slotOf st a))
+    (λ z. carried-untouched st table buffer a _ (booked-address (asEvent event) _) (booked-asn (asEvent event) _) (eventRuling event st a) [] (event-passed st table buffer a event z) (event-few event st a)) (λ _. untouched st table (slotOf st a))
 
 message-untouched : (st : State) (table buffer home : List ℕ) (a : ℕ) (o : List ℕ)
     → Untouched st table (slotOf st a) ((messageOutcome st table buffer home a o) .state) (messageTable st table buffer home a o)
 unfolding messageOutcome messageTable refusedOf
 message-untouched st table buffer home a o =
     call-holds (λ r t b. Untouched st table (slotOf st a) (r .state) t) (messageChecks st table buffer home a) _ _ _ _ buffer buffer
-    (λ z. carried-untouched st table buffer a (messageRuling st a o) (rowsOf home) (message-passed st table buffer a home z .0) (message-few st a o)) (λ _. untouched st table (slotOf st a))
+    (λ z. carried-untouched st table buffer a _ refl refl (messageRuling st a o) (rowsOf home) (message-passed st table buffer a home z .0) (message-few st a o)) (λ _. untouched st table (slotOf st a))
 
 -- a call that never replies
 silent-others : (answer : ℕ) (st : State) (i : ℕ) (slot : Slot) (j : ℕ) → (j ≡ i → ⊥) → slotAt ((silentOf answer (withSlot st i slot) st) .state) j ≡ slotAt st j

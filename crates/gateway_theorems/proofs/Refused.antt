@@ -47,7 +47,7 @@ receive-refusing room g asn n o = receive-holds room g asn n o (Refusing g n o) 
 
 module _ (st : State) (table buffer : List ℕ) (i answer : ℕ) (reply : Reply) (home : List Row) where
   pub refuses-leaves :
-      Refused st table buffer reply home (outcomeAfter st i (refuses ((slotAt st i) .neighbour) answer reply) home)
+      Refused st table buffer reply home (outcomeAfter st i (slotAt st i) (refuses ((slotAt st i) .neighbour) answer reply) home)
       (tableAfter table (rowCounts st) i ((refuses ((slotAt st i) .neighbour) answer reply) .change)) (bufferAfter buffer ((refuses ((slotAt st i) .neighbour) answer reply) .reply) home)
   unfolding outcomeAfter slotAfter countAfter tableAfter bufferAfter refuses
   refuses-leaves = record { state = same-slot st i; table = refl; buffer = refl; first = refl; second = refl }
@@ -111,13 +111,13 @@ unfolding messageRuling
 message-ruling-refusing st a o = receive-refusing _ (st .settings) ((slotAt st (slotOf st a)) .asn) (neighbourOf st a) o
 
 module _ (st : State) (table buffer : List ℕ) (home : List Row) (o : List ℕ) (i : ℕ) (v : Ruling) where
-  ruling-refused : Refusing (st .settings) ((slotAt st i) .neighbour) o v → ((outcomeAfter st i v home) .answer ≡ 0 → ⊥)
-      → Refused st table buffer (namedReply (st .settings) ((slotAt st i) .neighbour) o ((outcomeAfter st i v home) .answer)) home
-      (outcomeAfter st i v home) (tableAfter table (rowCounts st) i (v .change)) (bufferAfter buffer (v .reply) home)
+  ruling-refused : Refusing (st .settings) ((slotAt st i) .neighbour) o v → ((outcomeAfter st i (slotAt st i) v home) .answer ≡ 0 → ⊥)
+      → Refused st table buffer (namedReply (st .settings) ((slotAt st i) .neighbour) o ((outcomeAfter st i (slotAt st i) v home) .answer)) home
+      (outcomeAfter st i (slotAt st i) v home) (tableAfter table (rowCounts st) i (v .change)) (bufferAfter buffer (v .reply) home)
   unfolding Refusing outcomeAfter
   ruling-refused e z =
       let reply = namedReply (st .settings) ((slotAt st i) .neighbour) o (v .answer) in
-      subst (λ (w : Ruling). Refused st table buffer reply home (outcomeAfter st i w home) (tableAfter table (rowCounts st) i (w .change)) (bufferAfter buffer (w .reply) home))
+      subst (λ (w : Ruling). Refused st table buffer reply home (outcomeAfter st i (slotAt st i) w home) (tableAfter table (rowCounts st) i (w .change)) (bufferAfter buffer (w .reply) home))
       (sym (e z)) (refuses-leaves st table buffer i (v .answer) reply home)
 
 message-refused : (st : State) (table buffer home : List ℕ) (a : ℕ) (o : List ℕ) → ((messageOutcome st table buffer home a o) .answer ≡ 0 → ⊥)

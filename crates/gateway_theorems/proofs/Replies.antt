@@ -19,6 +19,7 @@ use Rattle.neighbour_machine.specs.Intrinsics.{Intrinsic, asEvent}
 use Rattle.neighbour_machine.specs.declared.Reply.{Reply}
 use Rattle.neighbour_machine.specs.Laws.{short, maySend}
 use Rattle.neighbour_machine.proofs.Sends.{send-elim}
+use Rattle.gateway_state.specs.declared.Slot.{Slot}
 use Rattle.gateway_state.specs.declared.State.{State}
 use Rattle.gateway_state.specs.Slots.{slotOf}
 use Rattle.gateway_state.specs.Formed.{stateFormed}
@@ -76,9 +77,9 @@ module _ (g : Settings) (home : List ℕ) (u : Sendable g home) where
 abbrev Lengths : Ruling → List ℕ → Type 0
 Lengths v home = length (firstOctets (v .reply) (rowsOf home)) + length (secondOctets (v .reply) (rowsOf home)) ≤ 1168
 
-carried-fits : (st : State) (i : ℕ) (v : Ruling) (home buffer : List ℕ) → Lengths v home → 2048 ≤ length buffer → ReplyFits (outcomeAfter st i v (rowsOf home)) buffer (bufferAfter buffer (v .reply) (rowsOf home))
+carried-fits : (st : State) (i : ℕ) (slot : Slot) (v : Ruling) (home buffer : List ℕ) → Lengths v home → 2048 ≤ length buffer → ReplyFits (outcomeAfter st i slot v (rowsOf home)) buffer (bufferAfter buffer (v .reply) (rowsOf home))
 unfolding outcomeAfter bufferAfter replyOctets
-carried-fits st i v home buffer l b =
+carried-fits st i slot v home buffer l b =
     let first = firstOctets (v .reply) (rowsOf home) in
     let second = secondOctets (v .reply) (rowsOf home) in
     record { few = l; same = over-length (first ++ second) buffer (omega (arith, length-append first second)) }
@@ -104,7 +105,7 @@ event-fits : (event : Intrinsic) (st : State) (table buffer : List ℕ) (a : ℕ
 unfolding eventOutcome eventBuffer rowsOf
 event-fits event st table buffer a =
     call-holds (λ r t b. ReplyFits r buffer b) (eventChecks event st table buffer a) _ _ table table _ _
-    (λ z. let p = event-passed st table buffer a event z in carried-fits st (slotOf st a) (eventRuling event st a) [] buffer (event-length event st a (p .formed)) (p .room))
+    (λ z. let p = event-passed st table buffer a event z in carried-fits st (slotOf st a) _ (eventRuling event st a) [] buffer (event-length event st a (p .formed)) (p .room))
     (λ _. refused-fits st (eventChecks event st table buffer a) buffer)
 
 message-fits : (st : State) (table buffer home : List ℕ) (a : ℕ) (o : List ℕ)
@@ -113,7 +114,7 @@ unfolding messageOutcome messageBuffer
 message-fits st table buffer home a o =
     call-holds (λ r t b. ReplyFits r buffer b) (messageChecks st table buffer home a) _ _ table table _ _
     (λ z. let p = message-passed st table buffer a home z in
-    carried-fits st (slotOf st a) (messageRuling st a o) home buffer (message-length st home a o (p .0 .formed) (p .1)) (p .0 .room))
+    carried-fits st (slotOf st a) _ (messageRuling st a o) home buffer (message-length st home a o (p .0 .formed) (p .1)) (p .0 .room))
     (λ _. refused-fits st (messageChecks st table buffer home a) buffer)
 
 pub replies-fit : RepliesFit

@@ -107,13 +107,13 @@ module _ (g : Settings) (asn : ℕ) (n : Neighbour) (o : List ℕ) where
 
 -- ---- carried out
 
-module _ (st : State) (table : List ℕ) (i : ℕ) (update : Bool) (v : Ruling) (home rows : List Row) (h : i < length (st .slots)) where
+module _ (st : State) (table : List ℕ) (i : ℕ) (slot : Slot) (update : Bool) (v : Ruling) (home rows : List Row) (h : i < length (st .slots)) where
   carried-writes : Writes ((slotAt st i) .neighbour .phase) update rows v
-      → TableWrites st table i update rows (outcomeAfter st i v home) (tableAfter table (rowCounts st) i (v .change))
+      → TableWrites st table i update rows (outcomeAfter st i slot v home) (tableAfter table (rowCounts st) i (v .change))
   unfolding outcomeAfter slotAfter tableAfter
   carried-writes w =
-      let p : isUpIn (withSlot st i (slotAfter (slotAt st i) v)) i ≡ isUp (v .neighbour .phase) =
-      ap (λ (s : Slot). isUp (s .neighbour .phase)) (written-slot st i (slotAfter (slotAt st i) v) h) in
+      let p : isUpIn (withSlot st i (slotAfter slot v)) i ≡ isUp (v .neighbour .phase) =
+      ap (λ (s : Slot). isUp (s .neighbour .phase)) (written-slot st i (slotAfter slot v) h) in
       record {
         kept = λ e. ap (tableAfter table (rowCounts st) i) (w .kept e);
         stayed = λ e f. ap (tableAfter table (rowCounts st) i) (w .stayed (sym p ∙ e) f);
@@ -140,7 +140,7 @@ event-kept : (event : Intrinsic) (st : State) (table buffer : List ℕ) (a : ℕ
 unfolding eventOutcome eventTable
 event-kept event st table buffer a eight =
     call-holds (λ r t b. TableWrites st table (slotOf st a) false [] r t) (eventChecks event st table buffer a) _ _ _ _ buffer buffer
-    (λ z. carried-writes st table (slotOf st a) false (eventRuling event st a) [] [] (omega (arith, event-passed st table buffer a event z .found)) (event-writes event st a))
+    (λ z. carried-writes st table (slotOf st a) _ false (eventRuling event st a) [] [] (omega (arith, event-passed st table buffer a event z .found)) (event-writes event st a))
     (λ z. refused-writes st table (slotOf st a) false [] (eventChecks event st table buffer a) z)
 
 message-kept : (st : State) (table buffer home : List ℕ) (a : ℕ) (o : List ℕ) → length (st .slots) ≡ 8
@@ -151,7 +151,7 @@ message-kept st table buffer home a o eight =
     let u = decodesUpdate (decodeOf o) in
     let rows = rowsRead (updateOf 128 (st .settings .net) o) in
     call-holds (λ r t b. TableWrites st table (slotOf st a) u rows r t) (messageChecks st table buffer home a) _ _ _ _ buffer buffer
-    (λ z. carried-writes st table (slotOf st a) u (messageRuling st a o) (rowsOf home) rows (omega (arith, message-passed st table buffer a home z .0 .found)) (message-writes st a o))
+    (λ z. carried-writes st table (slotOf st a) _ u (messageRuling st a o) (rowsOf home) rows (omega (arith, message-passed st table buffer a home z .0 .found)) (message-writes st a o))
     (λ z. refused-writes st table (slotOf st a) u rows (messageChecks st table buffer home a) z)
 
 pub table-kept : TableKept

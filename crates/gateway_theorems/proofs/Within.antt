@@ -7,6 +7,7 @@ use lib.Seq.{drop-append-seam}
 use Rattle.octets.specs.Buffer.{over}
 use Rattle.nets.specs.Rows.{Row, rowsOf}
 use Rattle.neighbour_machine.specs.Intrinsics.{Intrinsic}
+use Rattle.gateway_state.specs.declared.Slot.{Slot}
 use Rattle.gateway_state.specs.declared.State.{State}
 use Rattle.gateway_state.specs.declared.Outcome.{Outcome}
 use Rattle.gateway_state.specs.Slots.{slotOf}
@@ -26,10 +27,10 @@ over-rest octets buffer n e = rw (← e) (drop-append-seam octets (drop (length 
 within : (r : Outcome) (octets buffer : List ℕ) → length octets ≡ r .first + r .second → Within r buffer (over octets buffer)
 within r octets buffer e = record { octets = octets; is = refl; long = e; rest = over-rest octets buffer (r .first + r .second) e }
 
-carried-within : (st : State) (i : ℕ) (v : Ruling) (home : List Row) (buffer : List ℕ) → Within (outcomeAfter st i v home) buffer (bufferAfter buffer (v .reply) home)
+carried-within : (st : State) (i : ℕ) (slot : Slot) (v : Ruling) (home : List Row) (buffer : List ℕ) → Within (outcomeAfter st i slot v home) buffer (bufferAfter buffer (v .reply) home)
 unfolding outcomeAfter bufferAfter replyOctets
-carried-within st i v home buffer =
-    within (outcomeAfter st i v home) (replyOctets (v .reply) home) buffer (length-append (firstOctets (v .reply) home) (secondOctets (v .reply) home))
+carried-within st i slot v home buffer =
+    within (outcomeAfter st i slot v home) (replyOctets (v .reply) home) buffer (length-append (firstOctets (v .reply) home) (secondOctets (v .reply) home))
 
 refused-within : (st : State) (k : ℕ) (buffer : List ℕ) → Within (refusedOf st k) buffer buffer
 unfolding refusedOf over
@@ -40,14 +41,14 @@ event-within : (event : Intrinsic) (st : State) (table buffer : List ℕ) (a : �
 unfolding eventOutcome eventBuffer
 event-within event st table buffer a =
     call-holds (λ r t b. Within r buffer b) (eventChecks event st table buffer a) _ _ table table _ _
-    (λ _. carried-within st (slotOf st a) (eventRuling event st a) [] buffer) (λ _. refused-within st (eventChecks event st table buffer a) buffer)
+    (λ _. carried-within st (slotOf st a) _ (eventRuling event st a) [] buffer) (λ _. refused-within st (eventChecks event st table buffer a) buffer)
 
 message-within : (st : State) (table buffer home : List ℕ) (a : ℕ) (o : List ℕ)
     → Within (messageOutcome st table buffer home a o) buffer (messageBuffer st table buffer home a o)
 unfolding messageOutcome messageBuffer
 message-within st table buffer home a o =
     call-holds (λ r t b. Within r buffer b) (messageChecks st table buffer home a) _ _ table table _ _
-    (λ _. carried-within st (slotOf st a) (messageRuling st a o) (rowsOf home) buffer) (λ _. refused-within st (messageChecks st table buffer home a) buffer)
+    (λ _. carried-within st (slotOf st a) _ (messageRuling st a o) (rowsOf home) buffer) (λ _. refused-within st (messageChecks st table buffer home a) buffer)
 
 pub writes-within-lengths : WritesWithinLengths
 writes-within-lengths = record { events = event-within; messages = message-within; listings = listing-within; writings = writing-within }

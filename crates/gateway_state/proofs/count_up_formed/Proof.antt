@@ -31,7 +31,7 @@ is-up-slot-formed-requires : tie.Need-is-up-slot-formed-requires Inv-loop μ-loo
 is-up-slot-formed-requires c κs = search needs
 
 returns : tie.Need-returns Inv-loop μ-loop
-returns c = (c .before .before .before .before .loop .inv .0, c .before .before .before .before .loop .inv .1)
+returns c = (c .before .before .before .before .before .before .loop .inv .0, c .before .before .before .before .before .before .loop .inv .1)
 
 add-i : tie.Need-add-i Inv-loop μ-loop
 add-i c = omega arith
@@ -42,8 +42,8 @@ loop-less c = omega arith
 loop-again : tie.Need-loop-again Inv-loop μ-loop
 unfolding freeSlot idle
 loop-again c =
-    let eight : length (c .before .before .before .before .before .before .args .t1 .slots) ≡ 8 = search (needs, unmapped) in
-    (omega arith, c .before .before .before .before .loop .inv .1 ∙ every-next (slotFormed (c .before .before .before .before .before .before .args .t1 .settings)) (c .before .before .before .before .before .before .args .t1 .slots) (c .before .before .before .before .loop .i) freeSlot (omega arith) (c .before .is-up-slot-formed .ensures (not-false _ (c .if1 .left))))
+    let eight : length (c .before .before .before .before .before .before .before .before .args .t1 .slots) ≡ 8 = search (needs, unmapped) in
+    (omega arith, c .before .before .before .before .before .before .loop .inv .1 ∙ every-next (slotFormed (c .before .before .before .before .before .before .before .before .args .t1 .settings)) (c .before .before .before .before .before .before .before .before .args .t1 .slots) (c .before .before .before .before .before .before .loop .i) freeSlot (omega arith) (c .before .is-up-slot-formed .ensures (not-false _ (c .if1 .left))))
 
 returns-2 : tie.Need-returns-2 Inv-loop μ-loop
 returns-2 c = (c .before .loop .inv .0, c .before .loop .inv .1)

@@ -17,8 +17,22 @@ are-rows-formed-requires c κs = search needs
 
 returns-2 : tie.Need-returns-2
 unfolding usedFormed
-returns-2 c = simp (sym (c .before .before .before .good-peer .ensures) ∙ not-false _ (c .before .before .if1 .left), c .before .before .before .before .pre) (c .are-rows-formed .ensures)
+returns-2 c = simp (sym (c .before .before .before .before .good-peer .ensures) ∙ not-false _ (c .before .before .before .if1 .left), c .before .before .before .before .before .pre, sym (c .before .are-rows-formed .ensures) ∙ not-true _ (c .if2 .taken))
+
+are-formed-requires : tie.Need-are-formed-requires
+are-formed-requires c κs = search needs
+
+returns-3 : tie.Need-returns-3
+unfolding usedFormed
+returns-3 c = simp (sym (c .before .before .before .before .before .before .good-peer .ensures) ∙ not-false _ (c .before .before .before .before .before .if1 .left), c .before .before .before .before .before .before .before .pre, sym (c .before .before .before .are-rows-formed .ensures) ∙ not-false _ (c .before .before .if2 .left)) (c .are-formed .ensures)
 
 pub is-used-formed-spec : {M : Type 1} → statement M
 is-used-formed-spec =
-    tie.close (tie.spec good-peer-requires returns are-rows-formed-requires returns-2)
+    tie.close
+    (tie.spec
+    good-peer-requires
+    returns
+    are-rows-formed-requires
+    returns-2
+    are-formed-requires
+    returns-3)

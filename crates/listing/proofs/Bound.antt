@@ -5,21 +5,23 @@ use native.Mathlib.Omega.{arith}
 use mathlib.Core.Bool.{Bool, true, false, cond}
 use mathlib.Core.Path.{_≡_, refl, sym, _∙_, ap}
 use mathlib.Core.List.{List, [], _∷_, map}
-use lib.Dec.{leb, eqb}
+use lib.Dec.{leb, ltb, eqb}
 use lib.ListN.{length, getD, length-append, length-take}
-use borrow.Author.Tests.{leb-true}
+use borrow.Author.Tests.{leb-true, ltb-true, ltb-false}
 use Rattle.checks.specs.Lists.{join}
 use Rattle.checks.proofs.Laws.{ifOk-holds}
 use Rattle.octets.proofs.Buffer.{over-length}
 use Rattle.neighbour.specs.Record.{isUp}
 use Rattle.nets.specs.Rows.{Row}
 use Rattle.update_writing.proofs.Lists.{rows-take}
-use Rattle.text.specs.Text.{text, line}
+use Rattle.text.specs.Text.{text, decimal, line}
 use Rattle.text.proofs.Laws.{decimal-most, octet-length, word-length, dotted-length}
 use Rattle.neighbour.specs.declared.Phase.{Phase}
 use Rattle.neighbour.specs.declared.Phase.the-variants.{Idle, Acquisition, Down, Up, Cease}
 use Rattle.neighbour.specs.declared.Mode.{Mode}
 use Rattle.neighbour.specs.declared.Mode.the-variants.{Unset, Active, Passive}
+use Rattle.neighbour_seconds.specs.declared.Seconds.{Seconds}
+use Rattle.neighbour_seconds.specs.Seconds.{secondsSum, mostSeconds, secondsFormed}
 use Rattle.gateway_state.specs.declared.Slot.{Slot}
 use Rattle.gateway_state.specs.declared.State.{State}
 use Rattle.gateway_state.specs.Slots.{freeSlot, slotAt}
@@ -30,7 +32,7 @@ use Rattle.gateway_state.specs.Outcomes.{refusedOf}
 use Rattle.gateway_state.proofs.Theorems.{formed-slot}
 use Rattle.gateway_state.specs.declared.Outcome.{Outcome}
 use Rattle.gateway_rules.proofs.Checks.{lent-passed}
-use Rattle.listing_lines.specs.Lines.{stateWord, modeWord, distanceIn, sideWord, headLines, rowLines, rowText, entryText, listingText}
+use Rattle.listing_lines.specs.Lines.{stateWord, modeWord, distanceIn, sideWord, secondsLines, headLines, rowLines, rowText, entryText, listingText}
 use Rattle.listing_lines.specs.Listing.{entryOf, entriesFrom, entries, listingChecks, listingOutcome, listingBuffer}
 use Rattle.listing_lines.proofs.Laws.{count-at}
 use Rattle.listing.specs.Claims.{Typed, ShortListing}
@@ -70,6 +72,26 @@ read-few table counts i = rw (rows-take (getD counts i 0) (partAt table i)) (sim
 
 -- ---- slots
 
+-- a tenth digit takes 1,000,000,000 of the sum
+count-length : (n : ℕ) → n ≤ mostSeconds → 1000000000 * length (decimal n) ≤ 9000000000 + n
+count-length n h = go (ltb n 1000000000) refl
+  where
+    go : (b : Bool) → ltb n 1000000000 ≡ b → 1000000000 * length (decimal n) ≤ 9000000000 + n
+    go true e = let k = ltb-true n 1000000000 e in omega (arith, decimal-most 8 n (omega arith))
+    go false e = omega (arith, ltb-false n 1000000000 e, decimal-most 9 n (omega arith))
+
+-- so at most four of the five counts have one
+seconds-length : (s : Seconds) → secondsFormed s ≡ true → length (join (secondsLines s)) ≤ 82
+unfolding secondsLines secondsFormed secondsSum join text
+seconds-length s f =
+    let h = leb-true (s .idle + s .acquisition + s .down + s .up + s .cease) mostSeconds f in
+    let a = count-length (s .idle) (omega arith) in
+    let b = count-length (s .acquisition) (omega arith) in
+    let c = count-length (s .down) (omega arith) in
+    let d = count-length (s .up) (omega arith) in
+    let e = count-length (s .cease) (omega arith) in
+    simp (length-append, line-length) (omega arith)
+
 mode-length : (mode : Mode) → length (modeWord mode) ≤ 7
 unfolding modeWord text
 mode-length Unset = omega arith
@@ -86,7 +108,7 @@ state-length Up rows h n = omega arith
 state-length Cease rows h n = omega (arith, n refl)
 
 entry-length : (i : ℕ) (slot : Slot) (table counts : List ℕ) → getD counts i 0 ≡ slot .rows → i < 8 → slot .asn < 65536 → SlotGood slot
-    → length (entryText (entryOf i slot table counts)) ≤ 7364
+    → length (entryText (entryOf i slot table counts)) ≤ 7446
 unfolding entryText entryOf headLines join text
 entry-length i slot table counts k h a g =
     let u = read-few table counts i in
@@ -98,21 +120,22 @@ entry-length i slot table counts k h a g =
     let t = word-length (slot .asn) a in
     let few : length (readRows table counts i) < 256 = omega (arith, g .few, k) in
     let v = octet-length (length (readRows table counts i)) few in
+    let w = seconds-length (slot .seconds) (g .seconds) in
     simp (length-append, line-length) (omega arith)
 
 -- slots from index i on, whose counts these are
 module _ (table counts : List ℕ) where
   entries-length : (i : ℕ) (slots : List Slot) → i + length slots ≤ 8
       → ((j : ℕ) → (getD counts (i + j) 0 ≡ (getD slots j freeSlot) .rows) × ((getD slots j freeSlot) .asn < 65536) × SlotGood (getD slots j freeSlot))
-      → (length (entriesFrom i slots table counts) ≤ length slots) × (length (join (map entryText (entriesFrom i slots table counts))) ≤ 7364 * length slots)
+      → (length (entriesFrom i slots table counts) ≤ length slots) × (length (join (map entryText (entriesFrom i slots table counts))) ≤ 7446 * length slots)
   unfolding entriesFrom join
   entries-length i [] h fine = (omega arith, omega arith)
   entries-length i (slot ∷ rest) h fine = go (eqb (slot .address) 0) (entries-length (suc i) rest (omega arith) (λ j. (ap (λ (k : ℕ). getD counts k 0) (omega arith) ∙ fine (suc j) .0, fine (suc j) .1, fine (suc j) .2)))
     where
       go : (b : Bool)
-          → (length (entriesFrom (suc i) rest table counts) ≤ length rest) × (length (join (map entryText (entriesFrom (suc i) rest table counts))) ≤ 7364 * length rest)
+          → (length (entriesFrom (suc i) rest table counts) ≤ length rest) × (length (join (map entryText (entriesFrom (suc i) rest table counts))) ≤ 7446 * length rest)
           → (length (cond b (entriesFrom (suc i) rest table counts) (entryOf i slot table counts ∷ entriesFrom (suc i) rest table counts)) ≤ suc (length rest))
-          × (length (join (map entryText (cond b (entriesFrom (suc i) rest table counts) (entryOf i slot table counts ∷ entriesFrom (suc i) rest table counts)))) ≤ 7364 * suc (length rest))
+          × (length (join (map entryText (cond b (entriesFrom (suc i) rest table counts) (entryOf i slot table counts ∷ entriesFrom (suc i) rest table counts)))) ≤ 7446 * suc (length rest))
       go true r = (omega arith, omega arith)
       go false r = (
         omega arith,
@@ -121,7 +144,7 @@ module _ (table counts : List ℕ) where
 
 -- ---- the whole
 
-text-length : (st : State) (table : List ℕ) → Typed st → stateFormed st ≡ true → length (listingText (entries st table)) ≤ 58925
+text-length : (st : State) (table : List ℕ) → Typed st → stateFormed st ≡ true → length (listingText (entries st table)) ≤ 59581
 unfolding listingText entries text slotAt
 text-length st table t f =
     let e = entries-length table (rowCounts st) 0 (st .slots) (omega (arith, t .eight))
@@ -142,7 +165,7 @@ pub short : ShortListing
 unfolding listingOutcome listingChecks refusedOf
 short =
     record {
-      text = text-length;
-      reported = λ st table buffer t. ifOk-holds (listingChecks st table buffer) _ _ (λ (o : Outcome). o .first ≤ 58925) (λ e. text-length st table t (lent-passed st _ _ 0 e .formed)) (omega arith);
+      text = λ st table t f. omega (arith, text-length st table t f);
+      reported = λ st table buffer t. ifOk-holds (listingChecks st table buffer) _ _ (λ (o : Outcome). o .first ≤ 59581) (λ e. text-length st table t (lent-passed st _ _ 0 e .formed)) (omega arith);
       same = room-kept;
     }

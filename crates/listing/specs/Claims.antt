@@ -15,10 +15,11 @@ pub record Typed (st : State) : Type 0 where
   pub eight : length (st .slots) ≡ 8
   pub words : (i : ℕ) → (slotAt st i) .asn < 65536
 
--- The longest listing has 13 octets, and of each of eight neighbours 68, and 57 of each of its 128 rows: fewer than 65,536, the buffer's least
--- length, which the buffer keeps; and the text's length fits the 16 bits in which it is reported. Check 1 is what
--- bounds it: no rows outside Up, and at most 128.
+-- The longest listing has 13 octets, and of each of eight neighbours 68, and 82 of its seconds, and 57 of each of its 128 rows: fewer than 65,536,
+-- the buffer's least length, which the buffer keeps; and the text's length fits the 16 bits in which it is reported.
+-- Check 1 is what bounds it: no rows outside Up, and at most 128; and seconds whose sum lets four counts have ten
+-- digits, and not five.
 pub record ShortListing : Type 0 where
-  pub text : (st : State) (table : List ℕ) → Typed st → stateFormed st ≡ true → length (listingText (entries st table)) ≤ 58925
-  pub reported : (st : State) (table buffer : List ℕ) → Typed st → (listingOutcome st table buffer) .first ≤ 58925
+  pub text : (st : State) (table : List ℕ) → Typed st → stateFormed st ≡ true → length (listingText (entries st table)) ≤ 59581
+  pub reported : (st : State) (table buffer : List ℕ) → Typed st → (listingOutcome st table buffer) .first ≤ 59581
   pub same : (st : State) (table buffer : List ℕ) → Typed st → length (listingBuffer st table buffer) ≡ length buffer

@@ -5,7 +5,7 @@ use mathlib.Core.List.{List, [], _∷_, _++_}
 use lib.ListN.{length, drop, getD, List·getD-map}
 use Rattle.checks.specs.Lists.{join}
 use Rattle.octets.specs.Written.{Written}
-use Rattle.octets.proofs.Storing.{Writing, start, room, turn, done}
+use Rattle.octets.proofs.Storing.{Writing, start, room, turn, last, done}
 use Rattle.nets.specs.Rows.{Row, rowsOf}
 use Rattle.update_writing.proofs.Lists.{rows-turn, rows-short}
 use Rattle.update_writing.proofs.Loops.{rowAt}
@@ -36,6 +36,14 @@ module _ {total : List ℕ} {at : ℕ} {old : List ℕ} where
   pub last-line : {l : List ℕ} {o : ℕ} {out new : List ℕ} {end : ℕ} → Left total at old (l ∷ []) o out → Written l o out new end → Written total at old new end
   unfolding join
   last-line w d = done ((line-turn w d) .writing) refl
+
+  -- the rest of the lines, by one call
+  module _ {ls : List (List ℕ)} {o : ℕ} {out : List ℕ} (w : Left total at old ls o out) where
+    pub rest-room : o + length (join ls) ≤ length out
+    rest-room = w .writing .fits
+
+    pub rest-done : {new : List ℕ} {end : ℕ} → Written (join ls) o out new end → Written total at old new end
+    rest-done d = last (w .writing) d
 
 -- ---- row by row
 

@@ -12,6 +12,7 @@ use Rattle.neighbour.specs.declared.Phase.the-variants.{Idle, Acquisition, Down
 use Rattle.neighbour.specs.declared.Mode.{Mode}
 use Rattle.neighbour.specs.declared.Mode.the-variants.{Unset, Active, Passive}
 use Rattle.neighbour.specs.declared.Neighbour.{Neighbour}
+use Rattle.neighbour_seconds.specs.declared.Seconds.{Seconds}
 
 -- what is listed of a used slot: its index, and what stands there
 pub record Entry : Type 0 where
@@ -20,9 +21,10 @@ pub record Entry : Type 0 where
   pub asn : ℕ
   pub neighbour : Neighbour
   pub rows : List Row
+  pub seconds : Seconds
 
-abbrev pub entryFor : ℕ → ℕ → ℕ → Neighbour → List Row → Entry
-entryFor i address asn n rows = record { index = i; address = address; asn = asn; neighbour = n; rows = rows }
+abbrev pub entryFor : ℕ → ℕ → ℕ → Neighbour → List Row → Seconds → Entry
+entryFor i address asn n rows s = record { index = i; address = address; asn = asn; neighbour = n; rows = rows; seconds = s }
 
 -- 01: "States: idle, acquisition, down, up, cease."
 unfoldable pub stateWord : Phase → List ℕ
@@ -46,6 +48,16 @@ distanceIn third = third % 256
 unfoldable pub sideWord : ℕ → List ℕ
 sideWord third = cond (leb 256 third) (text "ext") (text "int")
 
+-- 02: "the listing gains five lines after `rows`: `sidle`, `sacq`, `sdown`, `sup`, `scease`"
+unfoldable pub secondsLines : Seconds → List (List ℕ)
+secondsLines s =
+    line (text "sidle=") (decimal (s .idle))
+    ∷ line (text "sacq=") (decimal (s .acquisition))
+    ∷ line (text "sdown=") (decimal (s .down))
+    ∷ line (text "sup=") (decimal (s .up))
+    ∷ line (text "scease=") (decimal (s .cease))
+    ∷ []
+
 -- the lines of a slot before its rows
 unfoldable pub headLines : Entry → List (List ℕ)
 headLines e =
@@ -55,7 +67,7 @@ headLines e =
     ∷ line (text "state=") (stateWord (e .neighbour .phase))
     ∷ line (text "mode=") (modeWord (e .neighbour .mode))
     ∷ line (text "rows=") (decimal (length (e .rows)))
-    ∷ []
+    ∷ secondsLines (e .seconds)
 
 unfoldable pub rowLines : Row → List (List ℕ)
 rowLines row =

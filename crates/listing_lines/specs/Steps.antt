@@ -8,7 +8,7 @@ use Rattle.listing_lines.specs.Lines.{Entry, entryFor, rowText}
 
 -- what is listed of slot i where these are its used rows
 abbrev pub slotEntry : ℕ → Slot → List Row → Entry
-slotEntry i slot rows = entryFor i (slot .address) (slot .asn) (slot .neighbour) rows
+slotEntry i slot rows = entryFor i (slot .address) (slot .asn) (slot .neighbour) rows (slot .seconds)
 
 -- the rows of a slot, one after the other
 unfoldable pub rowsText : List Row → List ℕ

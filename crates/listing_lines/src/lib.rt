@@ -2,6 +2,7 @@
 use gateway_state::Slot;
 use neighbour::Mode;
 use neighbour::Phase;
+use neighbour_seconds::Seconds;
 ghost use mathlib.Core.Path.{_≡_};
 ghost use Prim.Native.Nat.{_+_, _≤_};
 ghost use lib.ListN.{length};
@@ -10,7 +11,7 @@ ghost use Rattle.text.specs.Text.{text, line};
 ghost use Rattle.octets.specs.Written.{Written};
 ghost use Rattle.nets.specs.Rows.{rowsOf};
 ghost use Rattle.gateway_state.specs.Places.{slotNumbers};
-ghost use Rattle.listing_lines.specs.Lines.{stateWord, modeWord, sideWord, headLines, rowText};
+ghost use Rattle.listing_lines.specs.Lines.{stateWord, modeWord, sideWord, secondsLines, headLines, rowText};
 ghost use Rattle.listing_lines.specs.Steps.{slotEntry, rowsText};
 
 // Writes the line of a neighbour's state.
@@ -39,6 +40,18 @@ fn put_mode(out: &mut [u8], at: usize, mode: Mode) -> usize
     }
 }
 
+// Writes the lines of the seconds in each state.
+fn put_seconds(out: &mut [u8], at: usize, s: Seconds) -> usize
+    requires { ⌜ at + length (join (secondsLines s)) ≤ length (now out) ⌝ }
+    ensures { λ r. ⌜ Written (join (secondsLines s)) at (now (out .entry)) (now (out .exit)) r ⌝ }
+{
+    let idle = text::put_line_decimal(out, at, b"sidle=", s.idle);
+    let acquisition = text::put_line_decimal(out, idle, b"sacq=", s.acquisition);
+    let down = text::put_line_decimal(out, acquisition, b"sdown=", s.down);
+    let up = text::put_line_decimal(out, down, b"sup=", s.up);
+    text::put_line_decimal(out, up, b"scease=", s.cease)
+}
+
 // Writes the lines of a slot before those of its rows.
 pub fn put_head(out: &mut [u8], at: usize, i: usize, slot: Slot, rows: &[u32]) -> usize
     requires { ⌜ (i ≤ 8) × (length (now rows) ≤ slotNumbers) ⌝ }
@@ -53,7 +66,9 @@ pub fn put_head(out: &mut [u8], at: usize, i: usize, slot: Slot, rows: &[u32]) -
     let asn = text::put_line_decimal(out, address, b"as=", slot.asn as u32);
     let state = put_state(out, asn, phase);
     let kind = put_mode(out, state, mode);
-    text::put_line_decimal(out, kind, b"rows=", (rows.len() / 3) as u32)
+    let count = text::put_line_decimal(out, kind, b"rows=", (rows.len() / 3) as u32);
+    let seconds = slot.seconds;
+    put_seconds(out, count, seconds)
 }
 
 // Writes the line of a row's side.

@@ -1,11 +1,12 @@
--- `listing_lines::put_head` meets its contract, line by line. Assumes nothing.
-use Rattle.listing_lines.proofs.Laws.{all-left, line-room, line-turn, last-line}
+-- `listing_lines::put_head` meets its contract, line by line, then the lines of its seconds by one call. Assumes nothing.
+use Rattle.listing_lines.proofs.Laws.{all-left, line-room, line-turn, rest-room, rest-done}
 use Rattle.listing_lines.specs.Steps.{slotEntry}
 use Rattle.listing_lines.specs.Lines.{headLines}
 use Rattle.update_writing.proofs.Lists.{rows-length}
 use Rattle.nets.specs.Rows.{rowsOf}
 use Rattle.text.specs.Text.{text}
 use native.Mathlib.Omega.{arith}
+use mathlib.Core.Path.{sym}
 use borrow.Author.Needs.{needs}
 use Rattle.listing_lines.proofs.put_head.Statement.{statement}
 use Rattle.listing_lines.proofs.put_head.Tie as tie
@@ -55,12 +56,16 @@ put-line-decimal-requires-3 : tie.Need-put-line-decimal-requires-3
 unfolding text headLines
 put-line-decimal-requires-3 c κs = rw (rows-length (c .before .before .before .before .before .before .before .before .before .before .before .before .before .before .before .before .before .before .before .before .before .before .before .before .before .before .before .before .before .args .rows .now)) at (line-room (line-turn (line-turn (line-turn (line-turn (line-turn (all-left (headLines (slotEntry (c .before .before .before .before .before .before .before .before .before .before .before .before .before .before .before .before .before .before .before .before .before .before .before .before .before .before .before .before .before .args .i) (c .before .before .before .before .before .before .before .before .before .before .before .before .before .before .before .before .before .before .before .before .before .before .before .before .before .before .before .before .before .args .slot) (rowsOf (c .before .before .before .before .before .before .before .before .before .before .before .before .before .before .before .before .before .before .before .before .before .before .before .before .before .before .before .before .before .args .rows .now)))) (c .before .before .before .before .before .before .before .before .before .before .before .before .before .before .before .before .before .before .before .before .before .before .before .before .before .before .before .before .before .args .at) (c .before .before .before .before .before .before .before .before .before .before .before .before .before .before .before .before .before .before .before .before .before .before .before .before .before .before .before .before .before .args .out .now) (c .before .before .before .before .before .before .before .before .before .before .before .before .before .before .before .before .before .before .before .before .before .before .before .before .before .before .before .before .before .pre .1)) (c .before .before .before .before .before .before .before .before .before .before .before .before .before .before .before .before .before .before .before .before .before .before .before .put-line-decimal .ensures)) (c .before .before .before .before .before .before .before .before .before .before .before .before .before .before .before .before .before .before .put-line-dotted .ensures)) (c .before .before .before .before .before .before .before .before .before .before .before .before .put-line-decimal2 .ensures)) (c .before .before .before .before .before .before .before .before .put-state .ensures)) (c .before .before .before .before .put-mode .ensures)))
 
+put-seconds-requires : tie.Need-put-seconds-requires
+unfolding text headLines
+put-seconds-requires c κs = rest-room (line-turn (line-turn (line-turn (line-turn (line-turn (line-turn (all-left (headLines (slotEntry (c .before .before .before .before .before .before .before .before .before .before .before .before .before .before .before .before .before .before .before .before .before .before .before .before .before .before .before .before .before .before .before .before .before .before .args .i) (c .before .before .before .before .before .before .before .before .before .before .before .before .before .before .before .before .before .before .before .before .before .before .before .before .before .before .before .before .before .before .before .before .before .before .args .slot) (rowsOf (c .before .before .before .before .before .before .before .before .before .before .before .before .before .before .before .before .before .before .before .before .before .before .before .before .before .before .before .before .before .before .before .before .before .before .args .rows .now)))) (c .before .before .before .before .before .before .before .before .before .before .before .before .before .before .before .before .before .before .before .before .before .before .before .before .before .before .before .before .before .before .before .before .before .before .args .at) (c .before .before .before .before .before .before .before .before .before .before .before .before .before .before .before .before .before .before .before .before .before .before .before .before .before .before .before .before .before .before .before .before .before .before .args .out .now) (c .before .before .before .before .before .before .before .before .before .before .before .before .before .before .before .before .before .before .before .before .before .before .before .before .before .before .before .before .before .before .before .before .before .before .pre .1)) (c .before .before .before .before .before .before .before .before .before .before .before .before .before .before .before .before .before .before .before .before .before .before .before .before .before .before .before .before .put-line-decimal .ensures)) (c .before .before .before .before .before .before .before .before .before .before .before .before .before .before .before .before .before .before .before .before .before .before .before .put-line-dotted .ensures)) (c .before .before .before .before .before .before .before .before .before .before .before .before .before .before .before .before .before .put-line-decimal2 .ensures)) (c .before .before .before .before .before .before .before .before .before .before .before .before .before .put-state .ensures)) (c .before .before .before .before .before .before .before .before .before .put-mode .ensures)) (rw (sym (rows-length (c .before .before .before .before .before .before .before .before .before .before .before .before .before .before .before .before .before .before .before .before .before .before .before .before .before .before .before .before .before .before .before .before .before .before .args .rows .now))) at (c .before .before .before .before .put-line-decimal3 .ensures)))
+
 same-length : tie.Need-same-length
-same-length c = search needs
+same-length c = omega (arith, c .before .before .before .before .before .before .before .before .before .before .before .before .before .before .before .before .before .before .before .before .before .before .before .before .before .before .before .before .before .before .before .put-line-decimal .kept .0, c .before .before .before .before .before .before .before .before .before .before .before .before .before .before .before .before .before .before .before .before .before .before .before .before .before .before .put-line-dotted .kept .0, c .before .before .before .before .before .before .before .before .before .before .before .before .before .before .before .before .before .before .before .before .put-line-decimal2 .kept .0, c .before .before .before .before .before .before .before .before .before .before .before .before .before .before .before .before .put-state .kept .0, c .before .before .before .before .before .before .before .before .before .before .before .before .put-mode .kept .0, c .before .before .before .before .before .before .before .put-line-decimal3 .kept .0, c .before .before .put-seconds .kept .0)
 
 returns : tie.Need-returns
 unfolding text headLines
-returns c = last-line (line-turn (line-turn (line-turn (line-turn (line-turn (all-left (headLines (slotEntry (c .before .before .before .before .before .before .before .before .before .before .before .before .before .before .before .before .before .before .before .before .before .before .before .before .before .before .before .before .before .before .before .before .args .i) (c .before .before .before .before .before .before .before .before .before .before .before .before .before .before .before .before .before .before .before .before .before .before .before .before .before .before .before .before .before .before .before .before .args .slot) (rowsOf (c .before .before .before .before .before .before .before .before .before .before .before .before .before .before .before .before .before .before .before .before .before .before .before .before .before .before .before .before .before .before .before .before .args .rows .now)))) (c .before .before .before .before .before .before .before .before .before .before .before .before .before .before .before .before .before .before .before .before .before .before .before .before .before .before .before .before .before .before .before .before .args .at) (c .before .before .before .before .before .before .before .before .before .before .before .before .before .before .before .before .before .before .before .before .before .before .before .before .before .before .before .before .before .before .before .before .args .out .now) (c .before .before .before .before .before .before .before .before .before .before .before .before .before .before .before .before .before .before .before .before .before .before .before .before .before .before .before .before .before .before .before .before .pre .1)) (c .before .before .before .before .before .before .before .before .before .before .before .before .before .before .before .before .before .before .before .before .before .before .before .before .before .before .put-line-decimal .ensures)) (c .before .before .before .before .before .before .before .before .before .before .before .before .before .before .before .before .before .before .before .before .before .put-line-dotted .ensures)) (c .before .before .before .before .before .before .before .before .before .before .before .before .before .before .before .put-line-decimal2 .ensures)) (c .before .before .before .before .before .before .before .before .before .before .before .put-state .ensures)) (c .before .before .before .before .before .before .before .put-mode .ensures)) (rw (rows-length (c .before .before .before .before .before .before .before .before .before .before .before .before .before .before .before .before .before .before .before .before .before .before .before .before .before .before .before .before .before .before .before .before .args .rows .now)) (c .before .before .put-line-decimal3 .ensures))
+returns c = rest-done (line-turn (line-turn (line-turn (line-turn (line-turn (line-turn (all-left (headLines (slotEntry (c .before .before .before .before .before .before .before .before .before .before .before .before .before .before .before .before .before .before .before .before .before .before .before .before .before .before .before .before .before .before .before .before .before .before .before .before .before .args .i) (c .before .before .before .before .before .before .before .before .before .before .before .before .before .before .before .before .before .before .before .before .before .before .before .before .before .before .before .before .before .before .before .before .before .before .before .before .before .args .slot) (rowsOf (c .before .before .before .before .before .before .before .before .before .before .before .before .before .before .before .before .before .before .before .before .before .before .before .before .before .before .before .before .before .before .before .before .before .before .before .before .before .args .rows .now)))) (c .before .before .before .before .before .before .before .before .before .before .before .before .before .before .before .before .before .before .before .before .before .before .before .before .before .before .before .before .before .before .before .before .before .before .before .before .before .args .at) (c .before .before .before .before .before .before .before .before .before .before .before .before .before .before .before .before .before .before .before .before .before .before .before .before .before .before .before .before .before .before .before .before .before .before .before .before .before .args .out .now) (c .before .before .before .before .before .before .before .before .before .before .before .before .before .before .before .before .before .before .before .before .before .before .before .before .before .before .before .before .before .before .before .before .before .before .before .before .before .pre .1)) (c .before .before .before .before .before .before .before .before .before .before .before .before .before .before .before .before .before .before .before .before .before .before .before .before .before .before .before .before .before .before .before .put-line-decimal .ensures)) (c .before .before .before .before .before .before .before .before .before .before .before .before .before .before .before .before .before .before .before .before .before .before .before .before .before .before .put-line-dotted .ensures)) (c .before .before .before .before .before .before .before .before .before .before .before .before .before .before .before .before .before .before .before .before .put-line-decimal2 .ensures)) (c .before .before .before .before .before .before .before .before .before .before .before .before .before .before .before .before .put-state .ensures)) (c .before .before .before .before .before .before .before .before .before .before .before .before .put-mode .ensures)) (rw (sym (rows-length (c .before .before .before .before .before .before .before .before .before .before .before .before .before .before .before .before .before .before .before .before .before .before .before .before .before .before .before .before .before .before .before .before .before .before .before .before .before .args .rows .now))) at (c .before .before .before .before .before .before .before .put-line-decimal3 .ensures))) (c .before .before .put-seconds .ensures)
 
 pub put-head-spec : {M : Type 1} → statement M
 put-head-spec =
@@ -79,5 +84,6 @@ put-head-spec =
     slice-aggregate-put-line-decimal-3
     cast-put-line-decimal-3
     put-line-decimal-requires-3
+    put-seconds-requires
     same-length
     returns)

@@ -70,7 +70,7 @@ module _ (slot : Stored.Slot) (numbers : List ℕ) (rows : List Row) (k : Known 
       go true e = ap cell (slot-free (eqb-true (slot .address) 0 e)) ∙ sym (k .is-free (eqb-true (slot .address) 0 e))
       go false e =
           let c : length rows ≡ slot .rows = ap length (k .read) ∙ rows-count (take (3 * slot .rows) numbers) (slot .rows) front in
-          ap cell (slot-used e) ∙ (λ i. record { address = slot .address; asn = slot .asn; neighbour = slot .neighbour; rows = c i })
+          ap cell (slot-used e) ∙ (λ i. record { address = slot .address; asn = slot .asn; neighbour = slot .neighbour; rows = c i; seconds = slot .seconds })
 
   no-count : slot .address ≡ 0 → slot .rows ≡ 0
   unfolding freeSlot

@@ -31,7 +31,8 @@ use Rattle.gateway_state.proofs.Theorems.{slot-unique}
 use Rattle.gateway_rules.specs.Home.{goodHome}
 use Rattle.gateway_theorems.proofs.Others.{others-untouched}
 use Rattle.gateway_theorems.proofs.Calls.{is-up}
-use Rattle.model.specs.Model.{Call, add, remove, happen, start, stop, tick, receive, listing, Slot, free, used, Model, slotIn, foundAt, noOctets, messageMove, eventTurn, step, model, modelFrom, Peer}
+use Rattle.neighbour_seconds.specs.Seconds.{clockFull}
+use Rattle.model.specs.Model.{isLate, Call, add, remove, happen, start, stop, tick, receive, listing, Slot, free, used, Model, slotIn, foundAt, noOctets, messageMove, eventTurn, step, model, modelFrom, Peer}
 use Rattle.model.specs.History.{isUpSlot, accepts, upAfter, told, lastFrom, lastAccepted, isAbout, isElsewhere}
 use Rattle.model.specs.Theorem.{Gateway, outcomeOf, gatewayStep, gatewayFrom, run, cell, stateOf, rowsHeld, part, tableOf, rowsAt, listsNothing, unused, Sensible, peerFrom, modelOf}
 use Rattle.model.specs.Corollaries.{Taken, slotOn, isUpOn, Used, Unmoved, Bare, Says, RunsAreSensible, OthersStayOn, OthersStay, OthersStayInRuns, reports, BothReport, OneClosedOn, OneClosed, WhateverCloses, ClosedWhateverBy, NoDeadRow, RestartsBare, EntersUpBare, acceptsNone, BareUntilUpdate, SaysRows, Stands, UpdateCounts, AfterLastNumber, StandsWhole, FullUpdateStands, EightFull}
@@ -220,31 +221,31 @@ module _ (m : Model) (ok : Good m) (j : ℕ) (j8 : j < 8) where
         used-slot (slotIn m j) (λ e. u (ap (λ (x : Stored.Slot). x .address) (slot-is m ok j) ∙ e))
         ∙ ap (λ (x : Stored.Slot). used (peerFrom x (rowsHeld (slotIn m j)))) (sym (slot-is m ok j))
 
-    event-after : (event : Intrinsic) (buffer : List ℕ) → leb 2048 (length buffer) ≡ true → (call : Call)
+    event-after : (event : Intrinsic) (buffer : List ℕ) → leb 2048 (length buffer) ≡ true → isLate event (used mine) ≡ false → (call : Call)
         → (step call m) .model ≡ (eventTurn event m (before .address) buffer) .model
         → (slotOn (gatewayStep call (represent m)) j) .neighbour ≡ (stepOf (m .settings) (before .asn) (before .neighbour) (asEvent event) noOctets) .neighbour
-    event-after event buffer r call e =
+    event-after event buffer r l call e =
         ap (λ (x : Stored.Slot). x .neighbour) (after-is call)
         ∙ ap (λ (x : Model). (cell (slotIn x j)) .neighbour) e
         ∙ ap (λ (x : Slot). (cell x) .neighbour)
-        (event-slot m ok j j8 mine here event buffer r)
+        (event-slot m ok j j8 mine here event buffer r l)
         ∙ event-phase (m .settings) event mine
 
     module _ (buffer : List ℕ) (r : leb 2048 (length buffer) ≡ true) where
       stop-after : (slotOn (gatewayStep (stop (before .address) buffer) (represent m)) j) .neighbour
           ≡ (stepOf (m .settings) (before .asn) (before .neighbour) Stop noOctets) .neighbour
-      unfolding step
-      stop-after = event-after I.Stop buffer r (stop (before .address) buffer) refl
+      unfolding step isLate
+      stop-after = event-after I.Stop buffer r refl (stop (before .address) buffer) refl
 
       start-after : (slotOn (gatewayStep (start (before .address) buffer) (represent m)) j) .neighbour
           ≡ (stepOf (m .settings) (before .asn) (before .neighbour) Start noOctets) .neighbour
-      unfolding step
-      start-after = event-after I.Start buffer r (start (before .address) buffer) refl
+      unfolding step isLate
+      start-after = event-after I.Start buffer r refl (start (before .address) buffer) refl
 
-      tick-after : (slotOn (gatewayStep (tick (before .address) buffer) (represent m)) j) .neighbour
+      tick-after : clockFull (before .seconds) ≡ false → (slotOn (gatewayStep (tick (before .address) buffer) (represent m)) j) .neighbour
           ≡ (stepOf (m .settings) (before .asn) (before .neighbour) Tick noOctets) .neighbour
-      unfolding step
-      tick-after = event-after I.Tick buffer r (tick (before .address) buffer) refl
+      unfolding step isLate
+      tick-after l = event-after I.Tick buffer r l (tick (before .address) buffer) refl
 
     module _ (o home buffer : List ℕ) (x : Message) (k : Says (represent m) j o home buffer x) where
       message-after : slotIn ((step (receive (before .address) o home buffer) m) .model) j
@@ -312,9 +313,9 @@ module _ (m : Model) (ok : Good m) where
         by-cease = λ o home buffer a q t k. closed-on _ i j net b own (cease-after m ok i i8 u o home buffer a q t k);
         by-request = λ o home buffer a q t hello poll k. closed-on _ i j net b own (request-after m ok i i8 u o home buffer a q t hello poll k);
         by-time-out =
-            λ buffer r t. closed-on _ i j net b own (not-up (tick-after m ok i i8 u buffer r) (timed-out (m .settings) (s .asn) (s .neighbour) noOctets is t));
+            λ buffer r l t. closed-on _ i j net b own (not-up (tick-after m ok i i8 u buffer r l) (timed-out (m .settings) (s .asn) (s .neighbour) noOctets is t));
         by-silence =
-            λ buffer r t d. closed-on _ i j net b own (not-up (tick-after m ok i i8 u buffer r) (silenced (m .settings) (s .asn) (s .neighbour) noOctets is t d));
+            λ buffer r l t d. closed-on _ i j net b own (not-up (tick-after m ok i i8 u buffer r l) (silenced (m .settings) (s .asn) (s .neighbour) noOctets is t d));
       }
 
 pub one-closed : OneClosed
@@ -511,26 +512,26 @@ update-counts =
     → Stands b (receive ((slotOn b j) .address) o home buffer) j rows)
     stands
 
-zero-again : (b : Gateway) → Sensible b → (lent : List ℕ) (j : ℕ) → j < 8 → leb 2048 (length lent) ≡ true
+zero-again : (b : Gateway) → Sensible b → (lent : List ℕ) (j : ℕ) → j < 8 → leb 2048 (length lent) ≡ true → clockFull ((slotOn b j) .seconds) ≡ false
     → (slotOn b j) .neighbour .s ≡ 65535 → (slotOn b j) .neighbour .t2 ≡ 1 → isUpOn b j ≡ true → isUpOn (gatewayStep (tick ((slotOn b j) .address) lent) b) j ≡ true
     → (slotOn (gatewayStep (tick ((slotOn b j) .address) lent) b) j) .neighbour .s ≡ 0
 zero-again =
     from-model
-    (λ b. (lent : List ℕ) (j : ℕ) → j < 8 → leb 2048 (length lent) ≡ true
+    (λ b. (lent : List ℕ) (j : ℕ) → j < 8 → leb 2048 (length lent) ≡ true → clockFull ((slotOn b j) .seconds) ≡ false
     → (slotOn b j) .neighbour .s ≡ 65535 → (slotOn b j) .neighbour .t2 ≡ 1 → isUpOn b j ≡ true → isUpOn (gatewayStep (tick ((slotOn b j) .address) lent) b) j ≡ true
     → (slotOn (gatewayStep (tick ((slotOn b j) .address) lent) b) j) .neighbour .s ≡ 0)
-    (λ m ok lent j j8 r s t up still.
+    (λ m ok lent j j8 r l s t up still.
     let x = slotOn (represent m) j in
-    let moves = tick-after m ok j j8 (up-used m ok j up) lent r in
+    let moves = tick-after m ok j j8 (up-used m ok j up) lent r l in
     ap (λ (n : Neighbour). n .s) moves
     ∙ wrapped (m .settings) (x .asn) (x .neighbour) noOctets (is-up (x .neighbour .phase) up) s t
     (sym (ap (λ (n : Neighbour). isUp (n .phase)) moves) ∙ still))
 
 pub after-last-number : AfterLastNumber
-after-last-number b w lent j j8 r s t up still =
+after-last-number b w lent j j8 r l s t up still =
     let a = (slotOn b j) .address in
     let c = gatewayStep (tick a lent) b in
-    let zero-s : (slotOn c j) .neighbour .s ≡ 0 = zero-again b w lent j j8 r s t up still in
+    let zero-s : (slotOn c j) .neighbour .s ≡ 0 = zero-again b w lent j j8 r l s t up still in
     record {
       again = zero-s;
       counts =

@@ -3,11 +3,11 @@ use Prim.Native.Nat.{ℕ, zero, suc, _+_, _*_, _%_, _<_}
 use native.Mathlib.Nat.{zero-add}
 use native.Mathlib.Omega.{arith}
 use mathlib.Core.Path.{_≡_, refl, sym, _∙_, ap, subst}
-use mathlib.Core.Bool.{true, false, _&&_, true≢false}
+use mathlib.Core.Bool.{Bool, true, false, not, _&&_, true≢false}
 use mathlib.Core.List.{List, [], _∷_, _++_, append-assoc}
 use lib.Dec.{ltb, leb, eqb}
 use lib.ListN.{length, length-set}
-use borrow.Author.Tests.{eqb-true, ltb-true}
+use borrow.Author.Tests.{eqb-true, ne-eqb, ltb-true, not-true}
 use Rattle.checks.specs.Checks.{check}
 use Rattle.checks.proofs.Laws.{and-left, and-right}
 use Rattle.neighbour.specs.Record.{isUp, acquired, withNumbers, withTimers, withReach}
@@ -41,13 +41,18 @@ use Rattle.gateway_state.proofs.ListLaws.{every-set, every-in}
 use Rattle.gateway_slots.specs.Calls as Slots
 use Rattle.gateway_rules.specs.Home as Home
 use Rattle.gateway_rules.specs.Home.{goodHome}
-use Rattle.model.specs.Model.{Call, tick, Slot, free, used, Model, slotIn, put, model, modelFrom, empty}
+use Rattle.neighbour_machine.specs.Step.{stepOf}
+use Rattle.neighbour_seconds.specs.Seconds.{secondsSum, clockFull}
+use Rattle.gateway_state.proofs.FormedLaws.{is-up}
+use Rattle.neighbour_machine.specs.declared.Event.the-variants.{Tick}
+use Rattle.neighbour.specs.declared.Phase.the-variants.{Up}
+use Rattle.model.specs.Model.{Call, add, tick, Slot, free, used, Model, slotIn, put, noOctets, step, model, modelFrom, empty}
 use Rattle.model.specs.Theorem.{Gateway, outcomeOf, listsNothing, gatewayStep, run, cell, stateOf, rowsHeld, rowsAt, Sensible}
 use Rattle.model.specs.Corollaries.{Taken, slotOn, isUpOn, reports, BothReport, Says, SaysRows}
 use Rattle.model.specs.History.{isUpSlot}
 use Rattle.model.specs.Windows.{recordIn, windows, anyOf, firstFour, oneInFour}
 use Rattle.model.specs.Strays.{ceaseSeven}
-use Rattle.model.specs.Example.{someSettings, quietSettings, lentBuffer, classA, tickSeconds, saysHello, reportingCalls, eight, pollRounds, lastNumber, almostUp, acquiredCalls, greeted, abandoned, slow, late, lateFirst, overdue, EightMet, TimeOutMet, FullMet, LastNumberMet, QuietMet, IndicationMet, EverySecondMet, UnheardMet, TooQuickMet, CallsOn, StrayMet}
+use Rattle.model.specs.Example.{throughAll, briefly, anew, filled, longAdded, brimful, SecondsMet, FullClockMet, someSettings, quietSettings, lentBuffer, classA, tickSeconds, saysHello, reportingCalls, eight, pollRounds, lastNumber, almostUp, acquiredCalls, greeted, abandoned, slow, late, lateFirst, overdue, EightMet, TimeOutMet, FullMet, LastNumberMet, QuietMet, IndicationMet, EverySecondMet, UnheardMet, TooQuickMet, CallsOn, StrayMet}
 use Rattle.model.proofs.Represent.{sound, Good, sound-at}
 use Rattle.model.proofs.Simulation.{represent, simulates}
 use Rattle.model.proofs.History.{model-append}
@@ -55,7 +60,7 @@ use Rattle.model.proofs.Theorem.{step-is, rows-read, run-is, model-good
 use Rattle.model.proofs.Corollaries.{slot-is, good-sensible}
 use Rattle.model.proofs.Quiet.{slot-run, up-run}
 use Rattle.model.proofs.Strays.{settings-stay}
-use Rattle.model.proofs.Computed.{isFull, allReport, fallsSilent, eightFacts, silentFacts, atRest, alone, Rests, entered, greetedFacts, IdleAgain, computed}
+use Rattle.model.proofs.Computed.{isFull, allReport, fallsSilent, eightFacts, silentFacts, atRest, upFor, lone, alone, Rests, ticked, staysUp, greeting, RestsAfter, entered, greetedFacts, IdleAgain, computed}
 
 some-taken : Taken someSettings
 unfolding someSettings Slots.freshOf Slots.freshAnswer Outcomes.silentOf check Formed.goodSettings Classes.goodNet Classes.onNet Classes.netWidth Classes.hostSpan
@@ -86,7 +91,7 @@ module _ (m : Model) (t : allReport m ≡ true) where
   unfolding allReport
   first-reports = and-left _ _ (and-right (every isFull (m .slots)) _ t)
 
-  behind-first : (reports 167772160 (rowsHeld (slotIn m 1)) && (eqb ((cell (slotIn m 0)) .asn) 7 && isUp ((recordIn m 0) .phase))) ≡ true
+  behind-first : (reports 167772160 (rowsHeld (slotIn m 1)) && (eqb ((cell (slotIn m 0)) .asn) 7 && (not (clockFull ((cell (slotIn m 0)) .seconds)) && isUp ((recordIn m 0) .phase)))) ≡ true
   unfolding allReport
   behind-first = and-right (reports 167772160 (rowsHeld (slotIn m 0))) _ (and-right (every isFull (m .slots)) _ t)
 
@@ -96,8 +101,14 @@ module _ (m : Model) (t : allReport m ≡ true) where
   first-asn : (cell (slotIn m 0)) .asn ≡ 7
   first-asn = eqb-true ((cell (slotIn m 0)) .asn) 7 (and-left _ _ (and-right (reports 167772160 (rowsHeld (slotIn m 1))) _ behind-first))
 
+  behind-asn : (not (clockFull ((cell (slotIn m 0)) .seconds)) && isUp ((recordIn m 0) .phase)) ≡ true
+  behind-asn = and-right (eqb ((cell (slotIn m 0)) .asn) 7) _ (and-right (reports 167772160 (rowsHeld (slotIn m 1))) _ behind-first)
+
   first-up : isUp ((recordIn m 0) .phase) ≡ true
-  first-up = and-right (eqb ((cell (slotIn m 0)) .asn) 7) _ (and-right (reports 167772160 (rowsHeld (slotIn m 1))) _ behind-first)
+  first-up = and-right (not (clockFull ((cell (slotIn m 0)) .seconds))) _ behind-asn
+
+  first-time : clockFull ((cell (slotIn m 0)) .seconds) ≡ false
+  first-time = not-true _ (and-left _ _ behind-asn)
 
 module _ (m : Model) (t : eightFacts m ≡ true) where
   all-report : allReport m ≡ true
@@ -258,6 +269,7 @@ eight-met =
       cease = says _ _ (read-back .cease .header) (read-back .cease .from) (read-back .cease .meaning);
       request = says _ _ (read-back .request .header) (read-back .request .from) (read-back .request .meaning);
       still-both = both-in _ (model someSettings (eight ++ tickSeconds 1 609)) still-report (rows-of (eight ++ tickSeconds 1 609));
+      time-left = ap (λ (s : Stored.Slot). clockFull (s .seconds)) (slot-run someSettings some-taken (eight ++ tickSeconds 1 609) 0) ∙ first-time _ still-report;
       silent = ap (λ (n : Neighbour). n .t1) (first-record (eight ++ tickSeconds 1 609)) ∙ one-second _ goes-silent;
       lost =
           ap (λ (n : Neighbour). goesDown (n .mode) (onesOf ((n .register * 2 + n .heard) % 16))) (first-record (eight ++ tickSeconds 1 609))
@@ -292,6 +304,56 @@ full-met =
           });
     }
 
+-- ---- seconds in each state
+
+seconds-run : (calls : List Call) → (slotOn (run someSettings calls) 0) .seconds ≡ (cell (slotIn (model someSettings calls) 0)) .seconds
+seconds-run calls = ap (λ (s : Stored.Slot). s .seconds) (slot-run someSettings some-taken calls 0)
+
+pub seconds-met : SecondsMet
+seconds-met =
+    record {
+      taken = computed .added;
+      kept = computed .kept;
+      counts = seconds-run (add 1 7 ∷ throughAll) ∙ computed .counts;
+      ticked = computed .ticked-so;
+      shortened = computed .shortened;
+      brief = seconds-run briefly ∙ computed .brief;
+      told = computed .told;
+      all = computed .all;
+      again = seconds-run anew ∙ computed .again;
+      told-again = computed .told-again;
+      all-again = computed .all-again;
+    }
+
+sound-filled : (slot : Slot) → sound slot ≡ true → sound (filled slot) ≡ true
+unfolding sound filled
+sound-filled free e = refl
+sound-filled (used p) e = e
+
+long-good : Good longAdded
+unfolding longAdded put
+long-good =
+    let m = model someSettings (add 1 7 ∷ []) in
+    let ok = model-good someSettings some-taken (add 1 7 ∷ []) in
+    record {
+      eight = length-set (m .slots) 0 (filled (slotIn m 0)) ∙ ok .eight;
+      each = every-set sound (m .slots) 0 (filled (slotIn m 0)) (ok .each) (sound-filled (slotIn m 0) (sound-at m ok 0));
+      formed = computed .brim .formed;
+    }
+
+is-brimful : represent longAdded ≡ brimful
+unfolding represent brimful
+is-brimful = refl
+
+pub full-clock-met : FullClockMet
+full-clock-met =
+    let slot : slotOn brimful 0 ≡ cell (slotIn longAdded 0) = ap (λ (b : Gateway). slotOn b 0) (sym is-brimful) ∙ slot-is longAdded long-good 0 in
+    record {
+      sensible = subst Sensible is-brimful (good-sensible longAdded long-good);
+      known = λ e. absurd (omega (arith, sym (ap (λ (s : Stored.Slot). s .address) slot) ∙ e, computed .brim .address));
+      full = ap (λ (s : Stored.Slot). clockFull (s .seconds)) slot ∙ computed .brim .seconds;
+    }
+
 -- ---- t3 run out
 
 sound-late : (slot : Slot) → sound slot ≡ true → sound (late slot) ≡ true
@@ -321,6 +383,7 @@ time-out-met =
     record {
       sensible = subst Sensible is-overdue (good-sensible m late-good);
       both = both-in overdue m (late-report _ eight-facts) (λ j j8. ap (λ (b : Gateway). rowsAt b j) (sym is-overdue) ∙ rows-read m late-good j j8);
+      time-left = ap (λ (b : Gateway). clockFull ((slotOn b 0) .seconds)) (sym is-overdue) ∙ ap (λ (s : Stored.Slot). clockFull (s .seconds)) (slot-is m late-good 0) ∙ first-time m (late-report _ eight-facts);
       due = ap (λ (b : Gateway). (slotOn b 0) .neighbour .t3) (sym is-overdue) ∙ ap (λ (s : Stored.Slot). s .neighbour .t3) (slot-is m late-good 0) ∙ late-due _ eight-facts;
     }
 
@@ -334,72 +397,108 @@ polled-more (suc a) n =
     ap pollRounds e ∙ ap (λ (l : List Call). (saysHello 1 ∷ tickSeconds 1 122) ++ l) (polled-more a n) ∙ sym (append-assoc (saysHello 1 ∷ tickSeconds 1 122) (pollRounds a) (pollRounds n))
 
 -- calls that go on from such a model
-then : {m : Model} {s register heard t1 t2 t3 s′ register′ heard′ t1′ t2′ t3′ : ℕ} → Rests m s register heard t1 t2 t3 → (calls : List Call)
-    → ((n : Neighbour) → Rests (modelFrom (alone (atRest n s register heard t1 t2 t3)) calls) s′ register′ heard′ t1′ t2′ t3′)
-    → Rests (modelFrom m calls) s′ register′ heard′ t1′ t2′ t3′
-then {s′ = s′} {register′ = register′} {heard′ = heard′} {t1′ = t1′} {t2′ = t2′} {t3′ = t3′} r calls h =
-    subst (λ (x : Model). Rests (modelFrom x calls) s′ register′ heard′ t1′ t2′ t3′) (sym (r .is)) (h (r .base))
+then : {m : Model} {u s register heard t1 t2 t3 u′ s′ register′ heard′ t1′ t2′ t3′ : ℕ} → Rests m u s register heard t1 t2 t3 → (calls : List Call)
+    → ((n : Neighbour) → Rests (modelFrom (alone (atRest n s register heard t1 t2 t3) u) calls) u′ s′ register′ heard′ t1′ t2′ t3′)
+    → Rests (modelFrom m calls) u′ s′ register′ heard′ t1′ t2′ t3′
+then {u′ = u′} {s′ = s′} {register′ = register′} {heard′ = heard′} {t1′ = t1′} {t2′ = t2′} {t3′ = t3′} r calls h =
+    subst (λ (x : Model). Rests (modelFrom x calls) u′ s′ register′ heard′ t1′ t2′ t3′) (sym (r .is)) (h (r .base))
+
+-- the clock of a few years is not full
+some-left : (u : ℕ) → u < 4000000000 → clockFull (upFor u) ≡ false
+unfolding clockFull secondsSum
+some-left u h = ne-eqb (0 + 0 + 122 + u + 0) 4294967295 (λ e. absurd (omega (arith, e, h)))
+
+-- so many ticks, Up after each
+ticks : (k : ℕ) (n : Neighbour) (u : ℕ) → u + k < 4000000000 → n .phase ≡ Up → staysUp k n ≡ true
+    → modelFrom (alone n u) (tickSeconds 1 k) ≡ alone (ticked k n) (u + k)
+unfolding tickSeconds modelFrom ticked staysUp
+ticks zero n u h p q = let e : u ≡ u + 0 = omega arith in ap (alone n) e
+ticks (suc k) n u h p q =
+    let next = (stepOf someSettings 7 n Tick noOctets) .neighbour in
+    let up = and-left (isUp (next .phase)) (staysUp k next) q in
+    let one = computed .tick-moves n u (some-left u (omega (arith, h))) p up in
+    let e : u + 1 + k ≡ u + suc k = omega arith in
+    ap (λ (m : Model). modelFrom m (tickSeconds 1 k)) one
+    ∙ ticks k next (u + 1) (omega (arith, h)) (is-up (next .phase) up) (and-right (isUp (next .phase)) (staysUp k next) q)
+    ∙ ap (alone (ticked k next)) e
+
+-- a Hello, then so many ticks
+round : (k : ℕ) (n : Neighbour) (s u : ℕ) {s′ register heard t1 t2 t3 : ℕ} → u + k < 4000000000 → RestsAfter k (greeting n s) s′ register heard t1 t2 t3
+    → Rests (modelFrom (alone (atRest n s 15 0 122 122 3478) u) (saysHello 1 ∷ tickSeconds 1 k)) (u + k) s′ register heard t1 t2 t3
+round k n s u h r =
+    record {
+      base = ticked k (greeting n s);
+      is =
+          model-append (alone (atRest n s 15 0 122 122 3478) u) (saysHello 1 ∷ []) (tickSeconds 1 k)
+          ∙ ap (λ (m : Model). modelFrom m (tickSeconds 1 k)) (computed .hello-moves n s u)
+          ∙ ticks k (greeting n s) u h (computed .greets n s) (r .up) ∙ ap (λ (x : Neighbour). alone x (u + k)) (r .is);
+    }
 
 -- n polls more
-polls : (n s : ℕ) → s + n < 65536 → (k : Neighbour) → Rests (modelFrom (alone (atRest k s 15 0 122 122 3478)) (pollRounds n)) (s + n) 15 0 122 122 3478
+polls : (n u s : ℕ) → s + n < 65536 → u + 122 * n < 4000000000 → (k : Neighbour)
+    → Rests (modelFrom (alone (atRest k s 15 0 122 122 3478) u) (pollRounds n)) (u + 122 * n) (s + n) 15 0 122 122 3478
 unfolding pollRounds modelFrom
-polls zero s h k = let e : s ≡ s + 0 = omega arith in record { base = k; is = ap (λ (j : ℕ). alone (atRest k j 15 0 122 122 3478)) e }
-polls (suc n) s h k =
-    let m = alone (atRest k s 15 0 122 122 3478) in
+polls zero u s h l k =
+    let e : s ≡ s + 0 = omega arith in
+    let f : u ≡ u + 122 * 0 = omega arith in
+    record { base = k; is = ap (λ (j : ℕ). alone (atRest k j 15 0 122 122 3478) u) e ∙ ap (alone (atRest k (s + 0) 15 0 122 122 3478)) f }
+polls (suc n) u s h l k =
+    let m = alone (atRest k s 15 0 122 122 3478) u in
     let one = saysHello 1 ∷ tickSeconds 1 122 in
     let e : (s + 1) % 65536 ≡ suc s = omega (arith, h) in
     let f : suc s + n ≡ s + suc n = omega arith in
-    let r : Rests (modelFrom m one) (suc s) 15 0 122 122 3478 = subst (λ (j : ℕ). Rests (modelFrom m one) j 15 0 122 122 3478) e (computed .once k s) in
-    let q : Rests (modelFrom (modelFrom m one) (pollRounds n)) (suc s + n) 15 0 122 122 3478 = then r (pollRounds n) (polls n (suc s) (omega (arith, h))) in
-    subst (λ (j : ℕ). Rests (modelFrom m (one ++ pollRounds n)) j 15 0 122 122 3478) f
-    (subst (λ (x : Model). Rests x (suc s + n) 15 0 122 122 3478) (sym (model-append m one (pollRounds n))) q)
+    let g : u + 122 + 122 * n ≡ u + 122 * suc n = omega arith in
+    let r : Rests (modelFrom m one) (u + 122) (suc s) 15 0 122 122 3478 =
+    subst (λ (j : ℕ). Rests (modelFrom m one) (u + 122) j 15 0 122 122 3478) e (round 122 k s u (omega (arith, l)) (computed .once k s)) in
+    let q : Rests (modelFrom (modelFrom m one) (pollRounds n)) (u + 122 + 122 * n) (suc s + n) 15 0 122 122 3478 =
+    then r (pollRounds n) (polls n (u + 122) (suc s) (omega (arith, h)) (omega (arith, l))) in
+    subst (λ (j : ℕ). Rests (modelFrom m (one ++ pollRounds n)) j (s + suc n) 15 0 122 122 3478) g
+    (subst (λ (j : ℕ). Rests (modelFrom m (one ++ pollRounds n)) (u + 122 + 122 * n) j 15 0 122 122 3478) f
+    (subst (λ (x : Model). Rests x (u + 122 + 122 * n) (suc s + n) 15 0 122 122 3478) (sym (model-append m one (pollRounds n))) q))
 
 polled-all : pollRounds 65534 ≡ pollRounds 3 ++ pollRounds 65531
 polled-all = polled-more 3 65531
 
-last-model : Rests (model someSettings lastNumber) 65535 15 1 1 1 3479
+last-model : Rests (model someSettings lastNumber) 7995269 65535 15 1 1 1 3479
 unfolding model lastNumber
 last-model =
     let up = modelFrom (empty someSettings) (reportingCalls 1) in
     let second = saysHello 1 ∷ tickSeconds 1 121 in
     let full = then (computed .one-up) (pollRounds 3) (computed .full) in
-    let near = then full (pollRounds 65531) (polls 65531 4 (omega arith)) in
+    let near = then full (pollRounds 65531) (polls 65531 366 4 (omega arith) (omega arith)) in
     let split = model-append (empty someSettings) (reportingCalls 1) (pollRounds 65534 ++ second)
     ∙ model-append up (pollRounds 65534) second
     ∙ ap (λ (l : List Call). modelFrom (modelFrom up l) second) polled-all
     ∙ ap (λ (m : Model). modelFrom m second) (model-append up (pollRounds 3) (pollRounds 65531)) in
-    subst (λ (m : Model). Rests m 65535 15 1 1 1 3479) (sym split) (then near second (computed .due))
+    subst (λ (m : Model). Rests m 7995269 65535 15 1 1 1 3479) (sym split)
+    (then near second (λ n. round 121 n 65535 7995148 (omega arith) (computed .due n)))
 
 -- the neighbour alone in slot 0
-module _ (n : Neighbour) where
-  lone-record : (slotOn (represent (alone n)) 0) .neighbour ≡ n
-  unfolding represent stateOf alone slotAt cell
+module _ (n : Neighbour) (u : ℕ) where
+  lone-record : (slotOn (represent (alone n u)) 0) .neighbour ≡ n
+  unfolding represent stateOf lone slotAt cell
   lone-record = refl
 
-  lone-address : (slotOn (represent (alone n)) 0) .address ≡ 1
-  unfolding represent stateOf alone slotAt cell
+  lone-address : (slotOn (represent (alone n u)) 0) .address ≡ 1
+  unfolding represent stateOf lone slotAt cell
   lone-address = refl
 
-  lone-asn : (slotOn (represent (alone n)) 0) .asn ≡ 7
-  unfolding represent stateOf alone slotAt cell
+  lone-asn : (slotOn (represent (alone n u)) 0) .asn ≡ 7
+  unfolding represent stateOf lone slotAt cell
   lone-asn = refl
+
+  lone-seconds : (slotOn (represent (alone n u)) 0) .seconds ≡ upFor u
+  unfolding represent stateOf lone slotAt cell
+  lone-seconds = refl
 
 abbrev due : Neighbour
 due = atRest (last-model .base) 65535 15 1 1 1 3479
 
-last-run : run someSettings lastNumber ≡ represent (alone due)
+last-run : run someSettings lastNumber ≡ represent (alone due 7995269)
 last-run = run-is someSettings some-taken lastNumber ∙ ap represent (last-model .is)
 
-last-good : Good (alone due)
+last-good : Good (alone due 7995269)
 last-good = subst Good (last-model .is) (model-good someSettings some-taken lastNumber)
-
--- the next tick polls with number 0
-next-run : gatewayStep (tick ((slotOn (run someSettings lastNumber) 0) .address) lentBuffer) (run someSettings lastNumber)
-    ≡ represent (alone (atRest (computed .wraps (last-model .base) .base) 0 15 0 122 122 3478))
-next-run =
-    ap (λ (b : Gateway). gatewayStep (tick ((slotOn b 0) .address) lentBuffer) b) last-run
-    ∙ ap (λ (a : ℕ). gatewayStep (tick a lentBuffer) (represent (alone due))) (lone-address due)
-    ∙ step-is (alone due) last-good (tick 1 lentBuffer) ∙ ap represent (computed .wraps (last-model .base) .is)
 
 module _ (n : Neighbour) (s register heard t1 t2 t3 : ℕ) where
   rest-up : isUp ((atRest n s register heard t1 t2 t3) .phase) ≡ true
@@ -414,15 +513,31 @@ module _ (n : Neighbour) (s register heard t1 t2 t3 : ℕ) where
   unfolding atRest withReach withTimers
   rest-poll = refl
 
+one-more : (step (tick 1 lentBuffer) (alone due 7995269)) .model ≡ alone (atRest (ticked 1 due) 0 15 0 122 122 3478) 7995270
+unfolding tickSeconds modelFrom
+one-more =
+    let w = computed .wraps (last-model .base) in
+    ticks 1 due 7995269 (omega arith) (is-up (due .phase) (rest-up _ 65535 15 1 1 1 3479)) (w .up) ∙ ap (λ (n : Neighbour). alone n 7995270) (w .is)
+
+-- the next tick polls with number 0
+next-run : gatewayStep (tick ((slotOn (run someSettings lastNumber) 0) .address) lentBuffer) (run someSettings lastNumber)
+    ≡ represent (alone (atRest (ticked 1 due) 0 15 0 122 122 3478) 7995270)
+next-run =
+    ap (λ (b : Gateway). gatewayStep (tick ((slotOn b 0) .address) lentBuffer) b) last-run
+    ∙ ap (λ (a : ℕ). gatewayStep (tick a lentBuffer) (represent (alone due 7995269))) (lone-address due 7995269)
+    ∙ step-is (alone due 7995269) last-good (tick 1 lentBuffer) ∙ ap represent one-more
+
 pub last-number-met : LastNumberMet
 last-number-met =
-    let record-is : (slotOn (run someSettings lastNumber) 0) .neighbour ≡ due = ap (λ (b : Gateway). (slotOn b 0) .neighbour) last-run ∙ lone-record due in
+    let record-is : (slotOn (run someSettings lastNumber) 0) .neighbour ≡ due = ap (λ (b : Gateway). (slotOn b 0) .neighbour) last-run ∙ lone-record due 7995269 in
     record {
+      time-left =
+          ap (λ (b : Gateway). clockFull ((slotOn b 0) .seconds)) last-run ∙ ap clockFull (lone-seconds due 7995269) ∙ some-left 7995269 (omega arith);
       number = ap (λ (n : Neighbour). n .s) record-is ∙ rest-number _ 65535 15 1 1 1 3479;
       due = ap (λ (n : Neighbour). n .t2) record-is ∙ rest-poll _ 65535 15 1 1 1 3479;
       up = ap (λ (n : Neighbour). isUp (n .phase)) record-is ∙ rest-up _ 65535 15 1 1 1 3479;
       still =
-          ap (λ (b : Gateway). isUpOn b 0) next-run ∙ ap (λ (n : Neighbour). isUp (n .phase)) (lone-record _) ∙ rest-up _ 0 15 0 122 122 3478;
+          ap (λ (b : Gateway). isUpOn b 0) next-run ∙ ap (λ (n : Neighbour). isUp (n .phase)) (lone-record _ 7995270) ∙ rest-up _ 0 15 0 122 122 3478;
       update =
           record {
             asn = 7;
@@ -433,7 +548,7 @@ last-number-met =
                   room = enough;
                   good-home = ap (λ (g : Settings). goodHome g []) (run-settings lastNumber) ∙ home-empty;
                   header = read-back .update .header;
-                  from = read-back .update .from ∙ sym (ap (λ (b : Gateway). (slotOn b 0) .asn) last-run ∙ lone-asn due);
+                  from = read-back .update .from ∙ sym (ap (λ (b : Gateway). (slotOn b 0) .asn) last-run ∙ lone-asn due 7995269);
                   meaning = read-back .update .meaning;
                 };
             body = body-on (run someSettings lastNumber) _ _ (run-settings lastNumber) (read-back .body);
@@ -518,15 +633,15 @@ module _ (m : Model) (t : greetedFacts m ≡ true) where
   unfolding greetedFacts
   greeted-asn = eqb-true ((cell (slotIn m 0)) .asn) 7 (and-left _ _ t)
 
-  behind-asn : (acquired ((recordIn m 0) .phase) && (ltb ((recordIn m 0) .sincehello) 30 && ltb ((recordIn m 0) .sincepoll) 120)) ≡ true
+  behind-seven : (acquired ((recordIn m 0) .phase) && (ltb ((recordIn m 0) .sincehello) 30 && ltb ((recordIn m 0) .sincepoll) 120)) ≡ true
   unfolding greetedFacts
-  behind-asn = and-right (eqb ((cell (slotIn m 0)) .asn) 7) _ t
+  behind-seven = and-right (eqb ((cell (slotIn m 0)) .asn) 7) _ t
 
   greeted-reached : acquired ((recordIn m 0) .phase) ≡ true
-  greeted-reached = and-left _ _ behind-asn
+  greeted-reached = and-left _ _ behind-seven
 
   greeted-soon : (ltb ((recordIn m 0) .sincehello) 30 && ltb ((recordIn m 0) .sincepoll) 120) ≡ true
-  greeted-soon = and-right (acquired ((recordIn m 0) .phase)) _ behind-asn
+  greeted-soon = and-right (acquired ((recordIn m 0) .phase)) _ behind-seven
 
   hello-soon : (recordIn m 0) .sincehello < 30
   hello-soon = ltb-true ((recordIn m 0) .sincehello) 30 (and-left _ _ greeted-soon)

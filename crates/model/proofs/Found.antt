@@ -27,7 +27,7 @@ use Rattle.gateway_state.specs.declared.Slot as Stored
 use Rattle.gateway_state.specs.Slots.{freeSlot}
 use Rattle.gateway_state.proofs.Theorems.{slot-unique}
 use Rattle.gateway_rules.specs.Home.{goodHome}
-use Rattle.model.specs.Model.{Slot, free, used, Model, slotIn, put, foundAt, isPresent, Move, noOctets, rowsInPhase, moved, eventMove, bodyAnswer, isUpdate, kindAnswer, answerTo, firstTwelve, afterMessage, rowsAfter, messageMove, eventAnswer, messageAnswer, turnAt, eventTurn, messageTurn, Peer}
+use Rattle.model.specs.Model.{Slot, free, used, Model, slotIn, put, foundAt, isPresent, Move, noOctets, rowsInPhase, moved, eventMove, bodyAnswer, isUpdate, kindAnswer, answerTo, firstTwelve, afterMessage, rowsAfter, messageMove, isLate, eventAnswer, messageAnswer, turnAt, eventTurn, messageTurn, Peer}
 use Rattle.model.specs.Theorem.{cell, stateOf, rowsHeld, peerFrom}
 use Rattle.model.proofs.Represent.{sound, Good, slot-of, at-of, eight-of, sound-at}
 use Rattle.model.proofs.Simulation.{spoken-answer}
@@ -70,10 +70,10 @@ module _ (m : Model) (ok : Good m) (j : ℕ) (j8 : j < 8) where
     unfolding turnAt ifOk
     turn-answer k move home z = rw (z, place-here, here) (spoken-answer ((move (used peer)) .answer) ((move (used peer)) .reply) home)
 
-    pub event-slot : (event : Intrinsic) (buffer : List ℕ) → leb 2048 (length buffer) ≡ true
+    pub event-slot : (event : Intrinsic) (buffer : List ℕ) → leb 2048 (length buffer) ≡ true → isLate event (used peer) ≡ false
         → slotIn ((eventTurn event m (peer .address) buffer) .model) j ≡ (eventMove (m .settings) event (used peer)) .slot
     unfolding eventTurn eventAnswer check
-    event-slot event buffer r = turn-slot (eventAnswer m (peer .address) buffer) (eventMove (m .settings) event) [] (rw (r, present-here))
+    event-slot event buffer r l = turn-slot (eventAnswer event m (peer .address) buffer) (eventMove (m .settings) event) [] (rw (r, present-here, place-here, here, l))
 
     module _ (o home buffer : List ℕ) (r : leb 2048 (length buffer) ≡ true) (h : goodHome (m .settings) home ≡ true) where
       pub message-slot : slotIn ((messageTurn m (peer .address) o home buffer) .model) j ≡ (messageMove (m .settings) o (used peer)) .slot

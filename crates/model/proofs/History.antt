@@ -145,7 +145,7 @@ module _ (m : Model) (ok : Good m) (j : ℕ) (j8 : j < 8) where
   event-told : (event : Intrinsic) (a : ℕ) (buffer : List ℕ) (read : List Row) → Tells (slotIn m j) (slotIn ((eventTurn event m a buffer) .model) j) false read
   unfolding eventTurn turnAt
   event-told event a buffer read =
-      put-tells (eventAnswer m a buffer) (foundAt m a) _ false read (λ _. refl) (λ _. refl)
+      put-tells (eventAnswer event m a buffer) (foundAt m a) _ false read (λ _. refl) (λ _. refl)
       (λ _ e. rw e (event-tells (m .settings) event (slotIn m j) read (good-at m ok j)))
 
   message-told : (a : ℕ) (o home buffer : List ℕ)
@@ -261,7 +261,7 @@ module _ (m : Model) (ok : Good m) (j : ℕ) where
     unfolding isElsewhere isAbout step addTurn removeTurn eventTurn messageTurn listingTurn turnAt
     step-others (add a as₀) e = put-others (answerToAdd m a as₀) (vacancy m) _ (λ z. free-other (add-free m ok a as₀ z))
     step-others (remove a) e = put-others (answerToRemove m a) (foundAt m a) _ (λ z. found-other a e (remove-below m ok a z))
-    step-others (happen event a buffer) e = put-others (eventAnswer m a buffer) (foundAt m a) _ (λ z. found-other a e (event-below m ok a buffer z))
+    step-others (happen event a buffer) e = put-others (eventAnswer event m a buffer) (foundAt m a) _ (λ z. found-other a e (event-below m ok event a buffer z))
     step-others (receive a o home buffer) e = put-others (messageAnswer m a home buffer) (foundAt m a) _ (λ z. found-other a e (message-below m ok a home buffer z))
     step-others (listing buffer) e = refl
 
@@ -294,7 +294,7 @@ module _ (m : Model) (ok : Good m) (j : ℕ) (here : slotIn m j ≡ free) where
   unfolding takesNoSlot step removeTurn eventTurn messageTurn listingTurn turnAt
   step-free (add a as₀) e = absurd (false≢true e)
   step-free (remove a) e = put-others m ok j (answerToRemove m a) (foundAt m a) _ (λ z. found-elsewhere a (remove-below m ok a z))
-  step-free (happen event a buffer) e = put-others m ok j (eventAnswer m a buffer) (foundAt m a) _ (λ z. found-elsewhere a (event-below m ok a buffer z))
+  step-free (happen event a buffer) e = put-others m ok j (eventAnswer event m a buffer) (foundAt m a) _ (λ z. found-elsewhere a (event-below m ok event a buffer z))
   step-free (receive a o home buffer) e = put-others m ok j (messageAnswer m a home buffer) (foundAt m a) _ (λ z. found-elsewhere a (message-below m ok a home buffer z))
   step-free (listing buffer) e = refl
 

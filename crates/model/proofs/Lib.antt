@@ -6,6 +6,8 @@ pub mod Listed
 pub mod Moves
 pub mod Simulation
 pub mod History
+pub mod Puts
+pub mod Ticks
 pub mod Theorem
 pub mod AnyState
 pub mod Steady
@@ -19,6 +21,7 @@ pub mod Quick
 pub mod QuickRuns
 pub mod TooQuick
 pub mod Strays
+pub mod Seconds
 pub mod Unfolded
 pub mod Computed
 pub mod Example

@@ -51,9 +51,9 @@ reads-here table counts k slot l h =
     subst (λ (n : ℕ). readRows table counts n ≡ rowsHeld slot) e (h 0 (omega arith))
 
 entry-is : (table counts : List ℕ) (k : ℕ) (peer : Peer) → readRows table counts k ≡ peer .rows
-    → entryOf k (cell (used peer)) table counts ≡ entryFor k (peer .address) (peer .asn) (peer .neighbour) (peer .rows)
+    → entryOf k (cell (used peer)) table counts ≡ entryFor k (peer .address) (peer .asn) (peer .neighbour) (peer .rows) (peer .seconds)
 unfolding entryOf cell
-entry-is table counts k peer e = ap (entryFor k (peer .address) (peer .asn) (peer .neighbour)) e
+entry-is table counts k peer e = ap (λ (rows : List Row). entryFor k (peer .address) (peer .asn) (peer .neighbour) rows (peer .seconds)) e
 
 listed-from : (table counts : List ℕ) (k : ℕ) (l : List Slot) → every sound l ≡ true → ReadsBack table counts k l
     → entriesFrom k (map cell l) table counts ≡ listedFrom k l
@@ -63,7 +63,7 @@ listed-from table counts k (free ∷ l) s h = listed-from table counts (suc k) l
 listed-from table counts k (used peer ∷ l) s h =
     let slot = used peer in
     rw (not-true (eqb (peer .address) 0) (and-left (sound slot) (every sound l) s), entry-is table counts k peer (reads-here table counts k slot l h))
-    (ap (λ (r : List Entry). entryFor k (peer .address) (peer .asn) (peer .neighbour) (peer .rows) ∷ r)
+    (ap (λ (r : List Entry). entryFor k (peer .address) (peer .asn) (peer .neighbour) (peer .rows) (peer .seconds) ∷ r)
     (listed-from table counts (suc k) l (and-right (sound slot) (every sound l) s) (reads-next table counts k slot l h)))
 
 -- ---- the rows
@@ -130,7 +130,7 @@ message-marks g o free h e = refl
 message-marks g o (used peer) h e = go (eqb (answerTo g (peer .asn) (peer .neighbour) o) 0)
   where
     go : (b : Bool)
-        → marked ((cond b (moved peer (afterMessage g (peer .asn) (peer .neighbour) o (decodeOf o)) (rowsAfter g (peer .neighbour) o (decodeOf o) (peer .rows)))
+        → marked ((cond b (moved peer (afterMessage g (peer .asn) (peer .neighbour) o (decodeOf o)) (rowsAfter g (peer .neighbour) o (decodeOf o) (peer .rows)) (peer .seconds))
         (refusedMove g o peer (answerTo g (peer .asn) (peer .neighbour) o))) .slot) ≡ true
     go true = rows-marks _ (rowsAfter g (peer .neighbour) o (decodeOf o) (peer .rows)) (after-marks g (peer .neighbour) o (decodeOf o) (peer .rows) h e)
     go false = e

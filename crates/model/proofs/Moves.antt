@@ -23,19 +23,22 @@ use Rattle.neighbour.specs.declared.Settings.{Settings}
 use Rattle.neighbour.specs.declared.Neighbour.{Neighbour}
 use Rattle.neighbour.specs.Rules.{same}
 use Rattle.neighbour_machine.specs.declared.Event.the-variants.{Received}
-use Rattle.neighbour_machine.specs.Intrinsics.{Intrinsic, asEvent}
+use Rattle.neighbour_seconds.specs.declared.Seconds.{Seconds}
+use Rattle.neighbour_machine.specs.Intrinsics.{Intrinsic, Start, Stop, Tick, asEvent}
+use Rattle.gateway_state.specs.declared.Slot as Stored
 use Rattle.neighbour_machine.specs.declared.After.{After}
 use Rattle.neighbour_machine.specs.Step.{stepOf}
 use Rattle.gateway_state.specs.Claims.{SlotGood}
 use Rattle.gateway_rules.specs.Number.{bodyNumber, messageNumber, errorHead, errorTo, refuseTo, namedReply}
 use Rattle.gateway_rules.specs.Ruling.{Change, keep, clear, replace, Ruling, leaving, stepped, refuses, changeBy, carriedOut, receiveRuling}
 use Rattle.gateway_rules.specs.Ruling as Ruled
+use Rattle.gateway_rules.specs.Seconds.{secondMore, booked}
 use Rattle.gateway_rules.specs.Carried.{countAfter, slotAfter}
 use Rattle.gateway_rules.specs.Calls.{noHead}
 use Rattle.gateway_rules.proofs.Number.{meaningNumber, kindNumber, message-number, NumberPassed, number-passed}
 use Rattle.gateway_rules.proofs.Rulings.{receive-holds}
 use Rattle.gateway_theorems.proofs.Calls.{after-up}
-use Rattle.model.specs.Model.{Slot, used, Move, rowsInPhase, moved, noOctets, eventMove, bodyAnswer, isUpdate, kindAnswer, answerTo, firstTwelve, errorReply, refuseReply, refusalReply, afterMessage, rowsAfter, messageMove, Peer, peerWith, refusedMove}
+use Rattle.model.specs.Model.{Slot, used, Move, rowsInPhase, moved, noOctets, secondsAfter, eventMove, bodyAnswer, isUpdate, kindAnswer, answerTo, firstTwelve, errorReply, refuseReply, refusalReply, afterMessage, rowsAfter, messageMove, Peer, peerWith, refusedMove}
 use Rattle.model.specs.Theorem.{cell, rowsHeld, part}
 
 pub no-rows : (rows : List Row) → length rows ≡ 0 → rows ≡ []
@@ -53,11 +56,15 @@ partFrom keep old = old
 partFrom clear old = padded 384 (flat [])
 partFrom (replace new) old = padded 384 (flat new)
 
--- the ruling on what a slot is shown as, and the move of the slot
-pub record Agrees (old : Slot) (x : Ruling) (move : Move) : Type 0 where
+-- what a used slot is shown as, once these are its seconds
+abbrev pub cellWith : Peer → Seconds → Stored.Slot
+cellWith p s = record { address = p .address; asn = p .asn; neighbour = p .neighbour; rows = length (p .rows); seconds = s }
+
+-- the ruling on what a slot is shown as, once a tick is booked there, and the move of the slot
+pub record Agrees (old : Slot) (shown : Stored.Slot) (x : Ruling) (move : Move) : Type 0 where
   pub answer : x .answer ≡ move .answer
   pub reply : x .reply ≡ move .reply
-  pub cell-is : slotAfter (cell old) x ≡ cell (move .slot)
+  pub cell-is : slotAfter shown x ≡ cell (move .slot)
   pub part-is : part (move .slot) ≡ partFrom (x .change) (part old)
 
 part-from : (change : Change) (rows : List Row) → padded 384 (flat (rowsFrom change rows)) ≡ partFrom change (padded 384 (flat rows))
@@ -72,17 +79,17 @@ count-from keep rows = refl
 count-from clear rows = refl
 count-from (replace new) rows = refl
 
-agrees : (peer : Peer) (x : Ruling) (move : Move)
+agrees : (peer : Peer) (s : Seconds) (x : Ruling) (move : Move)
     → x .answer ≡ move .answer → x .reply ≡ move .reply
-    → move .slot ≡ used (peerWith peer (x .neighbour) (rowsFrom (x .change) (peer .rows)))
-    → Agrees (used peer) x move
+    → move .slot ≡ used (peerWith peer (x .neighbour) (rowsFrom (x .change) (peer .rows)) s)
+    → Agrees (used peer) (cellWith peer s) x move
 unfolding slotAfter cell part rowsHeld
-agrees peer x move a r s =
+agrees peer s x move a r e =
     record {
       answer = a;
       reply = r;
-      cell-is = rw (s, count-from (x .change) (peer .rows));
-      part-is = rw s (part-from (x .change) (peer .rows));
+      cell-is = rw (e, count-from (x .change) (peer .rows));
+      part-is = rw e (part-from (x .change) (peer .rows));
     }
 
 -- ---- a step of the machine
@@ -134,16 +141,24 @@ module _ (peer : Peer) (good : SlotGood (cell (used peer))) where
   unfolding cell
   none-unless-up e = good .none e
 
-  stepped-agrees : (after : After) → Agrees (used peer) (stepped (peer .neighbour) after) (moved peer after (peer .rows))
+  stepped-agrees : (after : After) (s : Seconds) → Agrees (used peer) (cellWith peer s) (stepped (peer .neighbour) after) (moved peer after (peer .rows) s)
   unfolding stepped moved
-  stepped-agrees after =
-      agrees peer (stepped (peer .neighbour) after) (moved peer after (peer .rows)) refl refl
-      (ap (λ (l : List Row). used (peerWith peer (after .neighbour) l)) (rows-step (peer .neighbour .phase) (after .neighbour .phase) (peer .rows) none-unless-up))
+  stepped-agrees after s =
+      agrees peer s (stepped (peer .neighbour) after) (moved peer after (peer .rows) s) refl refl
+      (ap (λ (l : List Row). used (peerWith peer (after .neighbour) l s)) (rows-step (peer .neighbour .phase) (after .neighbour .phase) (peer .rows) none-unless-up))
+
+  -- a tick is booked on both sides before it is carried out
+  booked-cell : (event : Intrinsic) → booked (asEvent event) (cell (used peer)) ≡ cellWith peer (secondsAfter (asEvent event) peer)
+  unfolding cell booked secondMore secondsAfter
+  booked-cell Start = refl
+  booked-cell Stop = refl
+  booked-cell Tick = refl
 
   pub event-agrees : (g : Settings) (event : Intrinsic)
-      → Agrees (used peer) (stepped (peer .neighbour) (stepOf g (peer .asn) (peer .neighbour) (asEvent event) noHead)) (eventMove g event (used peer))
+      → Agrees (used peer) (booked (asEvent event) (cell (used peer)))
+      (stepped (peer .neighbour) (stepOf g (peer .asn) (peer .neighbour) (asEvent event) noHead)) (eventMove g event (used peer))
   unfolding eventMove noHead noOctets
-  event-agrees g event = stepped-agrees (stepOf g (peer .asn) (peer .neighbour) (asEvent event) noOctets)
+  event-agrees g event = rw (booked-cell event) (stepped-agrees (stepOf g (peer .asn) (peer .neighbour) (asEvent event) noOctets) (secondsAfter (asEvent event) peer))
 
   -- ---- a message
 
@@ -152,14 +167,14 @@ module _ (peer : Peer) (good : SlotGood (cell (used peer))) where
     after = afterMessage g (peer .asn) (peer .neighbour) o (decodeOf o)
 
     abbrev Right : Ruling → Type 0
-    Right x = Agrees (used peer) x (messageMove g o (used peer))
+    Right x = Agrees (used peer) (cellWith peer (peer .seconds)) x (messageMove g o (used peer))
 
     refused-right : (k : ℕ) → (k ≡ 0 → ⊥) → messageNumber 128 g (peer .asn) (peer .neighbour) o ≡ k
         → Right (refuses (peer .neighbour) k (namedReply g (peer .neighbour) o k))
     unfolding messageMove ifOk refuses rowsFrom
     refused-right k z e =
         rw (← (number-same g (peer .asn) (peer .neighbour) o), e, ne-eqb k 0 z)
-        (agrees peer (refuses (peer .neighbour) k (namedReply g (peer .neighbour) o k)) (refusedMove g o peer k) refl (reply-same g (peer .neighbour) o k) refl)
+        (agrees peer (peer .seconds) (refuses (peer .neighbour) k (namedReply g (peer .neighbour) o k)) (refusedMove g o peer k) refl (reply-same g (peer .neighbour) o k) refl)
 
     -- the rows of an accepted Update, which finds and leaves its neighbour Up, or what the step leaves of those there
     -- were
@@ -180,8 +195,9 @@ module _ (peer : Peer) (good : SlotGood (cell (used peer))) where
     unfolding messageMove ifOk moved carriedOut
     carried-right e =
         rw (← (number-same g (peer .asn) (peer .neighbour) o), e, after-same g (peer .asn) (peer .neighbour) o (decodeOf o))
-        (agrees peer (carriedOut 128 g (peer .neighbour) o after) (moved peer after (rowsAfter g (peer .neighbour) o (decodeOf o) (peer .rows))) refl refl
-        (ap (λ (l : List Row). used (peerWith peer (after .neighbour) l)) (carried-rows (number-passed 128 g (peer .asn) (peer .neighbour) o e))))
+        (agrees peer (peer .seconds) (carriedOut 128 g (peer .neighbour) o after)
+        (moved peer after (rowsAfter g (peer .neighbour) o (decodeOf o) (peer .rows)) (peer .seconds)) refl refl
+        (ap (λ (l : List Row). used (peerWith peer (after .neighbour) l (peer .seconds))) (carried-rows (number-passed 128 g (peer .asn) (peer .neighbour) o e))))
 
     pub message-agrees : Right (receiveRuling 128 g (peer .asn) (peer .neighbour) o)
     message-agrees = receive-holds 128 g (peer .asn) (peer .neighbour) o Right refused-right carried-right

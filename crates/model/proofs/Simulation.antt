@@ -2,7 +2,7 @@
 use Prim.Native.Nat.{ℕ, _<_}
 use native.Mathlib.Omega.{arith}
 use mathlib.Core.Path.{_≡_, refl, sym, _∙_, ap}
-use mathlib.Core.Bool.{Bool, true, false, cond, false≢true, true≢false}
+use mathlib.Core.Bool.{Bool, true, false, cond, not, false≢true, true≢false}
 use mathlib.Core.List.{List, [], _++_, append-nil}
 use lib.Dec.{ltb, eqb}
 use lib.ListN.{length, length-set}
@@ -17,7 +17,9 @@ use Rattle.neighbour.specs.declared.Phase.{Phase}
 use Rattle.neighbour.specs.declared.Phase.the-variants as Phases
 use Rattle.neighbour.specs.declared.Settings.{Settings}
 use Rattle.neighbour.specs.Record.{isIdle, isUp}
-use Rattle.neighbour_machine.specs.Intrinsics.{Intrinsic, asEvent}
+use Rattle.neighbour_seconds.specs.Seconds.{secondsSum, clockFull}
+use Rattle.neighbour_machine.specs.Intrinsics.{Intrinsic, Start, Stop, Tick, asEvent}
+use Rattle.gateway_state.specs.declared.Slot as Stored
 use Rattle.neighbour_machine.specs.declared.Reply.{Reply}
 use Rattle.neighbour_machine.specs.declared.Reply.the-variants.{Nothing, One, Two}
 use Rattle.neighbour_machine.specs.Step.{stepOf}
@@ -33,13 +35,14 @@ use Rattle.gateway_slots.specs.Calls as Slots
 use Rattle.gateway_slots.specs.Calls.{addOf, removeOf}
 use Rattle.gateway_rules.specs.Home.{goodHome}
 use Rattle.gateway_rules.specs.Ruling.{Change, keep, clear, replace, Ruling, stepped, receiveRuling}
+use Rattle.gateway_rules.specs.Seconds.{hasTime, booked}
 use Rattle.gateway_rules.specs.Carried as Carried
 use Rattle.gateway_rules.specs.Carried.{firstOctets, secondOctets, replyOctets, outcomeAfter}
 use Rattle.gateway_rules.specs.Calls.{tableFits, lentChecks, eventChecks, messageChecks, noHead, updateRoom, eventRuling, messageRuling, eventOutcome, eventTable, eventBuffer, messageOutcome, messageTable, messageBuffer}
 use Rattle.gateway_theorems.proofs.Formed.{well-formed-kept}
 use Rattle.listing_lines.specs.Lines.{listingText}
 use Rattle.listing_lines.specs.Listing.{listingOutcome, listingBuffer}
-use Rattle.model.specs.Model.{isFree, noMove, moved, answerTo, afterMessage, rowsAfter, Call, add, remove, happen, receive, listing, Slot, free, used, Model, slotIn, put, hasAddress, foundAt, isPresent, vacancy, Said, silent, spoken, addable, answerToAdd, isIdleSlot, answerToRemove, addTurn, removeTurn, Move, eventMove, messageMove, eventAnswer, messageAnswer, turnAt, eventTurn, messageTurn, listed, listingAnswer, listingSaid, listingTurn, step, Peer, newPeer, refusedMove}
+use Rattle.model.specs.Model.{isFree, noMove, moved, answerTo, afterMessage, rowsAfter, Call, add, remove, happen, receive, listing, Slot, free, used, Model, slotIn, put, hasAddress, foundAt, isPresent, vacancy, Said, silent, spoken, addable, answerToAdd, isIdleSlot, answerToRemove, addTurn, removeTurn, Move, eventMove, messageMove, isLate, eventAnswer, messageAnswer, turnAt, eventTurn, messageTurn, listed, listingAnswer, listingSaid, listingTurn, step, Peer, newPeer, refusedMove}
 use Rattle.model.specs.Theorem.{Gateway, outcomeOf, tableLeft, bufferOf, bufferLeft, listsNothing, cell, stateOf, rowsHeld, part, tableOf}
 use Rattle.model.proofs.Represent.{sound, Good, used-at, slot-of, lowest-of, at-of, state-ok, good-at, sound-at, state-with, table-length, table-with, table-same}
 use Rattle.model.proofs.Listed.{Marked, entries-of, listing-answer}
@@ -115,7 +118,7 @@ message-sound g o free e = refl
 message-sound g o (used peer) e = go (eqb (answerTo g (peer .asn) (peer .neighbour) o) 0)
   where
     go : (b : Bool)
-        → sound ((cond b (moved peer (afterMessage g (peer .asn) (peer .neighbour) o (decodeOf o)) (rowsAfter g (peer .neighbour) o (decodeOf o) (peer .rows)))
+        → sound ((cond b (moved peer (afterMessage g (peer .asn) (peer .neighbour) o (decodeOf o)) (rowsAfter g (peer .neighbour) o (decodeOf o) (peer .rows)) (peer .seconds))
         (refusedMove g o peer (answerTo g (peer .asn) (peer .neighbour) o))) .slot) ≡ true
     go true = e
     go false = e
@@ -145,13 +148,13 @@ module _ (m : Model) (ok : Good m) where
   table-after i new counts clear h e = sym (table-with m ok i new h ∙ ap (withPart (tableOf m) i) e)
   table-after i new counts (replace rows) h e = sym (table-with m ok i new h ∙ ap (withPart (tableOf m) i) e)
 
-  moved-shown : (i : ℕ) (x : Ruling) (home : List Row) (move : Move) (buffer : List ℕ) → i < 8 → Agrees (slotIn m i) x move
-      → Shown (outcomeAfter (stateOf m) i x home) (Carried.tableAfter (tableOf m) (rowCounts (stateOf m)) i (x .change)) (Carried.bufferAfter buffer (x .reply) home)
+  moved-shown : (i : ℕ) (slot : Stored.Slot) (x : Ruling) (home : List Row) (move : Move) (buffer : List ℕ) → i < 8 → Agrees (slotIn m i) slot x move
+      → Shown (outcomeAfter (stateOf m) i slot x home) (Carried.tableAfter (tableOf m) (rowCounts (stateOf m)) i (x .change)) (Carried.bufferAfter buffer (x .reply) home)
       (put m i (move .slot)) (spoken (move .answer) (move .reply) home) buffer
   unfolding outcomeAfter Carried.bufferAfter replyOctets
-  moved-shown i x home move buffer h a =
+  moved-shown i slot x home move buffer h a =
       record {
-        state = rw (at-of m ok i, a .cell-is) (sym (state-with m ok i (move .slot)));
+        state = rw (a .cell-is) (sym (state-with m ok i (move .slot)));
         table = table-after i (move .slot) (rowCounts (stateOf m)) (x .change) h (a .part-is);
         answer = a .answer ∙ sym (spoken-answer (move .answer) (move .reply) home);
         first = rw (a .reply, spoken-first (move .answer) (move .reply) home);
@@ -175,11 +178,20 @@ module _ (m : Model) (ok : Good m) where
 
   -- ---- Start, Stop, tick
 
-  event-answer : (event : Intrinsic) (a : ℕ) (buffer : List ℕ) → eventChecks event (stateOf m) (tableOf m) buffer a ≡ eventAnswer m a buffer
+  on-time : (event : Intrinsic) (slot : Slot) → hasTime (asEvent event) ((cell slot) .seconds) ≡ not (isLate event slot)
+  unfolding hasTime isLate cell freeSlot clockFull secondsSum
+  on-time Start free = refl
+  on-time Stop free = refl
+  on-time Tick free = refl
+  on-time Start (used peer) = refl
+  on-time Stop (used peer) = refl
+  on-time Tick (used peer) = refl
+
+  event-answer : (event : Intrinsic) (a : ℕ) (buffer : List ℕ) → eventChecks event (stateOf m) (tableOf m) buffer a ≡ eventAnswer event m a buffer
   unfolding eventChecks lentChecks eventAnswer check
   event-answer event a buffer =
       check-holds (stateFormed (stateOf m)) 1 _ (ok .formed) ∙ check-holds (tableFits (tableOf m)) 2 _ (eq-eqb (length (tableOf m)) 3072 (table-length m ok))
-      ∙ rw (present-of a)
+      ∙ rw (present-of a, slot-of m ok a, at-of m ok (foundAt m a), on-time event (slotIn m (foundAt m a)))
 
   message-answer : (a : ℕ) (home buffer : List ℕ) → messageChecks (stateOf m) (tableOf m) buffer home a ≡ messageAnswer m a home buffer
   unfolding messageChecks lentChecks messageAnswer stateOf check
@@ -187,9 +199,9 @@ module _ (m : Model) (ok : Good m) where
       check-holds (stateFormed (stateOf m)) 1 _ (ok .formed) ∙ check-holds (tableFits (tableOf m)) 2 _ (eq-eqb (length (tableOf m)) 3072 (table-length m ok))
       ∙ rw (present-of a)
 
-  pub event-below : (a : ℕ) (buffer : List ℕ) → eventAnswer m a buffer ≡ 0 → foundAt m a < 8
+  pub event-below : (event : Intrinsic) (a : ℕ) (buffer : List ℕ) → eventAnswer event m a buffer ≡ 0 → foundAt m a < 8
   unfolding eventAnswer
-  event-below a buffer z = found-below a (check-passed (isPresent m a) 5 0 refl (check-passed _ 3 _ refl z .1) .0)
+  event-below event a buffer z = found-below a (check-passed (isPresent m a) 5 _ refl (check-passed _ 3 _ refl z .1) .0)
 
   pub message-below : (a : ℕ) (home buffer : List ℕ) → messageAnswer m a home buffer ≡ 0 → foundAt m a < 8
   unfolding messageAnswer
@@ -201,30 +213,30 @@ module _ (m : Model) (ok : Good m) where
   settings-of = refl
 
   event-move : (event : Intrinsic) (slot : Slot) → SlotGood (cell slot) → (a : ℕ) → hasAddress a slot ≡ true
-      → Agrees slot (stepped ((cell slot) .neighbour) (stepOf (m .settings) ((cell slot) .asn) ((cell slot) .neighbour) (asEvent event) noHead)) (eventMove (m .settings) event slot)
+      → Agrees slot (booked (asEvent event) (cell slot)) (stepped ((cell slot) .neighbour) (stepOf (m .settings) ((cell slot) .asn) ((cell slot) .neighbour) (asEvent event) noHead)) (eventMove (m .settings) event slot)
   unfolding cell
   event-move event slot good a e =
       used-at
-      (λ s. SlotGood (cell s) → Agrees s (stepped ((cell s) .neighbour) (stepOf (m .settings) ((cell s) .asn) ((cell s) .neighbour) (asEvent event) noHead)) (eventMove (m .settings) event s))
+      (λ s. SlotGood (cell s) → Agrees s (booked (asEvent event) (cell s)) (stepped ((cell s) .neighbour) (stepOf (m .settings) ((cell s) .asn) ((cell s) .neighbour) (asEvent event) noHead)) (eventMove (m .settings) event s))
       a (λ peer k. event-agrees peer k (m .settings) event) slot e good
 
   message-move : (o : List ℕ) (slot : Slot) → SlotGood (cell slot) → (a : ℕ) → hasAddress a slot ≡ true
-      → Agrees slot (receiveRuling 128 (m .settings) ((cell slot) .asn) ((cell slot) .neighbour) o) (messageMove (m .settings) o slot)
+      → Agrees slot (cell slot) (receiveRuling 128 (m .settings) ((cell slot) .asn) ((cell slot) .neighbour) o) (messageMove (m .settings) o slot)
   unfolding cell
   message-move o slot good a e =
       used-at
-      (λ s. SlotGood (cell s) → Agrees s (receiveRuling 128 (m .settings) ((cell s) .asn) ((cell s) .neighbour) o) (messageMove (m .settings) o s))
+      (λ s. SlotGood (cell s) → Agrees s (cell s) (receiveRuling 128 (m .settings) ((cell s) .asn) ((cell s) .neighbour) o) (messageMove (m .settings) o s))
       a (λ peer k. message-agrees peer k (m .settings) o) slot e good
 
   event-ruling : (event : Intrinsic) (a : ℕ) → foundAt m a < 8
-      → Agrees (slotIn m (foundAt m a)) (eventRuling event (stateOf m) a) (eventMove (m .settings) event (slotIn m (foundAt m a)))
+      → Agrees (slotIn m (foundAt m a)) (booked (asEvent event) (slotAt (stateOf m) (foundAt m a))) (eventRuling event (stateOf m) a) (eventMove (m .settings) event (slotIn m (foundAt m a)))
   unfolding eventRuling
   event-ruling event a h =
       rw (slot-of m ok a, at-of m ok (foundAt m a), settings-of)
       (event-move event (slotIn m (foundAt m a)) (good-at m ok (foundAt m a)) a (found-used a h))
 
   message-ruling : (o : List ℕ) (a : ℕ) → foundAt m a < 8
-      → Agrees (slotIn m (foundAt m a)) (messageRuling (stateOf m) a o) (messageMove (m .settings) o (slotIn m (foundAt m a)))
+      → Agrees (slotIn m (foundAt m a)) (slotAt (stateOf m) (foundAt m a)) (messageRuling (stateOf m) a o) (messageMove (m .settings) o (slotIn m (foundAt m a)))
   unfolding messageRuling updateRoom
   message-ruling o a h =
       rw (slot-of m ok a, at-of m ok (foundAt m a), settings-of)
@@ -235,11 +247,11 @@ module _ (m : Model) (ok : Good m) where
       ((eventTurn event m a buffer) .model) ((eventTurn event m a buffer) .said) buffer
   unfolding eventOutcome eventTable eventBuffer eventTurn turnAt
   event-shown event a buffer =
-      shown-call (eventAnswer m a buffer) (eventChecks event (stateOf m) (tableOf m) buffer a) _ _ _ _ _ _ _ _ _ _ buffer (event-answer event a buffer)
+      shown-call (eventAnswer event m a buffer) (eventChecks event (stateOf m) (tableOf m) buffer a) _ _ _ _ _ _ _ _ _ _ buffer (event-answer event a buffer)
       (λ z. rw (slot-of m ok a)
-      (moved-shown (foundAt m a) (eventRuling event (stateOf m) a) [] (eventMove (m .settings) event (slotIn m (foundAt m a))) buffer
-      (event-below a buffer z) (event-ruling event a (event-below a buffer z))))
-      (refused-shown (eventAnswer m a buffer) (eventChecks event (stateOf m) (tableOf m) buffer a) buffer (event-answer event a buffer))
+      (moved-shown (foundAt m a) _ (eventRuling event (stateOf m) a) [] (eventMove (m .settings) event (slotIn m (foundAt m a))) buffer
+      (event-below event a buffer z) (event-ruling event a (event-below event a buffer z))))
+      (refused-shown (eventAnswer event m a buffer) (eventChecks event (stateOf m) (tableOf m) buffer a) buffer (event-answer event a buffer))
 
   pub message-shown : (a : ℕ) (o home buffer : List ℕ)
       → Shown (messageOutcome (stateOf m) (tableOf m) buffer home a o) (messageTable (stateOf m) (tableOf m) buffer home a o) (messageBuffer (stateOf m) (tableOf m) buffer home a o)
@@ -248,7 +260,7 @@ module _ (m : Model) (ok : Good m) where
   message-shown a o home buffer =
       shown-call (messageAnswer m a home buffer) (messageChecks (stateOf m) (tableOf m) buffer home a) _ _ _ _ _ _ _ _ _ _ buffer (message-answer a home buffer)
       (λ z. rw (slot-of m ok a)
-      (moved-shown (foundAt m a) (messageRuling (stateOf m) a o) (rowsOf home) (messageMove (m .settings) o (slotIn m (foundAt m a))) buffer
+      (moved-shown (foundAt m a) _ (messageRuling (stateOf m) a o) (rowsOf home) (messageMove (m .settings) o (slotIn m (foundAt m a))) buffer
       (message-below a home buffer z) (message-ruling o a (message-below a home buffer z))))
       (refused-shown (messageAnswer m a home buffer) (messageChecks (stateOf m) (tableOf m) buffer home a) buffer (message-answer a home buffer))
 

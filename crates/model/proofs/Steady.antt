@@ -28,7 +28,7 @@ use Rattle.gateway_slots.specs.Calls.{freshOf}
 use Rattle.gateway_rules.specs.Home.{goodHome}
 use Rattle.gateway_rules.specs.Calls.{tableFits, lentChecks}
 use Rattle.listing_lines.specs.Listing.{entries, listable, listingChecks, listingOutcome}
-use Rattle.model.specs.Model.{Call, add, remove, happen, receive, listing, Slot, free, used, Model, slotIn, put, foundAt, isPresent, vacancy, Said, silent, spoken, addable, answerToAdd, isIdleSlot, answerToRemove, addTurn, removeTurn, Move, noMove, moved, eventMove, bodyAnswer, isUpdate, kindAnswer, answerTo, messageMove, eventAnswer, messageAnswer, turnAt, eventTurn, messageTurn, listingAnswer, listingSaid, listingTurn, step, model, modelFrom, empty}
+use Rattle.model.specs.Model.{Call, add, remove, happen, receive, listing, Slot, free, used, Model, slotIn, put, foundAt, isPresent, vacancy, Said, silent, spoken, addable, answerToAdd, isIdleSlot, answerToRemove, addTurn, removeTurn, Move, noMove, moved, eventMove, bodyAnswer, isUpdate, kindAnswer, answerTo, messageMove, isLate, eventAnswer, messageAnswer, turnAt, eventTurn, messageTurn, listingAnswer, listingSaid, listingTurn, step, model, modelFrom, empty}
 use Rattle.model.specs.Theorem.{Gateway, outcomeOf, gatewayStep, run, stateOf, tableOf, carriesOctets, listsNothing, Steady, NeverOneOrTwo}
 use Rattle.model.proofs.Represent.{Good}
 use Rattle.model.proofs.Listed.{Marked, marked-step}
@@ -102,7 +102,7 @@ module _ (m : Model) where
   event-high : (event : Intrinsic) (a : ℕ) (buffer : List ℕ) → High ((eventTurn event m a buffer) .said .answer)
   unfolding eventTurn eventAnswer
   event-high event a buffer =
-      turn-high _ (foundAt m a) _ [] (check-high (leb 2048 (length buffer)) 3 _ refl (check-high (isPresent m a) 5 0 refl refl))
+      turn-high _ (foundAt m a) _ [] (check-high (leb 2048 (length buffer)) 3 _ refl (check-high (isPresent m a) 5 _ refl (check-high (not (isLate event (slotIn m (foundAt m a)))) 22 0 refl refl)))
       (rw (event-answers (m .settings) event (slotIn m (foundAt m a))))
 
   -- 01: "1 and 2 never fail here", of the model's own answers

@@ -71,7 +71,7 @@ module _ (m : Model) (ok : Good m) (j : ℕ) (j8 : j < 8) (peer : Peer) (is : sl
   unfolding messageMove ifOk afterMessage moved rowsInPhase
   move-is =
       rw (idle-zero (m .settings) (peer .asn) (peer .neighbour) o x h, h .meaning, law, ap isUp (h .idle))
-      (ap (λ (rows : List Row). record { answer = 0; reply = reply; slot = used (peerWith peer (peer .neighbour) rows) }) (sym bare))
+      (ap (λ (rows : List Row). record { answer = 0; reply = reply; slot = used (peerWith peer (peer .neighbour) rows (peer .seconds)) }) (sym bare))
 
   said-is : (step call m) .said ≡ spoken 0 reply (rowsOf home)
   unfolding step messageTurn turnAt ifOk messageAnswer check

@@ -10,7 +10,9 @@ use Rattle.checks.specs.Lists.{every, join}
 use Rattle.nets.specs.Classes.{netWidth, hostSpan, goodNet, onNet}
 use Rattle.nets.specs.Rows.{flat}
 use Rattle.update_rows.specs.Storing.{zeros, padded}
+use Rattle.neighbour.specs.declared.Phase.{Phase}
 use Rattle.neighbour.specs.declared.Settings.{Settings}
+use Rattle.neighbour_seconds.specs.Seconds.{secondsIn, secondsSum}
 use Rattle.gateway_state.specs.declared.State.{State}
 use Rattle.gateway_state.specs.declared.Slot as Stored
 use Rattle.gateway_state.specs.Slots.{freeSlot, slotAt}
@@ -22,9 +24,11 @@ use Rattle.gateway_theorems.proofs.Formed.{well-formed-kept}
 use Rattle.model.specs.Model.{Call, Slot, free, used, Model, slotIn, empty, model, modelFrom, saidFrom, step}
 use Rattle.model.specs.Theorem.{Gateway, gatewayStep, gatewayFrom, Seen, seenOf, seenFrom, emptyTable, begun, run, seenBy, cell, stateOf, rowsHeld, part, tableOf, bufferOf, shownIn, shown, rowsAt, carriesOctets, listsNothing, ListOfCalls}
 use Rattle.model.specs.History.{lastAccepted, isElsewhere, takesNoSlot}
+use Rattle.model.specs.Ticks.{ticksSince, ticksFinding}
 use Rattle.model.proofs.Represent.{sound, Good, at-of, sound-at, part-of, read-of}
 use Rattle.model.proofs.Listed.{marked, Marked, marked-step}
 use Rattle.model.proofs.History.{model-append, last-is, others-slot, free-from, shown-free}
+use Rattle.model.proofs.Ticks.{secondsHeld, found-in, found-in-all}
 use Rattle.model.proofs.Simulation.{represent, Heeds, simulates, leaves, good-step}
 
 module _ (m : Model) (ok : Good m) where
@@ -143,6 +147,11 @@ module _ (m : Model) (ok : Good m) (j : ℕ) (j8 : j < 8) where
   unfolding part
   numbers-read = part-of m ok j j8
 
+pub cell-seconds : (slot : Slot) → (cell slot) .seconds ≡ secondsHeld slot
+unfolding cell freeSlot secondsHeld
+cell-seconds free = refl
+cell-seconds (used peer) = refl
+
 module _ (g : Settings) (z : (freshOf g) .answer ≡ 0) (calls : List Call) where
   pub model-good : Good (model g calls)
   unfolding model
@@ -159,6 +168,17 @@ module _ (g : Settings) (z : (freshOf g) .answer ≡ 0) (calls : List Call) wher
 
   run-numbers : (j : ℕ) → j < 8 → partAt ((run g calls) .table) j ≡ padded 384 (flat (lastAccepted g j calls))
   run-numbers j j8 = rw (run-table g z calls, last j j8) (numbers-read (model g calls) model-good j j8)
+
+  pub slot-seconds : (j : ℕ) → (slotAt ((run g calls) .state) j) .seconds ≡ secondsHeld (slotIn (model g calls) j)
+  slot-seconds j =
+      ap (λ (s : State). (slotAt s j) .seconds) (run-state g z calls)
+      ∙ ap (λ (s : Stored.Slot). s .seconds) (at-of (model g calls) model-good j) ∙ cell-seconds (slotIn (model g calls) j)
+
+  run-seconds : (j : ℕ) → j < 8 → (phase : Phase) → secondsIn phase ((slotAt ((run g calls) .state) j) .seconds) ≡ ticksFinding g j phase calls
+  run-seconds j j8 phase = ap (secondsIn phase) (slot-seconds j) ∙ found-in g (empty-good g z) calls j j8 phase
+
+  run-clock : (j : ℕ) → j < 8 → secondsSum ((slotAt ((run g calls) .state) j) .seconds) ≡ ticksSince g j calls
+  run-clock j j8 = ap secondsSum (slot-seconds j) ∙ found-in-all g (empty-good g z) calls j j8
 
   pub model-more : (more : List Call) → model g (calls ++ more) ≡ modelFrom (model g calls) more
   unfolding model
@@ -229,6 +249,8 @@ list-of-calls g z calls =
       rows = run-rows g z calls;
       count = run-count g z calls;
       numbers = run-numbers g z calls;
+      seconds = run-seconds g z calls;
+      clock = run-clock g z calls;
       others = run-others g z calls;
       free-slots = run-free g z calls;
     }

@@ -27,31 +27,17 @@ use Rattle.neighbour_machine.specs.declared.Event.the-variants.{Received}
 use Rattle.neighbour_machine.specs.Intrinsics.{Intrinsic, asEvent}
 use Rattle.neighbour_machine.specs.Step.{stepOf}
 use Rattle.gateway_state.specs.Slots.{freeSlot}
-use Rattle.model.specs.Model as Calls
-use Rattle.model.specs.Model.{Call, add, remove, happen, receive, listing, Slot, free, used, Model, slotIn, put, isFree, hasAddress, foundAt, isPresent, vacancy, spoken, Turn, isIdleSlot, answerToAdd, answerToRemove, addTurn, removeTurn, Move, noMove, moved, noOctets, eventMove, kindAnswer, answerTo, firstTwelve, afterMessage, rowsAfter, messageMove, eventAnswer, messageAnswer, turnAt, eventTurn, messageTurn, listingTurn, step, modelFrom, Peer, newPeer, peerWith}
+use Rattle.model.specs.Model.{Call, add, remove, happen, receive, listing, Slot, free, used, Model, slotIn, put, isFree, hasAddress, foundAt, isPresent, vacancy, spoken, Turn, isIdleSlot, answerToAdd, answerToRemove, addTurn, removeTurn, Move, noMove, moved, noOctets, secondsAfter, eventMove, kindAnswer, answerTo, firstTwelve, afterMessage, rowsAfter, messageMove, eventAnswer, messageAnswer, turnAt, eventTurn, messageTurn, listingTurn, step, modelFrom, Peer, newPeer, peerWith}
 use Rattle.model.specs.History.{isUpSlot, accepts, rowsSaid}
 use Rattle.model.specs.Theorem.{cell, rowsHeld}
 use Rattle.model.specs.Windows.{isIndication, isEvaluation, isRestart, recordIn, saidEvent, doneFor, eventFor, holdsOf, brings, restartsNone, windows, anyOf, firstFour, oneInFour, latest}
 use Rattle.model.proofs.Represent.{Good, good-at, used-at}
 use Rattle.model.proofs.Simulation.{good-step, spoken-answer, found-used, found-free, add-free}
 use Rattle.model.proofs.History.{message-stays, step-told}
+use Rattle.model.proofs.Puts.{turn-zero, event-zero, put-elim}
 use Rattle.model.proofs.Reach.{fine-in, Waits, idle-waits, step-waits, Held, step-enters, silentAfter, heardAfter, event-held}
 
 -- ---- what a call makes of slot j
-
--- the answer of a turn: its own checks, then its move's
-turn-zero : (m : Model) (k place : ℕ) (move : Move) (home : List Row) → eqb ((turnAt m k place move home) .said .answer) 0 ≡ (eqb k 0 && eqb (move .answer) 0)
-unfolding turnAt ifOk Calls.silent
-turn-zero m k place move home = go (eqb k 0) refl
-  where
-    go : (b : Bool) → eqb k 0 ≡ b → eqb ((cond b (spoken (move .answer) (move .reply) home) (Calls.silent k)) .answer) 0 ≡ (b && eqb (move .answer) 0)
-    go true e = ap (λ (x : ℕ). eqb x 0) (spoken-answer (move .answer) (move .reply) home)
-    go false e = e
-
-event-zero : (g : Settings) (event : Intrinsic) (slot : Slot) → (eventMove g event slot) .answer ≡ 0
-unfolding eventMove noMove moved
-event-zero g event free = refl
-event-zero g event (used peer) = refl
 
 removed-idle : (m : Model) (a : ℕ) → answerToRemove m a ≡ 0 → isIdleSlot (slotIn m (foundAt m a)) ≡ true
 unfolding answerToRemove check
@@ -78,20 +64,9 @@ thirds-false true b false e = refl
 thirds-false false b c e = refl
 
 module _ (m : Model) (ok : Good m) (j : ℕ) (j8 : j < 8) where
-  -- a slot put at i where the answer is 0
-  put-elim : (P : Slot → Type 0) (k i : ℕ) (new : Slot) → (k ≡ 0 → i ≡ j → P new) → ((eqb k 0 && eqb i j) ≡ false → P (slotIn m j))
-      → P (slotIn (ifOk k (put m i new) m) j)
-  unfolding ifOk slotIn put
-  put-elim P k i new p q = go (eqb k 0) refl (eqb i j) refl
-    where
-      go : (a : Bool) → eqb k 0 ≡ a → (b : Bool) → eqb i j ≡ b → P (slotIn (cond (eqb k 0) (put m i new) m) j)
-      go false e b f = rw e (q (rw e))
-      go true e true f = rw (e, eqb-true i j f, getD-set-same (m .slots) j new free (omega (arith, ok .eight))) (p (eqb-true k 0 e) (eqb-true i j f))
-      go true e false f = rw (e, getD-set-other (m .slots) i j new free (λ x. eqb-false i j f (sym x))) (q (rw (e, f)))
-
   module _ (P : Slot → Type 0) (call : Call) (stays : eventFor m j call ≡ none → P (slotIn m j))
       (goes : (peer : Peer) → slotIn m j ≡ used peer → (event : Event) → eventFor m j call ≡ some event
-      → (head : Head) (new : List Row) → P (used (peerWith peer ((stepOf (m .settings) (peer .asn) (peer .neighbour) event head) .neighbour) new))) where
+      → (head : Head) (new : List Row) → P (used (peerWith peer ((stepOf (m .settings) (peer .asn) (peer .neighbour) event head) .neighbour) new (secondsAfter event peer)))) where
     -- the neighbour that a call is about, where it is in slot j
     found : (a : ℕ) (Q : Type 0) → foundAt m a ≡ j → ((peer : Peer) → slotIn m j ≡ used peer → Q) → Q
     found a Q e h =
@@ -100,22 +75,22 @@ module _ (m : Model) (ok : Good m) (j : ℕ) (j8 : j < 8) where
 
     -- Start, Stop and tick
     module _ (event : Intrinsic) (a : ℕ) (buffer : List ℕ) (s : step call m ≡ eventTurn event m a buffer) (c : eventFor m j call ≡ doneFor m j a call (some (asEvent event))) where
-      event-answer : eqb ((step call m) .said .answer) 0 ≡ (eqb (eventAnswer m a buffer) 0 && true)
+      event-answer : eqb ((step call m) .said .answer) 0 ≡ (eqb (eventAnswer event m a buffer) 0 && true)
       unfolding eventTurn
       event-answer =
           ap (λ (t : Turn). eqb (t .said .answer) 0) s
-          ∙ turn-zero m (eventAnswer m a buffer) (foundAt m a) (eventMove (m .settings) event (slotIn m (foundAt m a))) []
-          ∙ ap (λ (x : ℕ). eqb (eventAnswer m a buffer) 0 && eqb x 0) (event-zero (m .settings) event (slotIn m (foundAt m a)))
+          ∙ turn-zero m (eventAnswer event m a buffer) (foundAt m a) (eventMove (m .settings) event (slotIn m (foundAt m a))) []
+          ∙ ap (λ (x : ℕ). eqb (eventAnswer event m a buffer) 0 && eqb x 0) (event-zero (m .settings) event (slotIn m (foundAt m a)))
 
-      event-done : eventAnswer m a buffer ≡ 0 → foundAt m a ≡ j → eventFor m j call ≡ some (asEvent event)
+      event-done : eventAnswer event m a buffer ≡ 0 → foundAt m a ≡ j → eventFor m j call ≡ some (asEvent event)
       unfolding doneFor
       event-done z e = c ∙ rw (event-answer, z, e, eq-eqb j j refl)
 
-      event-left : (eqb (eventAnswer m a buffer) 0 && eqb (foundAt m a) j) ≡ false → eventFor m j call ≡ none
+      event-left : (eqb (eventAnswer event m a buffer) 0 && eqb (foundAt m a) j) ≡ false → eventFor m j call ≡ none
       unfolding doneFor
-      event-left f = c ∙ rw (event-answer, thirds-false (eqb (eventAnswer m a buffer) 0) (eqb (foundAt m a) j) true f)
+      event-left f = c ∙ rw (event-answer, thirds-false (eqb (eventAnswer event m a buffer) 0) (eqb (foundAt m a) j) true f)
 
-      event-moved : eventAnswer m a buffer ≡ 0 → foundAt m a ≡ j → P ((eventMove (m .settings) event (slotIn m (foundAt m a))) .slot)
+      event-moved : eventAnswer event m a buffer ≡ 0 → foundAt m a ≡ j → P ((eventMove (m .settings) event (slotIn m (foundAt m a))) .slot)
       unfolding eventMove moved
       event-moved z e = found a _ e (λ peer here. rw (e, here) (goes peer here (asEvent event) (event-done z e) noOctets _))
 
@@ -123,7 +98,7 @@ module _ (m : Model) (ok : Good m) (j : ℕ) (j8 : j < 8) where
       unfolding eventTurn turnAt
       event-elim =
           rw s
-          (put-elim P (eventAnswer m a buffer) (foundAt m a) ((eventMove (m .settings) event (slotIn m (foundAt m a))) .slot)
+          (put-elim m ok j j8 P (eventAnswer event m a buffer) (foundAt m a) ((eventMove (m .settings) event (slotIn m (foundAt m a))) .slot)
           event-moved (λ f. stays (event-left f)))
 
     -- a message
@@ -147,7 +122,7 @@ module _ (m : Model) (ok : Good m) (j : ℕ) (j8 : j < 8) where
         refused-answer f = c ∙ rw (message-answer, z, e, here, message-stays (m .settings) o peer f, f)
 
         done-move : eqb (answerTo (m .settings) (peer .asn) (peer .neighbour) o) 0 ≡ true
-            → messageMove (m .settings) o (used peer) ≡ moved peer (afterMessage (m .settings) (peer .asn) (peer .neighbour) o (decodeOf o)) (rowsAfter (m .settings) (peer .neighbour) o (decodeOf o) (peer .rows))
+            → messageMove (m .settings) o (used peer) ≡ moved peer (afterMessage (m .settings) (peer .asn) (peer .neighbour) o (decodeOf o)) (rowsAfter (m .settings) (peer .neighbour) o (decodeOf o) (peer .rows)) (peer .seconds)
         unfolding messageMove ifOk
         done-move f = rw f
 
@@ -156,8 +131,8 @@ module _ (m : Model) (ok : Good m) (j : ℕ) (j8 : j < 8) where
         done-answer f = c ∙ rw (message-answer, z, e, here, done-move f, eq-eqb j j refl)
 
         by-kind : (d : Decoded) → decodeOf o ≡ d → kindAnswer (m .settings) (peer .neighbour) o d ≡ 0 → eventFor m j call ≡ saidEvent d
-            → P ((moved peer (afterMessage (m .settings) (peer .asn) (peer .neighbour) o d) (rowsAfter (m .settings) (peer .neighbour) o d (peer .rows))) .slot)
-        unfolding moved afterMessage kindAnswer saidEvent
+            → P ((moved peer (afterMessage (m .settings) (peer .asn) (peer .neighbour) o d) (rowsAfter (m .settings) (peer .neighbour) o d (peer .rows)) (peer .seconds)) .slot)
+        unfolding moved afterMessage kindAnswer saidEvent secondsAfter
         by-kind (D.Good x) d k q = goes peer here (Received x) q (firstTwelve o) _
         by-kind D.UnknownKind d k q = absurd (omega (arith, k))
         by-kind D.BadStatus d k q = absurd (omega (arith, k))
@@ -177,22 +152,22 @@ module _ (m : Model) (ok : Good m) (j : ℕ) (j8 : j < 8) where
       unfolding messageTurn turnAt
       message-elim =
           rw s
-          (put-elim P (messageAnswer m a home buffer) (foundAt m a) ((messageMove (m .settings) o (slotIn m (foundAt m a))) .slot)
+          (put-elim m ok j j8 P (messageAnswer m a home buffer) (foundAt m a) ((messageMove (m .settings) o (slotIn m (foundAt m a))) .slot)
           message-moved (λ f. stays (message-left f)))
 
   -- any call: the slot stays where nothing is carried out for it; it moves by the event; it is taken, or freed
   pub step-elim : (P : Slot → Type 0) (call : Call) → (eventFor m j call ≡ none → P (slotIn m j))
       → ((peer : Peer) → slotIn m j ≡ used peer → (event : Event) → eventFor m j call ≡ some event
-      → (head : Head) (new : List Row) → P (used (peerWith peer ((stepOf (m .settings) (peer .asn) (peer .neighbour) event head) .neighbour) new)))
+      → (head : Head) (new : List Row) → P (used (peerWith peer ((stepOf (m .settings) (peer .asn) (peer .neighbour) event head) .neighbour) new (secondsAfter event peer))))
       → (isFree (slotIn m j) ≡ true → (address asn : ℕ) → P (used (newPeer address asn)))
       → (isIdleSlot (slotIn m j) ≡ true → P free)
       → P (slotIn ((step call m) .model) j)
   unfolding step eventFor addTurn removeTurn listingTurn
   step-elim P (add address asn) stays goes taken freed =
-      put-elim P (answerToAdd m address asn) (vacancy m) (used (newPeer address asn))
+      put-elim m ok j j8 P (answerToAdd m address asn) (vacancy m) (used (newPeer address asn))
       (λ z e. taken (ap (λ (i : ℕ). isFree (slotIn m i)) (sym e) ∙ found-free m ok (add-free m ok address asn z)) address asn) (λ _. stays refl)
   step-elim P (remove a) stays goes taken freed =
-      put-elim P (answerToRemove m a) (foundAt m a) free
+      put-elim m ok j j8 P (answerToRemove m a) (foundAt m a) free
       (λ z e. freed (ap (λ (i : ℕ). isIdleSlot (slotIn m i)) (sym e) ∙ removed-idle m a z)) (λ _. stays refl)
   step-elim P (happen event a buffer) stays goes taken freed = event-elim P (happen event a buffer) stays goes event a buffer refl refl
   step-elim P (receive a o home buffer) stays goes taken freed = message-elim P (receive a o home buffer) stays goes a o home buffer refl refl

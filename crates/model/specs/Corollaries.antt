@@ -11,6 +11,7 @@ use Rattle.checks.specs.Lists.{every, join}
 use Rattle.nets.specs.Rows.{Row, flat}
 use Rattle.update_rows.specs.Storing.{zeros, padded}
 use Rattle.message.specs.declared.Message.{Message}
+use Rattle.neighbour_seconds.specs.Seconds.{clockFull}
 use Rattle.message.specs.declared.Message.the-variants as M
 use Rattle.message_reading.specs.Reading.{headerAnswer, asnAt, decodeOf}
 use Rattle.message_reading.specs.declared.Decoded.the-variants as D
@@ -132,13 +133,13 @@ pub record WhateverCloses (b : Gateway) (i j net : ℕ) : Type 0 where
   pub by-request :
       (o home buffer : List ℕ) (asn number status hello poll : ℕ) → Says b i o home buffer (M.Request asn number status hello poll)
       → Closed b (receive ((slotOn b i) .address) o home buffer) i j net
-  -- 01: "take 1 from t3; at 0 it is Stop". A run from fresh loses reachability long before.
+  -- 01: "take 1 from t3; at 0 it is Stop". A run from fresh loses reachability long before. 22 is no tick carried out.
   pub by-time-out :
-      (buffer : List ℕ) → leb 2048 (length buffer) ≡ true → (slotOn b i) .neighbour .t3 ≡ 1
+      (buffer : List ℕ) → leb 2048 (length buffer) ≡ true → clockFull ((slotOn b i) .seconds) ≡ false → (slotOn b i) .neighbour .t3 ≡ 1
       → Closed b (tick ((slotOn b i) .address) buffer) i j net
   -- 01: "Up goes Down", reachability lost
   pub by-silence :
-      (buffer : List ℕ) → leb 2048 (length buffer) ≡ true → (slotOn b i) .neighbour .t1 ≡ 1
+      (buffer : List ℕ) → leb 2048 (length buffer) ≡ true → clockFull ((slotOn b i) .seconds) ≡ false → (slotOn b i) .neighbour .t1 ≡ 1
       → goesDown ((slotOn b i) .neighbour .mode) (onesOf (((slotOn b i) .neighbour .register * 2 + (slotOn b i) .neighbour .heard) % 16)) ≡ true
       → Closed b (tick ((slotOn b i) .address) buffer) i j net
 
@@ -215,7 +216,7 @@ pub record PastLastNumber (b : Gateway) (lent : List ℕ) (j : ℕ) : Type 0 whe
 
 abbrev pub AfterLastNumber : Type 0
 AfterLastNumber =
-    (b : Gateway) → Sensible b → (lent : List ℕ) (j : ℕ) → j < 8 → leb 2048 (length lent) ≡ true
+    (b : Gateway) → Sensible b → (lent : List ℕ) (j : ℕ) → j < 8 → leb 2048 (length lent) ≡ true → clockFull ((slotOn b j) .seconds) ≡ false
     → (slotOn b j) .neighbour .s ≡ 65535 → (slotOn b j) .neighbour .t2 ≡ 1 → isUpOn b j ≡ true
     → isUpOn (gatewayStep (tick ((slotOn b j) .address) lent) b) j ≡ true
     → PastLastNumber b lent j

@@ -1,10 +1,11 @@
 -- An example, so that no corollary's premise is one that nothing meets: neighbours that come Up, report 128 nets each,
 -- fall silent, poll 65,535 times, are heard of by their Updates alone, say Hello every second, and call on when we gave
--- them up; and one that no run comes to, its t3 run out.
+-- them up; one that is for seconds in each state, and is removed and added again; and two that no run comes to, one
+-- with its t3 run out and one whose clock is full.
 use Prim.Native.Nat.{ℕ, zero, suc, _+_, _*_, _%_, _<_}
 use mathlib.Core.Path.{_≡_}
 use mathlib.Core.Bool.{true, false}
-use mathlib.Core.List.{List, [], _∷_, _++_}
+use mathlib.Core.List.{List, [], _∷_, _++_, map}
 use lib.Dec.{leb}
 use lib.ListN.{length}
 use Rattle.nets.specs.Rows.{Row}
@@ -18,11 +19,16 @@ use Rattle.neighbour.specs.declared.Mode.the-variants.{Passive}
 use Rattle.neighbour.specs.declared.Settings.{Settings}
 use Rattle.neighbour.specs.Record.{acquired, withTimers}
 use Rattle.neighbour.specs.Rules.{onesOf, goesDown}
-use Rattle.model.specs.Model.{Call, add, stop, tick, receive, peerWith, Slot, free, used, Model, slotIn, put, model}
+use Rattle.neighbour.specs.declared.Phase.{Phase}
+use Rattle.neighbour.specs.declared.Phase.the-variants as Phases
+use Rattle.neighbour_seconds.specs.Seconds.{clockFull}
+use Rattle.neighbour_seconds.specs.Cases.{seconds}
+use Rattle.model.specs.Model.{Call, add, remove, start, stop, tick, receive, peerWith, Slot, free, used, Model, slotIn, put, model}
 use Rattle.model.specs.History.{accepts, lastAccepted}
 use Rattle.model.specs.Theorem.{Gateway, gatewayStep, run, stateOf, tableOf, Sensible}
 use Rattle.model.specs.Windows.{brings, restartsNone, windows, oneInFour, latest}
-use Rattle.model.specs.Corollaries.{Taken, slotOn, isUpOn, BothReport, Says, SaysRows, EnteredUp}
+use Rattle.model.specs.Ticks.{ticks, changesHands, keepsHands, ticksFinding, ticksSince}
+use Rattle.model.specs.Corollaries.{Taken, slotOn, isUpOn, Used, BothReport, Says, SaysRows, EnteredUp}
 use Rattle.model.specs.Quick.{isOtherHello, helloEveryTick, HelloCarriedOut}
 use Rattle.model.specs.Strays.{ceaseSeven, IdleSays}
 
@@ -103,10 +109,43 @@ slow first second =
     receive 1 (messageOctets (Update 7 1 first 2148073472) (classA 10 1)) [] lentBuffer
     ∷ (tickSeconds 1 128 ++ (receive 1 (messageOctets (Update 7 2 second 2148073472) (classA 11 1)) [] lentBuffer ∷ tickSeconds 1 32))
 
+-- three seconds in Idle, five in Acquisition, 32 in Down, seven in Up, four in Cease, and two in Idle again
+unfoldable pub throughAll : List Call
+throughAll =
+    tickSeconds 1 3
+    ++ (start 1 lentBuffer
+    ∷ (tickSeconds 1 5
+    ++ (receive 1 (messageOctets (Request 7 0 0 30 120) []) [] lentBuffer
+    ∷ saysHello 1
+    ∷ (tickSeconds 1 39 ++ (stop 1 lentBuffer ∷ (tickSeconds 1 4 ++ (stop 1 lentBuffer ∷ tickSeconds 1 2)))))))
+
+-- a second in Idle, two in Acquisition and one in Idle; of these a tick with too short a buffer is none
+unfoldable pub briefly : List Call
+briefly = add 1 7 ∷ tick 1 lentBuffer ∷ tick 1 [] ∷ start 1 lentBuffer ∷ tick 1 lentBuffer ∷ tick 1 lentBuffer ∷ stop 1 lentBuffer ∷ tick 1 lentBuffer ∷ []
+
+-- then removed, and added again for a second
+unfoldable pub anew : List Call
+anew = briefly ++ (remove 1 ∷ add 1 8 ∷ tick 1 lentBuffer ∷ [])
+
+abbrev pub phases : List Phase
+phases = Phases.Idle ∷ Phases.Acquisition ∷ Phases.Down ∷ Phases.Up ∷ Phases.Cease ∷ []
+
+-- a slot's clock at its limit
+unfoldable pub filled : Slot → Slot
+filled free = free
+filled (used p) = used (peerWith p (p .neighbour) (p .rows) (seconds 4294967290 1 1 1 2))
+
+-- a neighbour that was added so long ago
+unfoldable pub longAdded : Model
+longAdded = put (model someSettings (add 1 7 ∷ [])) 0 (filled (slotIn (model someSettings (add 1 7 ∷ [])) 0))
+
+unfoldable pub brimful : Gateway
+brimful = record { state = stateOf longAdded; table = tableOf longAdded }
+
 -- t3 of a slot's neighbour at its last second
 unfoldable pub late : Slot → Slot
 late free = free
-late (used p) = used (peerWith p (withTimers (p .neighbour) (p .neighbour .t1) (p .neighbour .t2) 1) (p .rows))
+late (used p) = used (peerWith p (withTimers (p .neighbour) (p .neighbour .t1) (p .neighbour .t2) 1) (p .rows) (p .seconds))
 
 -- the first neighbour so, in Up: a run loses reachability long before, but a host may hand such a state over
 unfoldable pub lateFirst : Model → Model
@@ -126,6 +165,7 @@ pub record EightMet : Type 0 where
   pub cease : Says (run someSettings eight) 0 (messageOctets (Cease 7 0 0) []) [] lentBuffer (Cease 7 0 0)
   pub request : Says (run someSettings eight) 0 (messageOctets (Request 7 0 0 120 120) []) [] lentBuffer (Request 7 0 0 120 120)
   pub still-both : BothReport (run someSettings (eight ++ tickSeconds 1 609)) 0 1 167772160
+  pub time-left : clockFull ((slotOn (run someSettings (eight ++ tickSeconds 1 609)) 0) .seconds) ≡ false
   pub silent : (slotOn (run someSettings (eight ++ tickSeconds 1 609)) 0) .neighbour .t1 ≡ 1
   pub lost :
       goesDown ((slotOn (run someSettings (eight ++ tickSeconds 1 609)) 0) .neighbour .mode)
@@ -135,6 +175,7 @@ pub record EightMet : Type 0 where
 pub record TimeOutMet : Type 0 where
   pub sensible : Sensible overdue
   pub both : BothReport overdue 0 1 167772160
+  pub time-left : clockFull ((slotOn overdue 0) .seconds) ≡ false
   pub due : (slotOn overdue 0) .neighbour .t3 ≡ 1
 
 -- an Update of 128 rows to one of eight that are Up
@@ -147,6 +188,7 @@ pub record FullMet : Type 0 where
 
 -- a run from fresh in which S is 65,535 and the next tick polls; and an Update with number 0
 pub record LastNumberMet : Type 0 where
+  pub time-left : clockFull ((slotOn (run someSettings lastNumber) 0) .seconds) ≡ false
   pub number : (slotOn (run someSettings lastNumber) 0) .neighbour .s ≡ 65535
   pub due : (slotOn (run someSettings lastNumber) 0) .neighbour .t2 ≡ 1
   pub up : isUpOn (run someSettings lastNumber) 0 ≡ true
@@ -208,3 +250,24 @@ pub record StrayMet (g : Settings) (quiet : ℕ) : Type 0 where
   pub cease-ack : CallsOn g (messageOctets (CeaseAck 7 4 0) []) (CeaseAck 7 4 0)
   pub error : CallsOn g (messageOctets (Error 7 4 1 2 0 0 0) []) (Error 7 4 1 2 0 0 0)
   pub drawn : ceaseSeven (g .asn) ≡ 2 ∷ 3 ∷ 3 ∷ 7 ∷ 250 ∷ 236 ∷ 0 ∷ 9 ∷ 0 ∷ 0 ∷ []
+
+-- seconds in each state, as many as were spent there; removed and added again, only those since; the history tells the
+-- same
+pub record SecondsMet : Type 0 where
+  pub taken : changesHands (model someSettings []) 0 (add 1 7) ≡ true
+  pub kept : keepsHands someSettings 0 (add 1 7 ∷ []) throughAll ≡ true
+  pub counts : (slotOn (run someSettings (add 1 7 ∷ throughAll)) 0) .seconds ≡ seconds 5 5 32 7 4
+  pub ticked : ticks (model someSettings (add 1 7 ∷ [])) 0 (tick 1 lentBuffer) ≡ true
+  pub shortened : ticks (model someSettings (add 1 7 ∷ [])) 0 (tick 1 []) ≡ false
+  pub brief : (slotOn (run someSettings briefly) 0) .seconds ≡ seconds 2 2 0 0 0
+  pub told : map (λ (p : Phase). ticksFinding someSettings 0 p briefly) phases ≡ 2 ∷ 2 ∷ 0 ∷ 0 ∷ 0 ∷ []
+  pub all : ticksSince someSettings 0 briefly ≡ 4
+  pub again : (slotOn (run someSettings anew) 0) .seconds ≡ seconds 1 0 0 0 0
+  pub told-again : map (λ (p : Phase). ticksFinding someSettings 0 p anew) phases ≡ 1 ∷ 0 ∷ 0 ∷ 0 ∷ 0 ∷ []
+  pub all-again : ticksSince someSettings 0 anew ≡ 1
+
+-- no run of ours comes there: a clock at its limit, in a state that a host hands in
+pub record FullClockMet : Type 0 where
+  pub sensible : Sensible brimful
+  pub known : Used brimful 0
+  pub full : clockFull ((slotOn brimful 0) .seconds) ≡ true

@@ -1,9 +1,11 @@
 pub mod Model
 pub mod Laws
 pub mod History
+pub mod Ticks
 pub mod Theorem
 pub mod Windows
 pub mod Corollaries
 pub mod Quick
 pub mod Strays
+pub mod Seconds
 pub mod Example

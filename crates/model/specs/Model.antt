@@ -21,9 +21,13 @@ use Rattle.neighbour.specs.declared.Settings.{Settings}
 use Rattle.neighbour.specs.declared.Neighbour.{Neighbour}
 use Rattle.neighbour.specs.Record.{idle, isIdle, acquired, isUp}
 use Rattle.neighbour.specs.Rules.{same, inSequence, tooQuick}
+use Rattle.neighbour_seconds.specs.declared.Seconds.{Seconds}
+use Rattle.neighbour_seconds.specs.Seconds.{noSeconds, clockFull, counted}
 use Rattle.neighbour_messages.specs.declared.Head.{Head}
 use Rattle.neighbour_messages.specs.Sent.{refuseMessage, errorMessage}
+use Rattle.neighbour_machine.specs.declared.Event.{Event}
 use Rattle.neighbour_machine.specs.declared.Event.the-variants.{Received}
+use Rattle.neighbour_machine.specs.declared.Event.the-variants as E
 use Rattle.neighbour_machine.specs.Intrinsics.{Intrinsic, Start, Stop, Tick, asEvent}
 use Rattle.neighbour_machine.specs.declared.Reply.{Reply}
 use Rattle.neighbour_machine.specs.declared.Reply.the-variants.{Nothing, One, Two}
@@ -59,20 +63,21 @@ tick a buffer = happen Tick a buffer
 
 -- ---- slots
 
--- 01: "a used one has address, AS, One neighbour's state (Idle when new) and rows"
+-- 01: "a used one has address, AS, One neighbour's state (Idle when new) and rows"; 02: "how many seconds it spent in each"
 pub record Peer : Type 0 where
   pub address : ℕ
   pub asn : ℕ
   pub neighbour : Neighbour
   pub rows : List Row
+  pub seconds : Seconds
 
--- 01: "Idle when new"
+-- 01: "Idle when new"; 02: "Remove and add start from zero"
 abbrev pub newPeer : ℕ → ℕ → Peer
-newPeer address asn = record { address = address; asn = asn; neighbour = idle; rows = [] }
+newPeer address asn = record { address = address; asn = asn; neighbour = idle; rows = []; seconds = noSeconds }
 
--- the same, with this record and these rows now
-abbrev pub peerWith : Peer → Neighbour → List Row → Peer
-peerWith p n rows = record { address = p .address; asn = p .asn; neighbour = n; rows = rows }
+-- the same, with this record, these rows and these seconds now
+abbrev pub peerWith : Peer → Neighbour → List Row → Seconds → Peer
+peerWith p n rows s = record { address = p .address; asn = p .asn; neighbour = n; rows = rows; seconds = s }
 
 -- 01: "8 slots, free at first"
 pub data Slot : Type 0 where
@@ -182,18 +187,25 @@ noMove = record { answer = 0; reply = Nothing; slot = free }
 unfoldable pub rowsInPhase : Phase → List Row → List Row
 rowsInPhase phase rows = cond (isUp phase) rows []
 
--- the machine's step carried out in a slot, with these rows while it is Up
-unfoldable pub moved : Peer → After → List Row → Move
-moved p after rows =
-    record { answer = 0; reply = after .reply; slot = used (peerWith p (after .neighbour) (rowsInPhase (after .neighbour .phase) rows)) }
+-- the machine's step carried out in a slot, with these rows while it is Up, and with these seconds; 02: they "survive Idle"
+unfoldable pub moved : Peer → After → List Row → Seconds → Move
+moved p after rows s =
+    record { answer = 0; reply = after .reply; slot = used (peerWith p (after .neighbour) (rowsInPhase (after .neighbour .phase) rows) s) }
 
 -- Start, Stop and tick receive no octets
 unfoldable pub noOctets : Head
 noOctets = record { first = 0; second = 0; third = 0 }
 
+-- 02: "A tick carried out belongs to the state before it"
+unfoldable pub secondsAfter : Event → Peer → Seconds
+secondsAfter (E.Received m) p = p .seconds
+secondsAfter E.Start p = p .seconds
+secondsAfter E.Stop p = p .seconds
+secondsAfter E.Tick p = counted (p .neighbour .phase) (p .seconds)
+
 unfoldable pub eventMove : Settings → Intrinsic → Slot → Move
 eventMove g event free = noMove
-eventMove g event (used p) = moved p (stepOf g (p .asn) (p .neighbour) (asEvent event) noOctets) (p .rows)
+eventMove g event (used p) = moved p (stepOf g (p .asn) (p .neighbour) (asEvent event) noOctets) (p .rows) (secondsAfter (asEvent event) p)
 
 -- ---- a message: checks 6 to 15 and 21
 
@@ -266,14 +278,22 @@ unfoldable pub messageMove : Settings → List ℕ → Slot → Move
 messageMove g o free = noMove
 messageMove g o (used p) =
     ifOk (answerTo g (p .asn) (p .neighbour) o)
-    (moved p (afterMessage g (p .asn) (p .neighbour) o (decodeOf o)) (rowsAfter g (p .neighbour) o (decodeOf o) (p .rows)))
+    (moved p (afterMessage g (p .asn) (p .neighbour) o (decodeOf o)) (rowsAfter g (p .neighbour) o (decodeOf o) (p .rows)) (p .seconds))
     (refusedMove g o p (answerTo g (p .asn) (p .neighbour) o))
 
 -- ---- the calls about one neighbour
 
--- 01: "Reply buffer at least 2,048 octets": 3, then 5
-unfoldable pub eventAnswer : Model → ℕ → List ℕ → ℕ
-eventAnswer m a buffer = check (leb 2048 (length buffer)) 3 (check (isPresent m a) 5 0)
+-- 02: "22, a tick when the sum is 4,294,967,295"
+unfoldable pub isLate : Intrinsic → Slot → Bool
+isLate event free = false
+isLate Start (used p) = false
+isLate Stop (used p) = false
+isLate Tick (used p) = clockFull (p .seconds)
+
+-- 01: "Reply buffer at least 2,048 octets": 3, then 5; 02: 22 "after 5"
+unfoldable pub eventAnswer : Intrinsic → Model → ℕ → List ℕ → ℕ
+eventAnswer event m a buffer =
+    check (leb 2048 (length buffer)) 3 (check (isPresent m a) 5 (check (not (isLate event (slotIn m (foundAt m a)))) 22 0))
 
 -- 3, 4 "bad home list", 5
 unfoldable pub messageAnswer : Model → ℕ → List ℕ → List ℕ → ℕ
@@ -289,7 +309,7 @@ turnAt m answer place move home =
 
 unfoldable pub eventTurn : Intrinsic → Model → ℕ → List ℕ → Turn
 eventTurn event m a buffer =
-    turnAt m (eventAnswer m a buffer) (foundAt m a) (eventMove (m .settings) event (slotIn m (foundAt m a))) []
+    turnAt m (eventAnswer event m a buffer) (foundAt m a) (eventMove (m .settings) event (slotIn m (foundAt m a))) []
 
 unfoldable pub messageTurn : Model → ℕ → List ℕ → List ℕ → List ℕ → Turn
 messageTurn m a o home buffer =
@@ -301,7 +321,7 @@ messageTurn m a o home buffer =
 unfoldable pub listedFrom : ℕ → List Slot → List Entry
 listedFrom i [] = []
 listedFrom i (free ∷ rest) = listedFrom (suc i) rest
-listedFrom i (used p ∷ rest) = entryFor i (p .address) (p .asn) (p .neighbour) (p .rows) ∷ listedFrom (suc i) rest
+listedFrom i (used p ∷ rest) = entryFor i (p .address) (p .asn) (p .neighbour) (p .rows) (p .seconds) ∷ listedFrom (suc i) rest
 
 -- of all eight
 unfoldable pub listed : Model → List Entry

@@ -10,7 +10,9 @@ use Rattle.checks.specs.Lists.{join}
 use Rattle.octets.specs.Buffer.{over}
 use Rattle.nets.specs.Rows.{Row, flat}
 use Rattle.update_rows.specs.Storing.{zeros, padded}
+use Rattle.neighbour.specs.declared.Phase.{Phase}
 use Rattle.neighbour.specs.declared.Settings.{Settings}
+use Rattle.neighbour_seconds.specs.Seconds.{secondsIn, secondsSum}
 use Rattle.gateway_state.specs.declared.State.{State}
 use Rattle.gateway_state.specs.declared.Slot as Stored
 use Rattle.gateway_state.specs.declared.Outcome.{Outcome}
@@ -22,6 +24,7 @@ use Rattle.gateway_rules.specs.Calls.{eventOutcome, eventTable, eventBuffer, me
 use Rattle.listing_lines.specs.Listing.{markedRow, listingOutcome, listingBuffer}
 use Rattle.model.specs.Model.{Call, add, remove, happen, receive, listing, Peer, Slot, free, used, Model, Said, model, modelFrom, empty, saidFrom, step}
 use Rattle.model.specs.History.{lastAccepted, isElsewhere, takesNoSlot}
+use Rattle.model.specs.Ticks.{ticksFinding, ticksSince}
 
 -- ---- the gateway's own definitions, over a list
 
@@ -106,7 +109,7 @@ seenBy g calls = seenFrom (begun g) calls
 -- 01: "The count is their number"
 unfoldable pub cell : Slot → Stored.Slot
 cell free = freeSlot
-cell (used p) = record { address = p .address; asn = p .asn; neighbour = p .neighbour; rows = length (p .rows) }
+cell (used p) = record { address = p .address; asn = p .asn; neighbour = p .neighbour; rows = length (p .rows); seconds = p .seconds }
 
 unfoldable pub stateOf : Model → State
 stateOf m = record { settings = m .settings; slots = map cell (m .slots) }
@@ -180,6 +183,10 @@ pub record Agreement (g : Settings) (calls : List Call) : Type 0 where
   pub rows : (j : ℕ) → j < 8 → rowsAt (run g calls) j ≡ lastAccepted g j calls
   pub count : (j : ℕ) → j < 8 → (slotAt ((run g calls) .state) j) .rows ≡ length (lastAccepted g j calls)
   pub numbers : (j : ℕ) → j < 8 → partAt ((run g calls) .table) j ≡ padded slotNumbers (flat (lastAccepted g j calls))
+  -- 02: each count is that of the ticks carried out since the neighbour was added that found it in this state, "and their sum is the number of
+  -- ticks carried out since the neighbour was added"
+  pub seconds : (j : ℕ) → j < 8 → (phase : Phase) → secondsIn phase ((slotAt ((run g calls) .state) j) .seconds) ≡ ticksFinding g j phase calls
+  pub clock : (j : ℕ) → j < 8 → secondsSum ((slotAt ((run g calls) .state) j) .seconds) ≡ ticksSince g j calls
   -- however many calls about others follow, a used slot's record stays as it was, its part of the table, and the rows
   -- read
   pub others :
@@ -234,7 +241,7 @@ Listable b = (j : ℕ) → j < 8 → every markedRow (rowsAt b j) ≡ true
 
 -- a stored record, with these rows
 abbrev pub peerFrom : Stored.Slot → List Row → Peer
-peerFrom slot rows = record { address = slot .address; asn = slot .asn; neighbour = slot .neighbour; rows = rows }
+peerFrom slot rows = record { address = slot .address; asn = slot .asn; neighbour = slot .neighbour; rows = rows; seconds = slot .seconds }
 
 -- one slot of the model, from its record and the rows read off the table
 unfoldable pub slotFrom : Stored.Slot → List Row → Slot

@@ -1,13 +1,15 @@
 -- Turns with their answers written out: what is refused, with which number, and what is left then. The proof is in
 -- proofs/Sheet.antt.
-use Prim.Native.Nat.{ℕ}
+use Prim.Native.Nat.{ℕ, zero, suc}
 use mathlib.Core.Path.{_≡_}
 use mathlib.Core.Bool.{Bool, true, false}
 use mathlib.Core.List.{List, [], _∷_}
 use lib.ListN.{length}
 use Rattle.update_rows.specs.Storing.{zeros}
 use Rattle.neighbour.specs.declared.Settings.{Settings}
+use Rattle.neighbour.specs.Record.{idle}
 use Rattle.gateway_state.specs.declared.State.{State}
+use Rattle.gateway_state.specs.Slots.{slotAt, withSlot}
 use Rattle.gateway_slots.specs.Calls.{freshOf, zeroState}
 use Rattle.text.specs.Text.{text}
 use Rattle.recording_player.specs.declared.Player.{Player}
@@ -44,6 +46,32 @@ quietAfter p input =
 unfoldable pub playerUnformed : Player
 playerUnformed = record { lines = 4; held = 0; broken = false; address = 0; ticks = 0; settings = settingsWith 3; state = zeroState }
 
+-- behind five lines, 128.9.0.5 Idle in slot 0 for so many seconds, with so many ticks due
+unfoldable pub playerLate : ℕ → ℕ → Player
+playerLate seconds ticks =
+    record {
+      lines = 5;
+      held = 0;
+      broken = false;
+      address = 2148073477;
+      ticks = ticks;
+      settings = startState .settings;
+      state =
+          withSlot startState 0
+          (record {
+            address = 2148073477;
+            asn = 7;
+            neighbour = idle;
+            rows = 0;
+            seconds = record { idle = seconds; acquisition = 0; down = 0; up = 0; cease = 0 };
+          });
+    }
+
+-- the seconds in Idle and the ticks still due after so many turns
+unfoldable pub throughTurns : ℕ → Player → List ℕ
+throughTurns zero p = (slotAt (p .state) 0) .seconds .idle ∷ p .ticks ∷ []
+throughTurns (suc n) p = throughTurns n ((turnStep true p (zeros 4118) (zeros 3072) (text "stop")) .player)
+
 -- a turn on a line buffer of so many octets and a table of so many numbers
 unfoldable pub onTurn : Bool → Player → ℕ → ℕ → List ℕ → List ℕ
 onTurn room p octets numbers input = summary (turnStep room p (zeros octets) (zeros numbers) input)
@@ -69,6 +97,9 @@ pub record Sheet : Type 0 where
   -- a tick line asks for nothing, each of its ticks for room
   pub tick-line : onTurn false (playerAt 4 0 0) 4118 0 (text "tick=128.9.0.5/3\n") ≡ 0 ∷ 17 ∷ 0 ∷ 5 ∷ 0 ∷ 3 ∷ []
   pub tick : onTurn true (playerAt 5 0 3) 0 3072 (text "stop") ≡ 5 ∷ 0 ∷ 0 ∷ 5 ∷ 0 ∷ 2 ∷ []
+  -- 02, L7: 22, and each of the rest is made by its own rule
+  pub tick-late : onTurn true (playerLate 4294967295 2) 0 3072 (text "stop") ≡ 22 ∷ 0 ∷ 0 ∷ 5 ∷ 0 ∷ 1 ∷ []
+  pub ticks-late : throughTurns 3 (playerLate 4294967295 4) ≡ 4294967295 ∷ 1 ∷ []
   pub tick-short : onTurn false (playerAt 5 0 3) 0 3072 (text "stop") ≡ 3 ∷ 0 ∷ 0 ∷ 5 ∷ 0 ∷ 3 ∷ []
   -- the line buffer
   pub held : onTurn false (playerAt 4 0 0) 4118 0 (text "start") ≡ 0 ∷ 5 ∷ 0 ∷ 4 ∷ 5 ∷ 0 ∷ []

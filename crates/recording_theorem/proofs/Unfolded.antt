@@ -17,6 +17,7 @@ use Rattle.update_rows.specs.Storing as Storing
 use Rattle.codec_writing.specs.Octets as Octets
 use Rattle.neighbour.specs.Record as Record
 use Rattle.neighbour.specs.Rules as Rules
+use Rattle.neighbour_seconds.specs.Seconds as Seconds
 use Rattle.neighbour_machine.specs.Table as Table
 use Rattle.neighbour_machine.specs.Tick as Tick
 use Rattle.neighbour_machine.specs.Step as Step
@@ -34,5 +35,5 @@ use Rattle.recording_theorem.specs.Output as Output
 use Rattle.recording_theorem.specs.Cases as Cases
 
 unfoldable pub opened : ℕ
-unfolding Checks.check Checks.ifOk Lists.first Lists.every Lists.join Checksum.onesAdd Checksum.onesSum Checksum.checksumOf Checksum.sealed Classes.netWidth Classes.hostSpan Classes.goodNet Classes.onNet Rows.rowsOf Text.text Text.digit Text.digits Text.decimal Text.dotted Text.line Numbers.whenNumber Numbers.isDigit Numbers.digitsOf Numbers.leadsWithZero Numbers.decimalOf Numbers.dottedFrom Numbers.dottedOf Hex.hexDigit Hex.hexText Hex.nibble Hex.isHex Hex.hexOctets Places.indexOf Places.startsWith Kinds.kindAt Kinds.plainStatus Kinds.refusalStatus Kinds.markedStatus Reading.headerAnswer Reading.meaningOf Reading.decodeAs Reading.decodeOf Writing.headOf Storing.zeros Octets.plainOctets Octets.messageOctets Record.under Record.withNumbers Record.withTimers Record.withReach Record.idle Record.leftIdle Record.waiting Record.initialised Record.heardFrom Record.shifted Record.enterUp Record.leaveUp Record.polled Record.oneMore Record.aged Rules.inSequence Rules.commanded Rules.indicates Rules.noted Rules.tooQuick Rules.recounted Rules.period1Of Rules.period2Of Rules.unacceptable Rules.modeOf Rules.offerOf Rules.onesOf Rules.goesUp Rules.goesDown Rules.judged Table.followed Table.unanswered Table.answers Table.says Table.helloIf Table.doesA Table.doesB Table.ceases Table.repeatsCease Table.acquires Table.stray Table.onRequest Table.settles Table.onConfirm Table.onRefuse Table.onCease Table.onCeaseAck Table.onHello Table.onIHeardYou Table.answersPoll Table.onPoll Table.onUpdate Table.onStart Table.onStop Tick.expired Tick.repeats Tick.listens Tick.polls Tick.pollsOnEntry Tick.takesT2 Tick.pollsInUp Tick.tickOn Tick.tickOutside Tick.onTick Step.onMessage Step.stepOf Slots.freeSlot Formed.goodSettings Outcomes.silentOf Calls.freeSlots Calls.emptyState Calls.zeroState Calls.freshAnswer Calls.freshOf Home.homeRow Home.ownFirst Home.goodHome ListingLinesLines.stateWord ListingLinesLines.modeWord ListingLinesLines.distanceIn ListingLinesLines.sideWord ListingLinesLines.headLines ListingLinesLines.rowLines ListingLinesLines.rowText ListingLinesLines.entryText ListingLinesLines.listingText Model.empty Model.slotIn Model.put Model.isFree Model.hasAddress Model.foundAt Model.isPresent Model.vacancy Model.silent Model.spoken Model.addable Model.answerToAdd Model.isIdleSlot Model.answerToRemove Model.addTurn Model.removeTurn Model.noMove Model.rowsInPhase Model.moved Model.noOctets Model.eventMove Model.bodyAnswer Model.isUpdate Model.kindAnswer Model.answerTo Model.firstTwelve Model.errorReply Model.refuseReply Model.refusalReply Model.afterMessage Model.rowsAfter Model.messageMove Model.eventAnswer Model.messageAnswer Model.turnAt Model.eventTurn Model.messageTurn Model.listedFrom Model.listed Model.listingAnswer Model.listingSaid Model.listingTurn Model.step Model.modelFrom Model.model RecordingLinesLines.behind RecordingLinesLines.ownAsOf RecordingLinesLines.ownOf RecordingLinesLines.capabilityOf RecordingLinesLines.netOf RecordingLinesLines.quietOf RecordingLinesLines.alone RecordingLinesLines.slashed RecordingLinesLines.addEvent RecordingLinesLines.tickEvent RecordingLinesLines.rxEvent RecordingLinesLines.eventOf BadLine.badText Told.txText Told.lent Told.addressedTo Output.linesFrom Output.linesOf Output.eventIn Output.valueIn Output.fromQuiet Output.takenBy Output.fromNet Output.fromCapability Output.fromOwn Output.openingOf Output.ticks Output.callsOf Output.goodCalls Output.callsTold Output.eventTold Output.toldFrom Output.toldText Output.eventsText Output.openingText Output.outputOf Cases.head Cases.strayHello Cases.drawn Cases.idleListing
+unfolding Checks.check Checks.ifOk Lists.first Lists.every Lists.join Checksum.onesAdd Checksum.onesSum Checksum.checksumOf Checksum.sealed Classes.netWidth Classes.hostSpan Classes.goodNet Classes.onNet Rows.rowsOf Text.text Text.digit Text.digits Text.decimal Text.dotted Text.line Numbers.whenNumber Numbers.isDigit Numbers.digitsOf Numbers.leadsWithZero Numbers.decimalOf Numbers.dottedFrom Numbers.dottedOf Hex.hexDigit Hex.hexText Hex.nibble Hex.isHex Hex.hexOctets Places.indexOf Places.startsWith Kinds.kindAt Kinds.plainStatus Kinds.refusalStatus Kinds.markedStatus Reading.headerAnswer Reading.meaningOf Reading.decodeAs Reading.decodeOf Writing.headOf Storing.zeros Octets.plainOctets Octets.messageOctets Record.under Record.withNumbers Record.withTimers Record.withReach Record.idle Record.leftIdle Record.waiting Record.initialised Record.heardFrom Record.shifted Record.enterUp Record.leaveUp Record.polled Record.oneMore Record.aged Rules.inSequence Rules.commanded Rules.indicates Rules.noted Rules.tooQuick Rules.recounted Rules.period1Of Rules.period2Of Rules.unacceptable Rules.modeOf Rules.offerOf Rules.onesOf Rules.goesUp Rules.goesDown Rules.judged Seconds.secondsSum Seconds.clockFull Seconds.counted Table.followed Table.unanswered Table.answers Table.says Table.helloIf Table.doesA Table.doesB Table.ceases Table.repeatsCease Table.acquires Table.stray Table.onRequest Table.settles Table.onConfirm Table.onRefuse Table.onCease Table.onCeaseAck Table.onHello Table.onIHeardYou Table.answersPoll Table.onPoll Table.onUpdate Table.onStart Table.onStop Tick.expired Tick.repeats Tick.listens Tick.polls Tick.pollsOnEntry Tick.takesT2 Tick.pollsInUp Tick.tickOn Tick.tickOutside Tick.onTick Step.onMessage Step.stepOf Slots.freeSlot Formed.goodSettings Outcomes.silentOf Calls.freeSlots Calls.emptyState Calls.zeroState Calls.freshAnswer Calls.freshOf Home.homeRow Home.ownFirst Home.goodHome ListingLinesLines.stateWord ListingLinesLines.modeWord ListingLinesLines.distanceIn ListingLinesLines.sideWord ListingLinesLines.secondsLines ListingLinesLines.headLines ListingLinesLines.rowLines ListingLinesLines.rowText ListingLinesLines.entryText ListingLinesLines.listingText Model.empty Model.slotIn Model.put Model.isFree Model.hasAddress Model.foundAt Model.isPresent Model.vacancy Model.silent Model.spoken Model.addable Model.answerToAdd Model.isIdleSlot Model.answerToRemove Model.addTurn Model.removeTurn Model.noMove Model.rowsInPhase Model.moved Model.noOctets Model.secondsAfter Model.eventMove Model.bodyAnswer Model.isUpdate Model.kindAnswer Model.answerTo Model.firstTwelve Model.errorReply Model.refuseReply Model.refusalReply Model.afterMessage Model.rowsAfter Model.messageMove Model.isLate Model.eventAnswer Model.messageAnswer Model.turnAt Model.eventTurn Model.messageTurn Model.listedFrom Model.listed Model.listingAnswer Model.listingSaid Model.listingTurn Model.step Model.modelFrom Model.model RecordingLinesLines.behind RecordingLinesLines.ownAsOf RecordingLinesLines.ownOf RecordingLinesLines.capabilityOf RecordingLinesLines.netOf RecordingLinesLines.quietOf RecordingLinesLines.alone RecordingLinesLines.slashed RecordingLinesLines.addEvent RecordingLinesLines.tickEvent RecordingLinesLines.rxEvent RecordingLinesLines.eventOf BadLine.badText Told.txText Told.lent Told.addressedTo Output.linesFrom Output.linesOf Output.eventIn Output.valueIn Output.fromQuiet Output.takenBy Output.fromNet Output.fromCapability Output.fromOwn Output.openingOf Output.ticks Output.callsOf Output.goodCalls Output.callsTold Output.eventTold Output.toldFrom Output.toldText Output.eventsText Output.openingText Output.outputOf Cases.head Cases.strayHello Cases.drawn Cases.idleListing
 opened = 0

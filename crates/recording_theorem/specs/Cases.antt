@@ -18,7 +18,7 @@ unfoldable pub drawn : List ℕ
 drawn = text "tx=128.9.0.5/02030307FAEC00090000\n"
 
 unfoldable pub idleListing : List ℕ
-idleListing = text "neighbours=1\nslot=0\naddr=128.9.0.5\nas=7\nstate=idle\nmode=none\nrows=0\n"
+idleListing = text "neighbours=1\nslot=0\naddr=128.9.0.5\nas=7\nstate=idle\nmode=none\nrows=0\nsidle=0\nsacq=0\nsdown=0\nsup=0\nscease=0\n"
 
 pub record PlayedCases : Type 0 where
   -- the first of the four that is bad or missing, alone
@@ -35,22 +35,29 @@ pub record PlayedCases : Type 0 where
   -- line 5 is good, 6 bad, 7 good though its call is refused, 8 bad since it does not end
   pub some-bad :
       outputOf (head ++ text "add=128.9.0.5/7\nadd=128.9.0.6/08\nadd=128.9.0.5/7\nadd=128.9.0.6/8")
-      ≡ text "bad=6\nbad=8\nneighbours=1\nslot=0\naddr=128.9.0.5\nas=7\nstate=idle\nmode=none\nrows=0\n"
-  -- a Start, and the Request again after 30 ticks; Stop in Acquisition sends nothing
+      ≡ text "bad=6\nbad=8\n" ++ idleListing
+  -- a Start, and the Request again after 30 ticks; Stop in Acquisition sends nothing, and its seconds there stay
   pub started :
       outputOf (head ++ text "add=128.9.0.5/7\nstart=128.9.0.5\ntick=128.9.0.5/31\nstop=128.9.0.5\n")
       ≡ text "tx=128.9.0.5/02030001FD5C00090000001E0078\ntx=128.9.0.5/02030001FD5C00090000001E0078\n"
-      ++ text "neighbours=1\nslot=0\naddr=128.9.0.5\nas=7\nstate=idle\nmode=none\nrows=0\n"
+      ++ text "neighbours=1\nslot=0\naddr=128.9.0.5\nas=7\nstate=idle\nmode=none\nrows=0\nsidle=0\nsacq=31\nsdown=0\nsup=0\nscease=0\n"
   -- a Request at an active gateway draws a Confirm and a Hello: two lines, in that order
   pub two-replies :
       outputOf (head ++ text "add=128.9.0.5/7\nrx=128.9.0.5/02030000FCE800070009003C00C8\n")
       ≡ text "tx=128.9.0.5/02030101FC5300090009001E0078\ntx=128.9.0.5/02050002FDEF00090000\n"
-      ++ text "neighbours=1\nslot=0\naddr=128.9.0.5\nas=7\nstate=down\nmode=active\nrows=0\n"
+      ++ text "neighbours=1\nslot=0\naddr=128.9.0.5\nas=7\nstate=down\nmode=active\nrows=0\nsidle=0\nsacq=0\nsdown=0\nsup=0\nscease=0\n"
   -- a message that is refused draws its reply too: a Refuse to a Request of another AS
   pub refused-reply :
       outputOf (head ++ text "add=128.9.0.5/7\nrx=128.9.0.5/02030000FD51000C0009001E0078\n")
-      ≡ text "tx=128.9.0.5/02030204FBE600090009\n"
-      ++ text "neighbours=1\nslot=0\naddr=128.9.0.5\nas=7\nstate=idle\nmode=none\nrows=0\n"
+      ≡ text "tx=128.9.0.5/02030204FBE600090009\n" ++ idleListing
+  -- 02, L7: seconds under the state that each found; of one that is removed and added again only those since; a tick of nobody counts nowhere
+  pub seconds :
+      outputOf (head ++ text "add=128.9.0.5/7\ntick=128.9.0.5/3\nstart=128.9.0.5\ntick=128.9.0.5/5\nstop=128.9.0.5\ntick=128.9.0.5/4\ntick=128.9.0.6/2\n")
+      ≡ text "tx=128.9.0.5/02030001FD5C00090000001E0078\n"
+      ++ text "neighbours=1\nslot=0\naddr=128.9.0.5\nas=7\nstate=idle\nmode=none\nrows=0\nsidle=7\nsacq=5\nsdown=0\nsup=0\nscease=0\n"
+  pub seconds-anew :
+      outputOf (head ++ text "add=128.9.0.5/7\ntick=128.9.0.5/3\nremove=128.9.0.5\nadd=128.9.0.5/7\ntick=128.9.0.5/2\n")
+      ≡ text "neighbours=1\nslot=0\naddr=128.9.0.5\nas=7\nstate=idle\nmode=none\nrows=0\nsidle=2\nsacq=0\nsdown=0\nsup=0\nscease=0\n"
   -- 02, L6: "Make that the new default"; "`quiet=1`, a line right after `net` which keeps the old behaviour; `quiet=0` may stand there too"
   pub stray : outputOf (head ++ strayHello) ≡ drawn ++ idleListing
   pub stray-zero : outputOf (head ++ text "quiet=0\n" ++ strayHello) ≡ drawn ++ idleListing

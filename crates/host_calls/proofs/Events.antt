@@ -1,11 +1,10 @@
 -- Laws of Start, Stop and tick for a host: each way they end. Assumes nothing.
 use Prim.Native.Nat.{ℕ, _≤_, _<_}
 use native.Mathlib.Omega.{arith}
-use borrow.Author.Tests.{eq-eqb, eqb-true, le-ltb, lt-ltb}
+use borrow.Author.Tests.{eqb-true}
 use mathlib.Core.Path.{_≡_, refl, sym, _∙_, ap}
 use mathlib.Core.Bool.{Bool, true, false}
 use mathlib.Core.List.{List, []}
-use lib.Dec.{ltb}
 use lib.ListN.{length}
 use lib.Seq.{sets}
 use Rattle.checks.specs.Checks.{check, ifOk}
@@ -18,6 +17,7 @@ use Rattle.update_rows.specs.Storing.{walkedRows}
 use Rattle.neighbour.specs.declared.Phase.the-variants.{Up}
 use Rattle.neighbour.specs.declared.Settings.{Settings}
 use Rattle.neighbour.specs.declared.Neighbour.{Neighbour}
+use Rattle.neighbour_seconds.specs.Seconds.{secondsFormed}
 use Rattle.neighbour_machine.specs.declared.Event.{Event}
 use Rattle.neighbour_machine.specs.declared.Event.the-variants.{Tick}
 use Rattle.neighbour_machine.specs.declared.After.{After}
@@ -26,18 +26,20 @@ use Rattle.neighbour_machine.specs.Table.{unanswered}
 use Rattle.neighbour_machine.specs.Tick.{onTick}
 use Rattle.neighbour_machine.specs.Step.{stepOf}
 use Rattle.gateway_state.specs.declared.Slot.{Slot}
-use Rattle.gateway_state.specs.declared.State.{State}
 use Rattle.gateway_state.specs.declared.Outcome.{Outcome}
 use Rattle.gateway_state.specs.Slots.{slotAt, slotOf, withSlot}
 use Rattle.gateway_state.specs.Places.{rowCounts}
 use Rattle.gateway_state.specs.Outcomes.{refusedOf}
+use Rattle.gateway_state.proofs.Theorems.{formed-slot}
 use Rattle.gateway_rules.specs.declared.Verdict.{Verdict}
 use Rattle.gateway_rules.specs.Ruling.{keep, Ruling, stepped, verdictOf}
+use Rattle.gateway_rules.specs.Seconds.{hasTime, booked}
 use Rattle.gateway_rules.specs.Carried.{slotAfter, outcomeAfter}
 use Rattle.gateway_rules.specs.Carried as Carried
 use Rattle.gateway_rules.specs.Calls.{tableFits, bufferFits, lentChecks, eventChecks}
+use Rattle.gateway_rules.proofs.Checks.{Passed}
 use Rattle.gateway_carry.specs.Asked.{sendable, lengthsOf, takes, changeOf, rulingOf}
-use Rattle.gateway_calls.proofs.Checks.{lent-fails, lent-passes}
+use Rattle.gateway_calls.proofs.Checks.{lent-fails, event-5, event-22, event-0, event-met}
 use Rattle.gateway_calls.proofs.Calls.{Happened, event-refused, event-asked, event-done, event-counted}
 use Rattle.model.specs.Model.{happen}
 use Rattle.model.specs.Theorem.{outcomeOf, tableLeft, bufferLeft, bufferOf}
@@ -93,65 +95,86 @@ module _ (event : Event) (block table buffer : List ℕ) (a : ℕ) where
       go true f true r e =
           let l : k ≡ lentChecks (stateIn block) (tableFits (tableIn table)) (bufferFits buffer) 0 = e ∙ check-holds true 20 _ refl ∙ check-holds true 1 _ refl in
           answered-refused (eqb-true (length block) blockSize f) r (refusedOf (stateIn block) k) (tableIn table) buffer
-          (event-refused event (stateIn block) (tableIn table) buffer a k (λ i. lent-fails (stateIn block) _ _ _ k n l) n (refusedOf (stateIn block) k) refl) n
+          (event-refused event (stateIn block) (tableIn table) buffer a k (λ i x. lent-fails (stateIn block) _ _ _ k n l) n (refusedOf (stateIn block) k) refl) n
 
   -- once they passed
   module _ (good : hostLent block table buffer ≡ 0) where
     met : Good block table buffer
     met = lent-good block table buffer good
 
-    passes : (rest : ℕ) → lentChecks (stateIn block) (tableFits (tableIn table)) (bufferFits buffer) rest ≡ rest
-    passes rest = lent-passes (stateIn block) (tableFits (tableIn table)) (bufferFits buffer) rest (met .lent)
+    -- 1, 2 and 3 look at lengths alone
+    lent : (t b : List ℕ) → length t ≡ length (tableIn table) → length b ≡ length buffer → 0 ≡ lentChecks (stateIn block) (tableFits t) (bufferFits b) 0
+    lent t b p q = rw (p, q) (sym (met .lent))
 
-    pub happen-5 : (i : ℕ) → i ≡ slotOf (stateIn block) a → 8 ≤ i → Answered event block table buffer a (bare 5) block table buffer
-    unfolding refusedOf eventChecks
-    happen-5 i p h =
-        answered-refused (met .long) (met .ranged) (refusedOf (stateIn block) 5) (tableIn table) buffer
-        (event-refused event (stateIn block) (tableIn table) buffer a 5
-        (λ e. sym (passes _ ∙ check-fails (ltb (slotOf (stateIn block) a) 8) 5 0 (le-ltb (slotOf (stateIn block) a) 8 (rw (← p) h))))
-        (λ z. absurd (omega (arith, z))) (refusedOf (stateIn block) 5) refl)
-        (λ z. absurd (omega (arith, z)))
+    refused-alone : (k : ℕ) → (k ≡ 0 → ⊥) → ((e : Intrinsic) → event ≡ asEvent e → k ≡ eventChecks e (stateIn block) (tableIn table) buffer a)
+        → Answered event block table buffer a (bare k) block table buffer
+    unfolding refusedOf
+    refused-alone k n c =
+        answered-refused (met .long) (met .ranged) (refusedOf (stateIn block) k) (tableIn table) buffer
+        (event-refused event (stateIn block) (tableIn table) buffer a k c n (refusedOf (stateIn block) k) refl) n
 
-    module _ (i : ℕ) (slot : Slot) (p : i ≡ slotOf (stateIn block) a) (h : i < 8) (s : slot ≡ slotAt (stateIn block) i) where
-      checks : (e : Intrinsic) → 0 ≡ eventChecks e (stateIn block) (tableIn table) buffer a
-      unfolding eventChecks
-      checks e = sym (passes _ ∙ check-holds (ltb (slotOf (stateIn block) a) 8) 5 0 (lt-ltb (slotOf (stateIn block) a) 8 (rw (← p) h)))
+    module _ (i : ℕ) (p : i ≡ slotOf (stateIn block) a) where
+      pub happen-5 : 8 ≤ i → Answered event block table buffer a (bare 5) block table buffer
+      happen-5 h =
+          refused-alone 5 (λ z. absurd (omega (arith, z)))
+          (λ e x. event-5 (stateIn block) a _ _ 0 lent refl event i p h e x (tableIn table) buffer refl refl)
 
-      pub found-room : (length block ≡ blockSize) × (i < 8) × (length table ≡ tableSize) × (2048 ≤ length buffer)
-      found-room = (met .long, h, met .table-size, met .room)
+      -- the slot is there
+      module _ (h : i < 8) (found : Slot) (s : found ≡ slotAt (stateIn block) i) where
+        pub happen-22 : hasTime event (found .seconds) ≡ false → Answered event block table buffer a (bare 22) block table buffer
+        happen-22 f =
+            refused-alone 22 (λ z. absurd (omega (arith, z)))
+            (λ e x. event-22 (stateIn block) a _ _ 0 lent refl event i p h (rw s at f) e x (tableIn table) buffer refl refl)
 
-      module _ (o : Octets block) (q : Octets table) where
-        -- a tick that only counts
-        pub happen-counted : (n : Neighbour) (next : Slot) → event ≡ Tick → slot .neighbour .phase ≡ Up → ((g : Settings) → unanswered n ≡ onTick g (slot .neighbour)) → n .phase ≡ Up
-            → ((x : Ruling) → x .neighbour ≡ n → x .change ≡ keep → next ≡ slotAfter slot x)
-            → Answered event block table buffer a (bare 0) (sets block (slotStart i) (slotOctets next)) table buffer
-        happen-counted n next tick up left still w =
-            answered-by (met .long) (met .ranged) (record { answer = 0; first = 0; second = 0; state = withSlot (stateIn block) i next }) (tableIn table) buffer
-            (event-counted event (stateIn block) (tableIn table) buffer a 0 checks refl i slot n next p s tick up left still w (withSlot (stateIn block) i next) refl)
-            (sets block (slotStart i) (slotOctets next)) table
-            (slot-stored block (met .long) o (met .ranged) i next h ∙ sym (ifOk-new 0 _ _ refl)) (table-same table q (met .table-size) ∙ sym (ifOk-new 0 _ _ refl))
+        passed : Passed (stateIn block) (tableIn table) buffer a
+        passed = event-met (stateIn block) a _ _ 0 lent refl event i p h (tableIn table) buffer refl refl
 
-        module _ (after : After) (v : Verdict) (m : after ≡ stepOf ((stateIn block) .settings) (slot .asn) (slot .neighbour) event (record { first = 0; second = 0; third = 0 }))
-            (w : v ≡ verdictOf (stepped (slot .neighbour) after)) where
-          pub happen-asked : (sendable (v .reply) (homeIn []) ≡ true) × (takes (v .effect) (walkedBlocks ((stateIn block) .settings .net) []) ≡ true)
-          unfolding rowNumbers wordsOf
-          happen-asked = event-asked event (stateIn block) (tableIn table) buffer a 0 checks refl i slot after v p s m w [] .1
+        pub found-formed : secondsFormed (found .seconds) ≡ true
+        found-formed = rw s (formed-slot (stateIn block) i (passed .formed) .1 .seconds)
 
-          pub happen-done : (r : ℕ) (b t x : List ℕ)
-              → r ≡ packed (v .answer) ((lengthsOf (v .reply) (rowsOf (homeIn []))) .first) ((lengthsOf (v .reply) (rowsOf (homeIn []))) .second)
-              → b ≡ ifOk (v .answer) (sets block (slotStart i) (slotOctets (slotAfter slot (rulingOf v (walkedRows (walkedBlocks ((stateIn block) .settings .net) [])))))) block
-              → ((counts : List ℕ) → t ≡ ifOk (v .answer) (octetsAfter table counts i (changeOf (v .effect) (walkedRows (walkedBlocks ((stateIn block) .settings .net) [])))) table)
-              → x ≡ Carried.bufferAfter buffer (v .reply) (rowsOf (homeIn []))
-              → Answered event block table buffer a r b t x
-          unfolding rowNumbers wordsOf octetsAfter lengthsOf rulingOf outcomeAfter rowsOf
-          happen-done r b t x e f g k =
-              let st = stateIn block in
-              let rows = walkedRows (walkedBlocks (st .settings .net) []) in
-              let out = outcomeAfter st i (rulingOf v rows) (rowsOf []) in
-              let t′ = Carried.tableAfter (tableIn table) (rowCounts st) i (changeOf (v .effect) rows) in
-              let x′ = Carried.bufferAfter buffer (v .reply) (rowsOf []) in
-              let done = event-done event st (tableIn table) buffer a 0 checks refl i slot after v p s m w [] out t′ x′ refl refl refl in
-              rw (e, k)
-              (answered-by (met .long) (met .ranged) out t′ x′ done b t
-              (f ∙ ap (λ (y : List ℕ). ifOk (v .answer) y block) (slot-stored block (met .long) o (met .ranged) i _ h ∙ ap (λ (y : Slot). blockOf (withSlot st i (slotAfter y (rulingOf v rows)))) s))
-              (g (rowCounts st) ∙ ap (λ (y : List ℕ). ifOk (v .answer) (wordOctets (Carried.tableAfter y (rowCounts st) i (changeOf (v .effect) rows))) table) (sym (table-held table (met .table-size)))))
+        pub found-room : (length block ≡ blockSize) × (i < 8) × (length table ≡ tableSize) × (2048 ≤ length buffer)
+        found-room = (met .long, h, met .table-size, met .room)
+
+        -- and its clock has room; then the slot with a tick booked
+        module _ (time : hasTime event (found .seconds) ≡ true) (slot : Slot) (k : slot ≡ booked event found) where
+          checks : (e : Intrinsic) → event ≡ asEvent e → 0 ≡ eventChecks e (stateIn block) (tableIn table) buffer a
+          checks e x = event-0 (stateIn block) a _ _ 0 lent refl event i p h (rw s at time) e x (tableIn table) buffer refl refl
+
+          slot-is : slot ≡ booked event (slotAt (stateIn block) i)
+          slot-is = k ∙ ap (booked event) s
+
+          module _ (o : Octets block) (q : Octets table) where
+            -- a tick that only counts
+            pub happen-counted : (n : Neighbour) (next : Slot) → event ≡ Tick → slot .neighbour .phase ≡ Up → ((g : Settings) → unanswered n ≡ onTick g (slot .neighbour)) → n .phase ≡ Up
+                → ((x : Ruling) → x .neighbour ≡ n → x .change ≡ keep → next ≡ slotAfter slot x)
+                → Answered event block table buffer a (bare 0) (sets block (slotStart i) (slotOctets next)) table buffer
+            happen-counted n next tick up left still w =
+                answered-by (met .long) (met .ranged) (record { answer = 0; first = 0; second = 0; state = withSlot (stateIn block) i next }) (tableIn table) buffer
+                (event-counted event (stateIn block) (tableIn table) buffer a 0 checks refl passed i slot n next p slot-is tick up left still w (withSlot (stateIn block) i next) refl)
+                (sets block (slotStart i) (slotOctets next)) table
+                (slot-stored block (met .long) o (met .ranged) i next h ∙ sym (ifOk-new 0 _ _ refl)) (table-same table q (met .table-size) ∙ sym (ifOk-new 0 _ _ refl))
+
+            module _ (after : After) (v : Verdict) (m : after ≡ stepOf ((stateIn block) .settings) (slot .asn) (slot .neighbour) event (record { first = 0; second = 0; third = 0 }))
+                (w : v ≡ verdictOf (stepped (slot .neighbour) after)) where
+              pub happen-asked : (sendable (v .reply) (homeIn []) ≡ true) × (takes (v .effect) (walkedBlocks ((stateIn block) .settings .net) []) ≡ true)
+              unfolding rowNumbers wordsOf
+              happen-asked = event-asked event (stateIn block) (tableIn table) buffer a 0 checks refl passed i slot after v p slot-is m w [] .1
+
+              pub happen-done : (r : ℕ) (b t x : List ℕ)
+                  → r ≡ packed (v .answer) ((lengthsOf (v .reply) (rowsOf (homeIn []))) .first) ((lengthsOf (v .reply) (rowsOf (homeIn []))) .second)
+                  → b ≡ ifOk (v .answer) (sets block (slotStart i) (slotOctets (slotAfter slot (rulingOf v (walkedRows (walkedBlocks ((stateIn block) .settings .net) [])))))) block
+                  → ((counts : List ℕ) → t ≡ ifOk (v .answer) (octetsAfter table counts i (changeOf (v .effect) (walkedRows (walkedBlocks ((stateIn block) .settings .net) [])))) table)
+                  → x ≡ Carried.bufferAfter buffer (v .reply) (rowsOf (homeIn []))
+                  → Answered event block table buffer a r b t x
+              unfolding rowNumbers wordsOf octetsAfter lengthsOf rulingOf outcomeAfter rowsOf
+              happen-done r b t x e f g k =
+                  let st = stateIn block in
+                  let rows = walkedRows (walkedBlocks (st .settings .net) []) in
+                  let out = outcomeAfter st i slot (rulingOf v rows) (rowsOf []) in
+                  let t′ = Carried.tableAfter (tableIn table) (rowCounts st) i (changeOf (v .effect) rows) in
+                  let x′ = Carried.bufferAfter buffer (v .reply) (rowsOf []) in
+                  let done = event-done event st (tableIn table) buffer a 0 checks refl passed i slot after v p slot-is m w [] out t′ x′ refl refl refl in
+                  rw (e, k)
+                  (answered-by (met .long) (met .ranged) out t′ x′ done b t
+                  (f ∙ ap (λ (y : List ℕ). ifOk (v .answer) y block) (slot-stored block (met .long) o (met .ranged) i _ h))
+                  (g (rowCounts st) ∙ ap (λ (y : List ℕ). ifOk (v .answer) (wordOctets (Carried.tableAfter y (rowCounts st) i (changeOf (v .effect) rows))) table) (sym (table-held table (met .table-size)))))

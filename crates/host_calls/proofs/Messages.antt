@@ -25,7 +25,6 @@ use Rattle.neighbour.specs.declared.Neighbour.{Neighbour}
 use Rattle.neighbour_machine.specs.declared.After.{After}
 use Rattle.neighbour_machine.specs.declared.Reply.{Reply}
 use Rattle.gateway_state.specs.declared.Slot.{Slot}
-use Rattle.gateway_state.specs.declared.State.{State}
 use Rattle.gateway_state.specs.declared.Outcome.{Outcome}
 use Rattle.gateway_state.specs.Slots.{slotAt, slotOf, withSlot}
 use Rattle.gateway_state.specs.Places.{rowCounts}
@@ -184,11 +183,11 @@ module _ (block table buffer home : List ℕ) (a : ℕ) (m : List ℕ) where
             take-done r b t x e f n k =
                 let st = stateIn block in
                 let rows = walkedRows (walkedBlocks (st .settings .net) m) in
-                let out = outcomeAfter st i (rulingOf v rows) (rowsOf (homeIn home)) in
+                let out = outcomeAfter st i slot (rulingOf v rows) (rowsOf (homeIn home)) in
                 let t′ = Carried.tableAfter (tableIn table) (rowCounts st) i (changeOf (v .effect) rows) in
                 let x′ = Carried.bufferAfter buffer (v .reply) (rowsOf (homeIn home)) in
                 rw (e, k)
                 (heard-by (met .long) (met .ranged) out t′ x′
                 (message-done st (tableIn table) buffer (homeIn home) a m 0 checks refl i slot p s v w out t′ x′ refl refl refl) b t
-                (f ∙ ap (λ (y : List ℕ). ifOk (v .answer) y block) (slot-stored block (met .long) o (met .ranged) i _ h ∙ ap (λ (y : Slot). blockOf (withSlot st i (slotAfter y (rulingOf v rows)))) s))
+                (f ∙ ap (λ (y : List ℕ). ifOk (v .answer) y block) (slot-stored block (met .long) o (met .ranged) i _ h))
                 (n (rowCounts st) ∙ ap (λ (y : List ℕ). ifOk (v .answer) (wordOctets (Carried.tableAfter y (rowCounts st) i (changeOf (v .effect) rows))) table) (sym (table-held table (met .table-size)))))

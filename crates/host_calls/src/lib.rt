@@ -144,7 +144,12 @@ fn happen(block: &mut [u8], table: &mut [u8], reply: &mut [u8], address: u32, ev
     if gateway_state::SLOTS <= i {
         return host_result::alone(5);
     }
-    let slot = host_state_block::slot_at(block, i);
+    let found = host_state_block::slot_at(block, i);
+    let seconds = found.seconds;
+    if !gateway_carry::has_time(event, seconds) {
+        return host_result::alone(22);
+    }
+    let slot = gateway_carry::book(event, found);
     let n = slot.neighbour;
     if gateway_calls::only_counts(event, n) {
         let next = gateway_carry::with_neighbour(slot, neighbour_tick::count_down(n));

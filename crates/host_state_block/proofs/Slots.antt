@@ -22,7 +22,7 @@ use Rattle.gateway_state.specs.declared.Slot.{Slot}
 use Rattle.gateway_state.specs.Slots.{addressOf}
 use Rattle.gateway_state.specs.Formed.{slotFormed}
 use Rattle.host_state_block.specs.Layout.{numbersAt, octetsFor}
-use Rattle.host_state_block.specs.Block.{slotFields, slotSize, phaseAt, modeAt, slotNumbers, slotOf, slotOctets, slotsOctets, slotIn, slotsIn}
+use Rattle.host_state_block.specs.Block.{slotFields, slotSize, phaseAt, modeAt, slotNumbers, recordOf, secondsOf, slotOf, slotOctets, slotsOctets, slotIn, slotsIn}
 use Rattle.host_state_block.specs.Formed.{inRange, allInRange}
 use Rattle.host_state_block.specs.Steps.{partFormed, partsFormed}
 use Rattle.host_state_block.proofs.Fields.{octets-total, octets-back}
@@ -62,7 +62,7 @@ unfolding slotOctets
 slot-length slot = octets-total slotFields (slotNumbers slot)
 
 pub slot-numbers-back : (part : List ℕ) → inRange part ≡ true → slotNumbers (slotIn part) ≡ numbersAt slotFields part 0
-unfolding inRange slotNumbers slotIn slotOf numbersAt
+unfolding inRange slotNumbers slotIn slotOf recordOf secondsOf numbersAt
 slot-numbers-back part h =
     let p : getD part 22 0 ≤ 4 = leb-true (getD part 22 0) 4 (and-left (leb (getD part 22 0) 4) (leb (getD part 23 0) 2) h) in
     let m : getD part 23 0 ≤ 2 = leb-true (getD part 23 0) 2 (and-right (leb (getD part 22 0) 4) (leb (getD part 23 0) 2) h) in

@@ -14,7 +14,7 @@ use Rattle.gateway_state.specs.declared.State.{State}
 use Rattle.gateway_state.specs.Slots.{withSlot}
 use Rattle.gateway_state.specs.Formed.{stateFormed}
 use Rattle.host_state_block.specs.Layout.{Fit, numbersAt, octetsFor}
-use Rattle.host_state_block.specs.Block.{ownFields, slotFields, ownSize, slotSize, blockSize, slotStart, ownNumbers, settingsOf, slotNumbers, slotOf, ownOctets, slotOctets, slotsOctets, blockOf, settingsIn, slotIn, slotsIn, stateIn}
+use Rattle.host_state_block.specs.Block.{ownFields, slotFields, ownSize, slotSize, blockSize, slotStart, ownNumbers, settingsOf, slotNumbers, recordOf, secondsOf, slotOf, ownOctets, slotOctets, slotsOctets, blockOf, settingsIn, slotIn, slotsIn, stateIn}
 use Rattle.host_state_block.specs.Formed.{blockInRange, blockFormed}
 use Rattle.host_state_block.specs.Claims.{SlotsFit, WrittenReadsBack, BlocksReadBack}
 use Rattle.host_state_block.proofs.Fields.{octets-total, numbers-back, octets-back}
@@ -34,7 +34,7 @@ settings-back g f = ap settingsOf (numbers-back ownFields (ownNumbers g) f) ∙ 
     same = refl
 
 slot-same : (slot : Slot) → slotOf (slotNumbers slot) ≡ slot
-unfolding slotOf slotNumbers
+unfolding slotOf recordOf secondsOf slotNumbers
 slot-same slot = rw (phase-back (slot .neighbour .phase), mode-back (slot .neighbour .mode))
 
 slot-back : (slot : Slot) → Fit slotFields (slotNumbers slot) → slotIn (slotOctets slot) ≡ slot

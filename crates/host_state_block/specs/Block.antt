@@ -12,6 +12,7 @@ use Rattle.neighbour.specs.declared.Mode.the-variants.{Unset, Active, Passive}
 use Rattle.neighbour.specs.declared.Neighbour.{Neighbour}
 use Rattle.neighbour.specs.declared.Settings.{Settings}
 use Rattle.neighbour.specs.Record.{phaseNumber, modeNumber}
+use Rattle.neighbour_seconds.specs.declared.Seconds.{Seconds}
 use Rattle.gateway_state.specs.declared.Slot.{Slot}
 use Rattle.gateway_state.specs.declared.State.{State}
 use Rattle.host_state_block.specs.Layout.{Width, one, two, four, total, numbersAt, octetsFor}
@@ -21,12 +22,14 @@ abbrev pub ownFields : List Width
 ownFields = two ∷ four ∷ one ∷ four ∷ one ∷ []
 
 -- "each slot's address (4), AS, S, R, T1, T2, t1, t2, t3, row count (2 each), state, mode, register, heard, cause
--- (1 each)", then L5's "two counts of ticks since each", at most 120: "Later fields end their part in the order named,
--- in as few octets as they need"
+-- (1 each)", then L5's "two counts of ticks since each", at most 120, then L7's seconds in each state, at most
+-- 4,294,967,295: "Later fields end their part in the order named, in as few octets as they need"
 abbrev pub slotFields : List Width
-slotFields = four ∷ two ∷ two ∷ two ∷ two ∷ two ∷ two ∷ two ∷ two ∷ two ∷ one ∷ one ∷ one ∷ one ∷ one ∷ one ∷ one ∷ []
+slotFields =
+    four ∷ two ∷ two ∷ two ∷ two ∷ two ∷ two ∷ two ∷ two ∷ two ∷ one ∷ one ∷ one ∷ one ∷ one ∷ one ∷ one
+    ∷ four ∷ four ∷ four ∷ four ∷ four ∷ []
 
--- 12 octets, 29 for each of the eight slots, 244 in all
+-- 12 octets, 49 for each of the eight slots, 404 in all
 abbrev pub ownSize : ℕ
 ownSize = total ownFields
 
@@ -62,7 +65,8 @@ slotNumbers slot =
     ∷ slot .neighbour .t1 ∷ slot .neighbour .t2 ∷ slot .neighbour .t3 ∷ slot .rows
     ∷ phaseNumber (slot .neighbour .phase) ∷ modeNumber (slot .neighbour .mode)
     ∷ slot .neighbour .register ∷ slot .neighbour .heard ∷ slot .neighbour .cause
-    ∷ slot .neighbour .sincehello ∷ slot .neighbour .sincepoll ∷ []
+    ∷ slot .neighbour .sincehello ∷ slot .neighbour .sincepoll
+    ∷ slot .seconds .idle ∷ slot .seconds .acquisition ∷ slot .seconds .down ∷ slot .seconds .up ∷ slot .seconds .cease ∷ []
 
 abbrev pub phaseField : List ℕ → ℕ
 phaseField f = getD f 10 0
@@ -70,30 +74,31 @@ phaseField f = getD f 10 0
 abbrev pub modeField : List ℕ → ℕ
 modeField f = getD f 11 0
 
+unfoldable pub recordOf : List ℕ → Neighbour
+recordOf f =
+    record {
+      s = getD f 2 0;
+      r = getD f 3 0;
+      period1 = getD f 4 0;
+      period2 = getD f 5 0;
+      t1 = getD f 6 0;
+      t2 = getD f 7 0;
+      t3 = getD f 8 0;
+      phase = phaseAt (phaseField f);
+      mode = modeAt (modeField f);
+      register = getD f 12 0;
+      heard = getD f 13 0;
+      cause = getD f 14 0;
+      sincehello = getD f 15 0;
+      sincepoll = getD f 16 0;
+    }
+
+unfoldable pub secondsOf : List ℕ → Seconds
+secondsOf f = record { idle = getD f 17 0; acquisition = getD f 18 0; down = getD f 19 0; up = getD f 20 0; cease = getD f 21 0 }
+
 unfoldable pub slotOf : List ℕ → Slot
 slotOf f =
-    record {
-      address = getD f 0 0;
-      asn = getD f 1 0;
-      neighbour =
-          record {
-            s = getD f 2 0;
-            r = getD f 3 0;
-            period1 = getD f 4 0;
-            period2 = getD f 5 0;
-            t1 = getD f 6 0;
-            t2 = getD f 7 0;
-            t3 = getD f 8 0;
-            phase = phaseAt (phaseField f);
-            mode = modeAt (modeField f);
-            register = getD f 12 0;
-            heard = getD f 13 0;
-            cause = getD f 14 0;
-            sincehello = getD f 15 0;
-            sincepoll = getD f 16 0;
-          };
-      rows = getD f 9 0;
-    }
+    record { address = getD f 0 0; asn = getD f 1 0; neighbour = recordOf f; rows = getD f 9 0; seconds = secondsOf f }
 
 -- ---- written
 

@@ -5,6 +5,7 @@ use neighbour::Mode;
 use neighbour::Neighbour;
 use neighbour::Phase;
 use neighbour::Settings;
+use neighbour_seconds::Seconds;
 ghost use mathlib.Core.Path.{_≡_};
 ghost use mathlib.Core.Bool.{true};
 ghost use Prim.Native.Nat.{_+_, _*_, _-_, _≤_, _<_};
@@ -18,12 +19,12 @@ ghost use Rattle.host_state_block.specs.Block.{ownSize, slotSize, blockS
 ghost use Rattle.host_state_block.specs.Formed.{inRange, blockFormed};
 ghost use Rattle.host_state_block.specs.Steps.{partFormed, partsFormed};
 
-// The octets of a block: 12 of the settings, 29 of each slot.
-pub const BLOCK: usize = 244;
+// The octets of a block: 12 of the settings, 49 of each slot.
+pub const BLOCK: usize = 404;
 
 const OWN: usize = 12;
 
-const SLOT: usize = 29;
+const SLOT: usize = 49;
 
 const SLOTS: usize = 8;
 
@@ -95,12 +96,12 @@ fn read_settings(part: &[u8]) -> Settings
     }
 }
 
-// A slot in its part of a block.
-fn read_slot(part: &[u8]) -> Slot
+// A neighbour's record in its slot's part of a block.
+fn read_neighbour(part: &[u8]) -> Neighbour
     requires { ⌜ length (now part) ≡ slotSize ⌝ }
-    ensures { λ r. ⌜ r ≡ slotIn (now (part .entry)) ⌝ }
+    ensures { λ r. ⌜ r ≡ (slotIn (now (part .entry))) .neighbour ⌝ }
 {
-    let neighbour = Neighbour {
+    Neighbour {
         s: octets::pair(part[6], part[7]),
         r: octets::pair(part[8], part[9]),
         period1: octets::pair(part[10], part[11]),
@@ -115,12 +116,34 @@ fn read_slot(part: &[u8]) -> Slot
         cause: part[26],
         sincehello: part[27],
         sincepoll: part[28],
-    };
+    }
+}
+
+// The seconds at the end of a slot's part.
+fn read_seconds(part: &[u8]) -> Seconds
+    requires { ⌜ length (now part) ≡ slotSize ⌝ }
+    ensures { λ r. ⌜ r ≡ (slotIn (now (part .entry))) .seconds ⌝ }
+{
+    Seconds {
+        idle: octets::quad(part[29], part[30], part[31], part[32]),
+        acquisition: octets::quad(part[33], part[34], part[35], part[36]),
+        down: octets::quad(part[37], part[38], part[39], part[40]),
+        up: octets::quad(part[41], part[42], part[43], part[44]),
+        cease: octets::quad(part[45], part[46], part[47], part[48]),
+    }
+}
+
+// A slot in its part of a block.
+fn read_slot(part: &[u8]) -> Slot
+    requires { ⌜ length (now part) ≡ slotSize ⌝ }
+    ensures { λ r. ⌜ r ≡ slotIn (now (part .entry)) ⌝ }
+{
     Slot {
         address: octets::quad(part[0], part[1], part[2], part[3]),
         asn: octets::pair(part[4], part[5]),
-        neighbour,
+        neighbour: read_neighbour(part),
         rows: octets::pair(part[20], part[21]),
+        seconds: read_seconds(part),
     }
 }
 
@@ -200,7 +223,14 @@ fn is_up_formed(settings: Settings, part: &[u8]) -> bool
     if !is_in_range(part) {
         return false;
     }
-    gateway_state::is_up_slot_formed(settings, read_slot(part))
+    gateway_state::is_up_slot_formed(
+        settings,
+        octets::quad(part[0], part[1], part[2], part[3]),
+        octets::pair(part[4], part[5]),
+        read_neighbour(part),
+        octets::pair(part[20], part[21]),
+        read_seconds(part),
+    )
 }
 
 // How many of the eight slots' octets are left behind those that the short way finds formed.
@@ -380,13 +410,14 @@ fn settings_octets(s: Settings) -> [u8; 12]
     ]
 }
 
-// A slot's 29 octets.
-fn slot_octets(slot: Slot) -> [u8; 29]
+// A slot's 49 octets.
+fn slot_octets(slot: Slot) -> [u8; 49]
     ensures { λ r. ⌜ r ≡ slotOctets slot ⌝ }
 {
     let n = slot.neighbour;
     let phase = n.phase;
     let mode = n.mode;
+    let s = slot.seconds;
     [
         octets::first_of(slot.address),
         octets::second_of(slot.address),
@@ -417,6 +448,26 @@ fn slot_octets(slot: Slot) -> [u8; 29]
         n.cause,
         n.sincehello,
         n.sincepoll,
+        octets::first_of(s.idle),
+        octets::second_of(s.idle),
+        octets::third_of(s.idle),
+        octets::fourth_of(s.idle),
+        octets::first_of(s.acquisition),
+        octets::second_of(s.acquisition),
+        octets::third_of(s.acquisition),
+        octets::fourth_of(s.acquisition),
+        octets::first_of(s.down),
+        octets::second_of(s.down),
+        octets::third_of(s.down),
+        octets::fourth_of(s.down),
+        octets::first_of(s.up),
+        octets::second_of(s.up),
+        octets::third_of(s.up),
+        octets::fourth_of(s.up),
+        octets::first_of(s.cease),
+        octets::second_of(s.cease),
+        octets::third_of(s.cease),
+        octets::fourth_of(s.cease),
     ]
 }
 

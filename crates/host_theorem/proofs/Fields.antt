@@ -18,6 +18,9 @@ use Rattle.neighbour.specs.declared.Mode.{Mode}
 use Rattle.neighbour.specs.declared.Mode.the-variants.{Unset, Active, Passive}
 use Rattle.neighbour.specs.declared.Neighbour.{Neighbour}
 use Rattle.neighbour.specs.Record.{under, acquired, phaseNumber, modeNumber, idle}
+use Rattle.neighbour_seconds.specs.declared.Seconds.{Seconds}
+use Rattle.neighbour_seconds.specs.Seconds.{secondsIn, noSeconds, secondsSum, mostSeconds, secondsFormed}
+use Rattle.neighbour_seconds.proofs.Laws.{seconds-laws}
 use Rattle.neighbour_wellformed.specs.Formed.{isUnset, within, registerFormed, agreed, intervalsFormed, causeFormed, wellFormed}
 use Rattle.neighbour_wellformed.proofs.Formed.{pieces, below-numbers, counts-numbers}
 use Rattle.gateway_state.specs.Slots.{freeSlot}
@@ -100,10 +103,15 @@ module _ (n : Neighbour) where
 
 -- ---- the fields of a slot
 
-fields-fit : (address asn : ℕ) (n : Neighbour) (rows : ℕ) → address < 4294967296 → asn < 65536 → Narrow n → wellFormed n ≡ true → rows ≤ 128
-    → Fit slotFields (slotNumbers (record { address = address; asn = asn; neighbour = n; rows = rows }))
-unfolding slotNumbers
-fields-fit address asn n rows a b f h few =
+-- 02: "with a sum of at most 4,294,967,295": so each of the five is of 32 bits
+seconds-below : (s : Seconds) → secondsFormed s ≡ true → (p : Phase) → secondsIn p s < 4294967296
+unfolding secondsFormed
+seconds-below s f p = omega (arith, seconds-laws .below p s, leb-true (secondsSum s) mostSeconds f)
+
+fields-fit : (address asn : ℕ) (n : Neighbour) (rows : ℕ) (z : Seconds) → address < 4294967296 → asn < 65536 → Narrow n → wellFormed n ≡ true → rows ≤ 128
+    → secondsFormed z ≡ true → Fit slotFields (slotNumbers (record { address = address; asn = asn; neighbour = n; rows = rows; seconds = z }))
+unfolding slotNumbers secondsIn
+fields-fit address asn n rows z a b f h few k =
     let p = pieces n h in
     let t = below-numbers n (p .below) in
     let g = register-below n (p .registers) in
@@ -114,15 +122,22 @@ fields-fit address asn n rows a b f h few =
     let r = f .r16 in
     let x = phase-small (n .phase) in
     let y = mode-small (n .mode) in
+    let z1 : z .idle < 4294967296 = seconds-below z k Idle in
+    let z2 : z .acquisition < 4294967296 = seconds-below z k Acquisition in
+    let z3 : z .down < 4294967296 = seconds-below z k Down in
+    let z4 : z .up < 4294967296 = seconds-below z k Up in
+    let z5 : z .cease < 4294967296 = seconds-below z k Cease in
     omega arith
 
 cell-fits : (slot : Slot) → SlotGood (cell slot) → narrow slot ≡ true → Fit slotFields (slotNumbers (cell slot))
 unfolding cell freeSlot idle
 cell-fits free k e =
-    fields-fit 0 0 idle 0 (omega arith) (omega arith) (record { s16 = omega arith; r16 = omega arith }) (k .neighbour) (omega arith)
+    fields-fit 0 0 idle 0 noSeconds (omega arith) (omega arith) (record { s16 = omega arith; r16 = omega arith }) (k .neighbour) (omega arith)
+    (k .seconds)
 cell-fits (used p) k e =
     let f = narrow-fits p e in
-    fields-fit (p .address) (p .asn) (p .neighbour) (length (p .rows)) (f .address32) (f .asn16) (f .numbers) (k .neighbour) (k .few)
+    fields-fit (p .address) (p .asn) (p .neighbour) (length (p .rows)) (p .seconds) (f .address32) (f .asn16) (f .numbers) (k .neighbour) (k .few)
+    (k .seconds)
 
 cells-fit : (l : List Slot) → ((i : ℕ) → SlotGood (cell (getD l i free))) → every narrow l ≡ true → SlotsFit (map cell l)
 unfolding every

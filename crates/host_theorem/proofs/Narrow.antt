@@ -29,6 +29,7 @@ use Rattle.neighbour.specs.declared.Settings.{Settings}
 use Rattle.neighbour.specs.declared.Neighbour.{Neighbour}
 use Rattle.neighbour.specs.Record.{idle, isIdle, isUp}
 use Rattle.neighbour.specs.Rules.{isCommand}
+use Rattle.neighbour_seconds.specs.declared.Seconds.{Seconds}
 use Rattle.neighbour_messages.specs.declared.Head.{Head}
 use Rattle.neighbour_wellformed.specs.Formed.{wellFormed}
 use Rattle.neighbour_machine.specs.declared.Event.{Event}
@@ -41,7 +42,7 @@ use Rattle.neighbour_machine.specs.Laws.{sendsPoll, brought}
 use Rattle.neighbour_machine.proofs.Theorems.{step-lawful}
 use Rattle.gateway_state.specs.Claims.{SlotGood}
 use Rattle.gateway_state.proofs.ListLaws.{every-set, every-getD}
-use Rattle.model.specs.Model.{Call, add, remove, happen, receive, listing, Peer, Slot, free, used, Model, newPeer, slotIn, put, foundAt, addTurn, removeTurn, noOctets, noMove, rowsInPhase, moved, eventMove, isUpdate, answerTo, firstTwelve, afterMessage, rowsAfter, refusedMove, messageMove, turnAt, eventTurn, messageTurn, listingTurn, step}
+use Rattle.model.specs.Model.{Call, add, remove, happen, receive, listing, Peer, Slot, free, used, Model, newPeer, slotIn, put, foundAt, addTurn, removeTurn, noOctets, noMove, rowsInPhase, moved, secondsAfter, eventMove, isUpdate, answerTo, firstTwelve, afterMessage, rowsAfter, refusedMove, messageMove, turnAt, eventTurn, messageTurn, listingTurn, step}
 use Rattle.model.specs.Theorem.{isOctet, cell}
 use Rattle.model.proofs.Represent.{Good, good-at}
 use Rattle.model.proofs.History.{step-settings}
@@ -178,7 +179,8 @@ step-narrow g asn n event head h s r =
 
 -- ---- slots
 
--- what no rule of the gateway's bounds: address, AS, S, R, and the numbers of the rows
+-- what no rule of the gateway's bounds: address, AS, S, R, and the numbers of the rows (the seconds are bounded by their
+-- sum)
 pub record Fits (p : Peer) : Type 0 where
   pub address32 : p .address < 4294967296
   pub asn16 : p .asn < 65536
@@ -223,9 +225,10 @@ module _ (p : Peer) where
         f .rows32,
       )
 
-moved-narrow : (p : Peer) → Fits p → (x : After) (rows : List Row) → Narrow (x .neighbour) → every wordRow rows ≡ true → narrow ((moved p x rows) .slot) ≡ true
+moved-narrow : (p : Peer) → Fits p → (x : After) (rows : List Row) (s : Seconds) → Narrow (x .neighbour) → every wordRow rows ≡ true
+    → narrow ((moved p x rows s) .slot) ≡ true
 unfolding moved rowsInPhase every
-moved-narrow p f x rows n e =
+moved-narrow p f x rows s n e =
     fits-narrow _
     (record {
       address32 = f .address32;
@@ -244,7 +247,7 @@ unfolding eventMove noMove narrow cell
 event-narrow g event free h e = refl
 event-narrow g event (used p) h e =
     let f = narrow-fits p e in
-    moved-narrow p f (stepOf g (p .asn) (p .neighbour) (asEvent event) noOctets) (p .rows)
+    moved-narrow p f (stepOf g (p .asn) (p .neighbour) (asEvent event) noOctets) (p .rows) (secondsAfter (asEvent event) p)
     (step-narrow g (p .asn) (p .neighbour) (asEvent event) noOctets (h .neighbour) (f .numbers .s16) (rw (event-brings event (p .neighbour .r)) (f .numbers .r16)))
     (f .rows32)
 
@@ -277,10 +280,10 @@ message-narrow g o (used p) h k e = go (eqb (answerTo g (p .asn) (p .neighbour) 
     f = narrow-fits p e
 
     go : (b : Bool)
-        → narrow ((cond b (moved p (afterMessage g (p .asn) (p .neighbour) o (decodeOf o)) (rowsAfter g (p .neighbour) o (decodeOf o) (p .rows)))
+        → narrow ((cond b (moved p (afterMessage g (p .asn) (p .neighbour) o (decodeOf o)) (rowsAfter g (p .neighbour) o (decodeOf o) (p .rows)) (p .seconds))
         (refusedMove g o p (answerTo g (p .asn) (p .neighbour) o))) .slot) ≡ true
     go true =
-        moved-narrow p f (afterMessage g (p .asn) (p .neighbour) o (decodeOf o)) (rowsAfter g (p .neighbour) o (decodeOf o) (p .rows))
+        moved-narrow p f (afterMessage g (p .asn) (p .neighbour) o (decodeOf o)) (rowsAfter g (p .neighbour) o (decodeOf o) (p .rows)) (p .seconds)
         (after-narrow g (p .asn) (p .neighbour) o (decodeOf o) (k .neighbour) (f .numbers) (decode-carries o h))
         (rows-narrow g (p .neighbour) o (decodeOf o) (p .rows) h (f .rows32))
     go false = e

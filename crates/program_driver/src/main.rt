@@ -175,7 +175,7 @@ fn show_front(octets: &[u8], size: usize) -> bool
 
 // Writes the answer's head and the state's block.
 fn show_outcome(o: Outcome, room: u32, count: u32, raw: &mut [u8]) -> bool
-    requires { ⌜ 260 ≤ length (now raw) ⌝ }
+    requires { ⌜ 420 ≤ length (now raw) ⌝ }
 {
     octets::store(
         raw,
@@ -183,7 +183,7 @@ fn show_outcome(o: Outcome, room: u32, count: u32, raw: &mut [u8]) -> bool
     );
     let st = o.state;
     host_state_block::write_state(&mut raw[16..], st);
-    show_front(raw, 260)
+    show_front(raw, 420)
 }
 
 // Writes the numbers of the table.
@@ -334,7 +334,7 @@ fn serve(
 // Records until the input ends, from the all-zero state. Nothing says that an input ends, so the turns are counted down from a number
 // that no run uses up.
 fn play(table: &mut [u32; 4096], buffer: &mut [u8; 70000]) {
-    let mut st = host_state_block::read_state(&[0u8; 244]);
+    let mut st = host_state_block::read_state(&[0u8; 404]);
     let mut count = 3072;
     let mut turns = u64::MAX;
     while turns > 0 {

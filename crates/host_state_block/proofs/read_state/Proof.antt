@@ -1,3 +1,4 @@
+use native.Mathlib.Omega.{arith}
 use mathlib.Core.List.{[], _∷_}
 use Rattle.gateway_state.specs.Slots.{slotAt}
 use Rattle.host_state_block.specs.Block.{slotsIn, stateIn}
@@ -30,7 +31,7 @@ slot-at-requires-7 : tie.Need-slot-at-requires-7
 slot-at-requires-7 c κs = search needs
 
 slot-at-requires-8 : tie.Need-slot-at-requires-8
-slot-at-requires-8 c κs = search needs
+slot-at-requires-8 c κs = omega (arith, c .before .before .before .before .before .before .before .before .before .pre)
 
 returns : tie.Need-returns
 unfolding slotAt slotsIn stateIn

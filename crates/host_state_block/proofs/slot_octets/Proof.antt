@@ -77,22 +77,87 @@ phase-number-requires c κs = search needs
 mode-number-requires : tie.Need-mode-number-requires
 mode-number-requires c κs = search needs
 
+first-of-requires-2 : tie.Need-first-of-requires-2
+first-of-requires-2 c κs = search needs
+
+second-of-requires-2 : tie.Need-second-of-requires-2
+second-of-requires-2 c κs = search needs
+
+third-of-requires-2 : tie.Need-third-of-requires-2
+third-of-requires-2 c κs = search needs
+
+fourth-of-requires-2 : tie.Need-fourth-of-requires-2
+fourth-of-requires-2 c κs = search needs
+
+first-of-requires-3 : tie.Need-first-of-requires-3
+first-of-requires-3 c κs = search needs
+
+second-of-requires-3 : tie.Need-second-of-requires-3
+second-of-requires-3 c κs = search needs
+
+third-of-requires-3 : tie.Need-third-of-requires-3
+third-of-requires-3 c κs = search needs
+
+fourth-of-requires-3 : tie.Need-fourth-of-requires-3
+fourth-of-requires-3 c κs = search needs
+
+first-of-requires-4 : tie.Need-first-of-requires-4
+first-of-requires-4 c κs = search needs
+
+second-of-requires-4 : tie.Need-second-of-requires-4
+second-of-requires-4 c κs = search needs
+
+third-of-requires-4 : tie.Need-third-of-requires-4
+third-of-requires-4 c κs = search needs
+
+fourth-of-requires-4 : tie.Need-fourth-of-requires-4
+fourth-of-requires-4 c κs = search needs
+
+first-of-requires-5 : tie.Need-first-of-requires-5
+first-of-requires-5 c κs = search needs
+
+second-of-requires-5 : tie.Need-second-of-requires-5
+second-of-requires-5 c κs = search needs
+
+third-of-requires-5 : tie.Need-third-of-requires-5
+third-of-requires-5 c κs = search needs
+
+fourth-of-requires-5 : tie.Need-fourth-of-requires-5
+fourth-of-requires-5 c κs = search needs
+
+first-of-requires-6 : tie.Need-first-of-requires-6
+first-of-requires-6 c κs = search needs
+
+second-of-requires-6 : tie.Need-second-of-requires-6
+second-of-requires-6 c κs = search needs
+
+third-of-requires-6 : tie.Need-third-of-requires-6
+third-of-requires-6 c κs = search needs
+
+fourth-of-requires-6 : tie.Need-fourth-of-requires-6
+fourth-of-requires-6 c κs = search needs
+
 returns : tie.Need-returns
 unfolding slotOctets slotNumbers octetsFor
 returns c = λ i.
-    (c .before .before .before .before .before .before .before .before .before .before .before .before .before .before .before .before .before .before .before .before .before .before .before .first-of .ensures) i ∷ (c .before .before .before .before .before .before .before .before .before .before .before .before .before .before .before .before .before .before .before .before .before .before .second-of .ensures) i ∷ (c .before .before .before .before .before .before .before .before .before .before .before .before .before .before .before .before .before .before .before .before .before .third-of .ensures) i ∷ (c .before .before .before .before .before .before .before .before .before .before .before .before .before .before .before .before .before .before .before .before .fourth-of .ensures) i
-    ∷ (c .before .before .before .before .before .before .before .before .before .before .before .before .before .before .before .before .before .before .before .high .ensures) i ∷ (c .before .before .before .before .before .before .before .before .before .before .before .before .before .before .before .before .before .before .low .ensures) i
-    ∷ (c .before .before .before .before .before .before .before .before .before .before .before .before .before .before .before .before .before .high2 .ensures) i ∷ (c .before .before .before .before .before .before .before .before .before .before .before .before .before .before .before .before .low2 .ensures) i
-    ∷ (c .before .before .before .before .before .before .before .before .before .before .before .before .before .before .before .high3 .ensures) i ∷ (c .before .before .before .before .before .before .before .before .before .before .before .before .before .before .low3 .ensures) i
-    ∷ (c .before .before .before .before .before .before .before .before .before .before .before .before .before .high4 .ensures) i ∷ (c .before .before .before .before .before .before .before .before .before .before .before .before .low4 .ensures) i
-    ∷ (c .before .before .before .before .before .before .before .before .before .before .before .high5 .ensures) i ∷ (c .before .before .before .before .before .before .before .before .before .before .low5 .ensures) i
-    ∷ (c .before .before .before .before .before .before .before .before .before .high6 .ensures) i ∷ (c .before .before .before .before .before .before .before .before .low6 .ensures) i
-    ∷ (c .before .before .before .before .before .before .before .high7 .ensures) i ∷ (c .before .before .before .before .before .before .low7 .ensures) i
-    ∷ (c .before .before .before .before .before .high8 .ensures) i ∷ (c .before .before .before .before .low8 .ensures) i
-    ∷ (c .before .before .before .high9 .ensures) i ∷ (c .before .before .low9 .ensures) i
-    ∷ (c .before .phase-number .ensures) i ∷ (c .mode-number .ensures) i
-    ∷ c .before .before .before .before .before .before .before .before .before .before .before .before .before .before .before .before .before .before .before .before .before .before .before .before .before .args .slot .neighbour .register ∷ c .before .before .before .before .before .before .before .before .before .before .before .before .before .before .before .before .before .before .before .before .before .before .before .before .before .args .slot .neighbour .heard ∷ c .before .before .before .before .before .before .before .before .before .before .before .before .before .before .before .before .before .before .before .before .before .before .before .before .before .args .slot .neighbour .cause
-    ∷ c .before .before .before .before .before .before .before .before .before .before .before .before .before .before .before .before .before .before .before .before .before .before .before .before .before .args .slot .neighbour .sincehello ∷ c .before .before .before .before .before .before .before .before .before .before .before .before .before .before .before .before .before .before .before .before .before .before .before .before .before .args .slot .neighbour .sincepoll ∷ []
+    (c .before .before .before .before .before .before .before .before .before .before .before .before .before .before .before .before .before .before .before .before .before .before .before .before .before .before .before .before .before .before .before .before .before .before .before .before .before .before .before .before .before .before .before .first-of .ensures) i ∷ (c .before .before .before .before .before .before .before .before .before .before .before .before .before .before .before .before .before .before .before .before .before .before .before .before .before .before .before .before .before .before .before .before .before .before .before .before .before .before .before .before .before .before .second-of .ensures) i ∷ (c .before .before .before .before .before .before .before .before .before .before .before .before .before .before .before .before .before .before .before .before .before .before .before .before .before .before .before .before .before .before .before .before .before .before .before .before .before .before .before .before .before .third-of .ensures) i ∷ (c .before .before .before .before .before .before .before .before .before .before .before .before .before .before .before .before .before .before .before .before .before .before .before .before .before .before .before .before .before .before .before .before .before .before .before .before .before .before .before .before .fourth-of .ensures) i
+    ∷ (c .before .before .before .before .before .before .before .before .before .before .before .before .before .before .before .before .before .before .before .before .before .before .before .before .before .before .before .before .before .before .before .before .before .before .before .before .before .before .before .high .ensures) i ∷ (c .before .before .before .before .before .before .before .before .before .before .before .before .before .before .before .before .before .before .before .before .before .before .before .before .before .before .before .before .before .before .before .before .before .before .before .before .before .before .low .ensures) i
+    ∷ (c .before .before .before .before .before .before .before .before .before .before .before .before .before .before .before .before .before .before .before .before .before .before .before .before .before .before .before .before .before .before .before .before .before .before .before .before .before .high2 .ensures) i ∷ (c .before .before .before .before .before .before .before .before .before .before .before .before .before .before .before .before .before .before .before .before .before .before .before .before .before .before .before .before .before .before .before .before .before .before .before .before .low2 .ensures) i
+    ∷ (c .before .before .before .before .before .before .before .before .before .before .before .before .before .before .before .before .before .before .before .before .before .before .before .before .before .before .before .before .before .before .before .before .before .before .before .high3 .ensures) i ∷ (c .before .before .before .before .before .before .before .before .before .before .before .before .before .before .before .before .before .before .before .before .before .before .before .before .before .before .before .before .before .before .before .before .before .before .low3 .ensures) i
+    ∷ (c .before .before .before .before .before .before .before .before .before .before .before .before .before .before .before .before .before .before .before .before .before .before .before .before .before .before .before .before .before .before .before .before .before .high4 .ensures) i ∷ (c .before .before .before .before .before .before .before .before .before .before .before .before .before .before .before .before .before .before .before .before .before .before .before .before .before .before .before .before .before .before .before .before .low4 .ensures) i
+    ∷ (c .before .before .before .before .before .before .before .before .before .before .before .before .before .before .before .before .before .before .before .before .before .before .before .before .before .before .before .before .before .before .before .high5 .ensures) i ∷ (c .before .before .before .before .before .before .before .before .before .before .before .before .before .before .before .before .before .before .before .before .before .before .before .before .before .before .before .before .before .before .low5 .ensures) i
+    ∷ (c .before .before .before .before .before .before .before .before .before .before .before .before .before .before .before .before .before .before .before .before .before .before .before .before .before .before .before .before .before .high6 .ensures) i ∷ (c .before .before .before .before .before .before .before .before .before .before .before .before .before .before .before .before .before .before .before .before .before .before .before .before .before .before .before .before .low6 .ensures) i
+    ∷ (c .before .before .before .before .before .before .before .before .before .before .before .before .before .before .before .before .before .before .before .before .before .before .before .before .before .before .before .high7 .ensures) i ∷ (c .before .before .before .before .before .before .before .before .before .before .before .before .before .before .before .before .before .before .before .before .before .before .before .before .before .before .low7 .ensures) i
+    ∷ (c .before .before .before .before .before .before .before .before .before .before .before .before .before .before .before .before .before .before .before .before .before .before .before .before .before .high8 .ensures) i ∷ (c .before .before .before .before .before .before .before .before .before .before .before .before .before .before .before .before .before .before .before .before .before .before .before .before .low8 .ensures) i
+    ∷ (c .before .before .before .before .before .before .before .before .before .before .before .before .before .before .before .before .before .before .before .before .before .before .before .high9 .ensures) i ∷ (c .before .before .before .before .before .before .before .before .before .before .before .before .before .before .before .before .before .before .before .before .before .before .low9 .ensures) i
+    ∷ (c .before .before .before .before .before .before .before .before .before .before .before .before .before .before .before .before .before .before .before .before .before .phase-number .ensures) i ∷ (c .before .before .before .before .before .before .before .before .before .before .before .before .before .before .before .before .before .before .before .before .mode-number .ensures) i
+    ∷ c .before .before .before .before .before .before .before .before .before .before .before .before .before .before .before .before .before .before .before .before .before .before .before .before .before .before .before .before .before .before .before .before .before .before .before .before .before .before .before .before .before .before .before .before .before .before .args .slot .neighbour .register ∷ c .before .before .before .before .before .before .before .before .before .before .before .before .before .before .before .before .before .before .before .before .before .before .before .before .before .before .before .before .before .before .before .before .before .before .before .before .before .before .before .before .before .before .before .before .before .before .args .slot .neighbour .heard ∷ c .before .before .before .before .before .before .before .before .before .before .before .before .before .before .before .before .before .before .before .before .before .before .before .before .before .before .before .before .before .before .before .before .before .before .before .before .before .before .before .before .before .before .before .before .before .before .args .slot .neighbour .cause
+    ∷ c .before .before .before .before .before .before .before .before .before .before .before .before .before .before .before .before .before .before .before .before .before .before .before .before .before .before .before .before .before .before .before .before .before .before .before .before .before .before .before .before .before .before .before .before .before .before .args .slot .neighbour .sincehello ∷ c .before .before .before .before .before .before .before .before .before .before .before .before .before .before .before .before .before .before .before .before .before .before .before .before .before .before .before .before .before .before .before .before .before .before .before .before .before .before .before .before .before .before .before .before .before .before .args .slot .neighbour .sincepoll
+    ∷ (c .before .before .before .before .before .before .before .before .before .before .before .before .before .before .before .before .before .before .before .first-of2 .ensures) i ∷ (c .before .before .before .before .before .before .before .before .before .before .before .before .before .before .before .before .before .before .second-of2 .ensures) i ∷ (c .before .before .before .before .before .before .before .before .before .before .before .before .before .before .before .before .before .third-of2 .ensures) i ∷ (c .before .before .before .before .before .before .before .before .before .before .before .before .before .before .before .before .fourth-of2 .ensures) i
+    ∷ (c .before .before .before .before .before .before .before .before .before .before .before .before .before .before .before .first-of3 .ensures) i ∷ (c .before .before .before .before .before .before .before .before .before .before .before .before .before .before .second-of3 .ensures) i ∷ (c .before .before .before .before .before .before .before .before .before .before .before .before .before .third-of3 .ensures) i ∷ (c .before .before .before .before .before .before .before .before .before .before .before .before .fourth-of3 .ensures) i
+    ∷ (c .before .before .before .before .before .before .before .before .before .before .before .first-of4 .ensures) i ∷ (c .before .before .before .before .before .before .before .before .before .before .second-of4 .ensures) i ∷ (c .before .before .before .before .before .before .before .before .before .third-of4 .ensures) i ∷ (c .before .before .before .before .before .before .before .before .fourth-of4 .ensures) i
+    ∷ (c .before .before .before .before .before .before .before .first-of5 .ensures) i ∷ (c .before .before .before .before .before .before .second-of5 .ensures) i ∷ (c .before .before .before .before .before .third-of5 .ensures) i ∷ (c .before .before .before .before .fourth-of5 .ensures) i
+    ∷ (c .before .before .before .first-of6 .ensures) i ∷ (c .before .before .second-of6 .ensures) i ∷ (c .before .third-of6 .ensures) i ∷ (c .fourth-of6 .ensures) i ∷ []
 
 pub slot-octets-spec : {M : Type 1} → statement M
 slot-octets-spec =
@@ -122,4 +187,24 @@ slot-octets-spec =
     low-requires-9
     phase-number-requires
     mode-number-requires
+    first-of-requires-2
+    second-of-requires-2
+    third-of-requires-2
+    fourth-of-requires-2
+    first-of-requires-3
+    second-of-requires-3
+    third-of-requires-3
+    fourth-of-requires-3
+    first-of-requires-4
+    second-of-requires-4
+    third-of-requires-4
+    fourth-of-requires-4
+    first-of-requires-5
+    second-of-requires-5
+    third-of-requires-5
+    fourth-of-requires-5
+    first-of-requires-6
+    second-of-requires-6
+    third-of-requires-6
+    fourth-of-requires-6
     returns)

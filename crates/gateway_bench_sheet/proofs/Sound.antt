@@ -24,6 +24,7 @@ use Rattle.neighbour.specs.declared.Mode.the-variants.{Unset, Active, Passive}
 use Rattle.neighbour.specs.declared.Settings.{Settings}
 use Rattle.neighbour.specs.declared.Neighbour.{Neighbour}
 use Rattle.neighbour.specs.Record.{withNumbers, withState, withCounts, idle}
+use Rattle.neighbour_seconds.specs.declared.Seconds.{Seconds}
 use Rattle.neighbour_machine.specs.declared.Reply.{Reply}
 use Rattle.neighbour_machine.specs.declared.Reply.the-variants.{Nothing, One, Two}
 use Rattle.gateway_state.specs.declared.Slot.{Slot}
@@ -34,7 +35,7 @@ use Rattle.gateway_rules.specs.declared.Effect.the-variants.{Keep, Clear, Repla
 use Rattle.gateway_rules.specs.declared.Verdict.{Verdict}
 use Rattle.gateway_rules.specs.Calls.{messageOutcome, messageTable, messageBuffer}
 use Rattle.neighbour.specs.Record.{phaseNumber, modeNumber}
-use Rattle.gateway_bench_sheet.specs.Same.{sameNumbers, messageNumbers, sameMessage, sameMeaning, sameReading, neighbourNumbers, sameNeighbour, sameReply, sameEffect, sameVerdict, sameSlot, sameSlots, sameSettings, sameState, sameOutcome}
+use Rattle.gateway_bench_sheet.specs.Same.{sameNumbers, messageNumbers, sameMessage, sameMeaning, sameReading, neighbourNumbers, sameNeighbour, sameReply, sameEffect, sameVerdict, secondsNumbers, sameSeconds, sameSlot, sameSlots, sameSettings, sameState, sameOutcome}
 use Rattle.gateway_bench_sheet.specs.Cases.{reads, refused, received, happens, called, goodReading, badReading, zeroTable, zeroBuffer, leaves, passes, PassingHolds}
 
 never : {A : Type 0} → false ≡ true → A
@@ -186,20 +187,30 @@ same-verdict v w e =
       same-effect (v .effect) (w .effect) (p .1),
     )
 
+abbrev secondsFrom : List ℕ → Seconds
+secondsFrom l = record { idle = at 0 l; acquisition = at 1 l; down = at 2 l; up = at 3 l; cease = at 4 l }
+
+same-seconds : (s t : Seconds) → sameSeconds s t ≡ true → s ≡ t
+unfolding sameSeconds secondsNumbers
+same-seconds s t e = ap secondsFrom (same-numbers (secondsNumbers s) (secondsNumbers t) e)
+
 same-slot : (a b : Slot) → sameSlot a b ≡ true → a ≡ b
 unfolding sameSlot
 same-slot a b e =
     let x = eqb (a .address) (b .address) in
     let y = eqb (a .asn) (b .asn) in
     let z = sameNeighbour (a .neighbour) (b .neighbour) in
-    let p = both (x && y && z) (eqb (a .rows) (b .rows)) e in
-    let q = both (x && y) z (p .0) in
-    let r = both x y (q .0) in
+    let w = eqb (a .rows) (b .rows) in
+    let p = both (x && y && z && w) (sameSeconds (a .seconds) (b .seconds)) e in
+    let q = both (x && y && z) w (p .0) in
+    let r = both (x && y) z (q .0) in
+    let s = both x y (r .0) in
     rw (
-      eqb-true (a .address) (b .address) (r .0),
-      eqb-true (a .asn) (b .asn) (r .1),
-      same-neighbour (a .neighbour) (b .neighbour) (q .1),
-      eqb-true (a .rows) (b .rows) (p .1),
+      eqb-true (a .address) (b .address) (s .0),
+      eqb-true (a .asn) (b .asn) (s .1),
+      same-neighbour (a .neighbour) (b .neighbour) (r .1),
+      eqb-true (a .rows) (b .rows) (q .1),
+      same-seconds (a .seconds) (b .seconds) (p .1),
     )
 
 same-slots : (l m : List Slot) → sameSlots l m ≡ true → l ≡ m

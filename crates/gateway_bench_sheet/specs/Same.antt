@@ -11,6 +11,7 @@ use Rattle.codec.specs.declared.Reading.{Reading}
 use Rattle.neighbour.specs.declared.Settings.{Settings}
 use Rattle.neighbour.specs.declared.Neighbour.{Neighbour}
 use Rattle.neighbour.specs.Record.{phaseNumber, modeNumber}
+use Rattle.neighbour_seconds.specs.declared.Seconds.{Seconds}
 use Rattle.neighbour_machine.specs.declared.Reply.{Reply}
 use Rattle.neighbour_machine.specs.declared.Reply.the-variants.{Nothing, One, Two}
 use Rattle.gateway_state.specs.declared.Slot.{Slot}
@@ -95,10 +96,18 @@ sameVerdict v w =
     eqb (v .answer) (w .answer) && sameReply (v .reply) (w .reply) && sameNeighbour (v .neighbour) (w .neighbour)
     && sameEffect (v .effect) (w .effect)
 
--- the same address, AS, record and row count
+-- the seconds in the five states
+unfoldable pub secondsNumbers : Seconds → List ℕ
+secondsNumbers s = s .idle ∷ s .acquisition ∷ s .down ∷ s .up ∷ s .cease ∷ []
+
+unfoldable pub sameSeconds : Seconds → Seconds → Bool
+sameSeconds s t = sameNumbers (secondsNumbers s) (secondsNumbers t)
+
+-- the same address, AS, record, row count and seconds
 unfoldable pub sameSlot : Slot → Slot → Bool
 sameSlot a b =
     eqb (a .address) (b .address) && eqb (a .asn) (b .asn) && sameNeighbour (a .neighbour) (b .neighbour) && eqb (a .rows) (b .rows)
+    && sameSeconds (a .seconds) (b .seconds)
 
 -- the same slots in the same order
 unfoldable pub sameSlots : List Slot → List Slot → Bool

@@ -12,6 +12,7 @@ use Rattle.neighbour.specs.declared.Mode.the-variants.{Unset, Active, Passive}
 use Rattle.neighbour.specs.declared.Settings.{Settings}
 use Rattle.neighbour.specs.declared.Neighbour.{Neighbour}
 use Rattle.neighbour.specs.Record.{withNumbers, withState, withCounts, idle}
+use Rattle.neighbour_seconds.specs.declared.Seconds.{Seconds}
 use Rattle.neighbour_machine.specs.declared.Event.the-variants.{Received, Tick}
 use Rattle.neighbour_machine.specs.declared.Reply.the-variants.{Nothing, One, Two}
 use Rattle.gateway_state.specs.declared.Slot.{Slot}
@@ -80,9 +81,13 @@ reached = neighbourAs Down Active 2 4 32 122 20 0 50 1 0
 unfoldable pub polling : Neighbour
 polling = neighbourAs Up Active 1 4 32 122 20 100 50 7 0
 
+-- 02, L7: "all 0 in case U"
+unfoldable pub noTime : Seconds
+noTime = record { idle = 0; acquisition = 0; down = 0; up = 0; cease = 0 }
+
 -- 01: "free slots are all zero"
 unfoldable pub vacant : Slot
-vacant = record { address = 0; asn = 0; neighbour = resting; rows = 0 }
+vacant = record { address = 0; asn = 0; neighbour = resting; rows = 0; seconds = noTime }
 
 -- 01's U: one neighbour, in slot 0, at 128.9.0.5 with AS 7, with this record and row count; the other slots free
 unfoldable pub oneNeighbour : Neighbour → ℕ → State
@@ -90,7 +95,7 @@ oneNeighbour n rows =
     record {
       settings = nine;
       slots =
-          record { address = theirs; asn = 7; neighbour = n; rows = rows }
+          record { address = theirs; asn = 7; neighbour = n; rows = rows; seconds = noTime }
           ∷ vacant ∷ vacant ∷ vacant ∷ vacant ∷ vacant ∷ vacant ∷ vacant ∷ [];
     }
 

@@ -22,6 +22,11 @@ check-sheet =
       effects = refl;
       strays = refl;
       refused-strays = refl;
+      seconds = refl;
+      untimed = refl;
+      refused-ticks = refl;
+      timed-forms = refl;
+      timed-listing = refl;
       indications = refl;
       class-c = refl;
     }

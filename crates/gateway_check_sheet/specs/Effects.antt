@@ -14,7 +14,7 @@ use Rattle.neighbour_machine.specs.Intrinsics.{Intrinsic, Start, Stop, Tick}
 use Rattle.gateway_state.specs.declared.State.{State}
 use Rattle.gateway_state.specs.declared.Outcome.{Outcome}
 use Rattle.gateway_rules.specs.Calls.{eventOutcome, eventTable, eventBuffer, messageOutcome, messageTable, messageBuffer}
-use Rattle.gateway_check_sheet.specs.Given.{hex, ip, ours, theirs, others, set, made, since, resting, asking, falling, reporting, ceasing, slot, vacant, state, inSlotTwo}
+use Rattle.gateway_check_sheet.specs.Given.{hex, ip, ours, theirs, others, set, made, since, resting, asking, falling, reporting, ceasing, slot, vacant, state, seconds, clocked, inSlotTwo}
 
 -- a call about the neighbour in slot 2: the state; the two lengths, the octets of the reply, the state after it, the numbers of slot 2's part
 pub data WorkedCall : Type 0 where
@@ -92,12 +92,12 @@ effects =
     heardAlone "02 03 00 00 FC FB 00 07 00 09 00 79 00 78" (inSlotTwo reporting 3) 10 "02 03 03 06 FA EA 00 09 00 03"
     (inSlotTwo (made Cease 3 9 0 0 Unset 30 0 120 0 0 6) 0) zeroed ∷
     event Tick (inSlotTwo (made Up 3 5 32 122 Active 20 60 1 7 0 0) 3) 10 0 (hex "02 03 03 05 FA EB 00 09 00 03")
-    (inSlotTwo (made Cease 3 5 0 0 Unset 30 0 120 0 0 5) 0) zeroed ∷
+    (clocked (seconds 0 0 0 1 0) (made Cease 3 5 0 0 Unset 30 0 120 0 0 5) 0) zeroed ∷
     event Tick (inSlotTwo (made Up 3 5 32 122 Active 1 60 100 1 0 0) 3) 10 0 (hex "02 05 00 02 FD EC 00 09 00 03")
-    (inSlotTwo (made Down 3 5 32 122 Active 32 0 99 2 0 0) 0) zeroed ∷
+    (clocked (seconds 0 0 0 1 0) (made Down 3 5 32 122 Active 32 0 99 2 0 0) 0) zeroed ∷
     -- left as it was, for no other call writes the table: Hello in Up, a tick in Up, Update in Down, Stop in Down
     heardAlone "02 05 00 01 FD E9 00 07 00 09" (inSlotTwo reporting 3) 10 "02 05 01 01 FC E7 00 09 00 09" (inSlotTwo (since 0 120 (made Up 3 9 32 122 Active 20 60 100 7 0 0)) 3) kept ∷
-    event Tick (inSlotTwo reporting 3) 0 0 [] (inSlotTwo (made Up 3 5 32 122 Active 19 59 99 7 0 0) 3) kept ∷
+    event Tick (inSlotTwo reporting 3) 0 0 [] (clocked (seconds 0 0 0 1 0) (made Up 3 5 32 122 Active 19 59 99 7 0 0) 3) kept ∷
     heardAlone "02 01 00 00 7A DC 00 07 00 03 01 00 80 09 00 00 00 05 01 00 01 0A" (inSlotTwo falling 0) 0 "" (inSlotTwo falling 0) kept ∷
     event Stop (inSlotTwo falling 0) 10 0 (hex "02 03 03 05 FA EB 00 09 00 03") (inSlotTwo (made Cease 3 5 0 0 Unset 30 0 120 0 0 5) 0) kept ∷
     -- two messages: "the second written straight after the first; two lengths are reported": Confirm and Hello; Hello and Poll, its reserved octets 0
@@ -106,16 +106,16 @@ effects =
     (atActive (inSlotTwo (made Down 0 9 62 202 Active 62 0 120 0 0 0) 0)) kept ∷
     event Tick (inSlotTwo (made Down 3 5 32 122 Active 1 0 100 3 1 0) 0) 10 16
     (hex "02 05 00 01 FD ED 00 09 00 03 02 02 00 01 7D E6 00 09 00 04 00 00 80 09 00 00")
-    (inSlotTwo (made Up 4 5 32 122 Active 32 122 99 7 0 0) 0) kept ∷
+    (clocked (seconds 0 0 1 0 0) (made Up 4 5 32 122 Active 32 122 99 7 0 0) 0) kept ∷
     -- reserved octets: "Poll's reserved octets are ignored": the Update with the home list
     message (hex "02 02 00 00 D2 16 00 07 00 09 AB CD 80 09 00 00") (ip 10 0 0 0 ∷ ours ∷ 7 ∷ []) (inSlotTwo reporting 3) 22 0
     (hex "02 01 00 01 7A D0 00 09 00 09 01 00 80 09 00 00 00 01 01 07 01 0A")
     (inSlotTwo (since 120 0 (made Up 3 9 32 122 Active 20 60 100 7 0 0)) 3) kept ∷
     -- the counts by a tick, also by the one on which t3 ends (02, L5)
     event Tick (inSlotTwo (since 29 119 (made Up 3 5 32 122 Active 20 60 100 7 0 0)) 3) 0 0 []
-    (inSlotTwo (since 30 120 (made Up 3 5 32 122 Active 19 59 99 7 0 0)) 3) kept ∷
+    (clocked (seconds 0 0 0 1 0) (since 30 120 (made Up 3 5 32 122 Active 19 59 99 7 0 0)) 3) kept ∷
     event Tick (inSlotTwo (since 29 0 (made Up 3 5 32 122 Active 20 60 1 7 0 0)) 3) 10 0 (hex "02 03 03 05 FA EB 00 09 00 03")
-    (inSlotTwo (since 30 1 (made Cease 3 5 0 0 Unset 30 0 120 0 0 5)) 0) zeroed ∷
+    (clocked (seconds 0 0 0 1 0) (since 30 1 (made Cease 3 5 0 0 Unset 30 0 120 0 0 5)) 0) zeroed ∷
     -- a bad body outside Up, where 14 and 15 are not given: an Update with a bad body in Acquisition, Down and Cease
     heardAlone "02 01 00 00 7C EB 00 07 00 03 01 00 80 09 00 00 00" (inSlotTwo asking 0) 0 "" (inSlotTwo asking 0) kept ∷
     heardAlone "02 01 00 00 7C EB 00 07 00 03 01 00 80 09 00 00 00" (inSlotTwo falling 0) 0 "" (inSlotTwo falling 0) kept ∷

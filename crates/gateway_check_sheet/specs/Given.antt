@@ -12,6 +12,8 @@ use Rattle.neighbour.specs.declared.Mode.the-variants.{Unset, Active, Passive}
 use Rattle.neighbour.specs.declared.Settings.{Settings}
 use Rattle.neighbour.specs.declared.Neighbour.{Neighbour}
 use Rattle.neighbour.specs.Record.{withNumbers, withState, withCounts, idle}
+use Rattle.neighbour_seconds.specs.declared.Seconds.{Seconds}
+pub use Rattle.neighbour_seconds.specs.Cases.{seconds}
 use Rattle.gateway_state.specs.declared.Slot.{Slot}
 use Rattle.gateway_state.specs.declared.State.{State}
 
@@ -95,9 +97,13 @@ reporting = made Up 3 5 32 122 Active 20 60 100 7 0 0
 unfoldable pub ceasing : Neighbour
 ceasing = made Cease 3 5 0 0 Unset 20 0 100 0 0 6
 
--- address, AS, record, row count
+-- address, AS, record, row count, seconds
+unfoldable pub timed : ℕ → ℕ → Neighbour → ℕ → Seconds → Slot
+timed address asn n rows s = record { address = address; asn = asn; neighbour = n; rows = rows; seconds = s }
+
+-- the same without a second
 unfoldable pub slot : ℕ → ℕ → Neighbour → ℕ → Slot
-slot address asn n rows = record { address = address; asn = asn; neighbour = n; rows = rows }
+slot address asn n rows = timed address asn n rows (seconds 0 0 0 0 0)
 
 -- 01: "free slots are all zero"
 unfoldable pub vacant : Slot
@@ -115,9 +121,14 @@ withoutNeighbours g = state g vacant vacant vacant vacant vacant vacant vacant v
 unfoldable pub nothing : State
 nothing = withoutNeighbours (set 0 0 0 0)
 
--- another neighbour of AS 12, Idle, in slot 0; the neighbour of AS 7 in slot 2, with this record and row count
+-- another neighbour of AS 12, Idle, in slot 0; the neighbour of AS 7 in slot 2, with these seconds, this record and row
+-- count
+unfoldable pub clocked : Seconds → Neighbour → ℕ → State
+clocked s n rows = state nine (slot others 12 resting 0) vacant (timed theirs 7 n rows s) vacant vacant vacant vacant vacant
+
+-- the same without a second
 unfoldable pub inSlotTwo : Neighbour → ℕ → State
-inSlotTwo n rows = state nine (slot others 12 resting 0) vacant (slot theirs 7 n rows) vacant vacant vacant vacant vacant
+inSlotTwo n rows = clocked (seconds 0 0 0 0 0) n rows
 
 -- the neighbour in each of the five states; two rows in Up
 unfoldable pub inIdle : State

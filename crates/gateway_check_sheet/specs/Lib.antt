@@ -15,4 +15,5 @@ pub mod Effects
 pub mod Indications
 pub mod Spacings
 pub mod Strays
+pub mod Seconds
 pub mod Sheet

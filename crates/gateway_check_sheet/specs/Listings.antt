@@ -20,7 +20,7 @@ table a b c unused =
 unfoldable pub listings : List Line
 listings =
     -- listing 0, with any number in an unused row: behind the used ones, of a neighbour without rows, of a free slot
-    listing listedState (table 0 0 0 9999) 65536 0 250 ∷
+    listing listedState (table 0 0 0 9999) 65536 0 326 ∷
     -- listing 1: "state not well formed"
     listing unsound (replicate 3072 0) 65536 1 0 ∷
     -- listing 2: "table not 3,072 numbers"
@@ -28,7 +28,7 @@ listings =
     listing inIdle (replicate 3073 0) 65536 2 0 ∷
     listing inIdle [] 65536 2 0 ∷
     -- listing 2: "a used row's third number above 511", of any row
-    listing listedState (table 511 256 255 0) 65536 0 254 ∷
+    listing listedState (table 511 256 255 0) 65536 0 330 ∷
     listing listedState (table 512 0 0 0) 65536 2 0 ∷
     listing listedState (table 0 512 0 0) 65536 2 0 ∷
     listing listedState (table 0 0 512 0) 65536 2 0 ∷

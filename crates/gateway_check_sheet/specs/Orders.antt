@@ -1,5 +1,6 @@
 -- 01: "Checks go in this order; the first that fails answers." For each two numbers that stand next to each other in a
--- call's own checks, a call that fails both and is answered by the first. The listing's are in Listings.
+-- call's own checks, a call that fails both and is answered by the first. The listing's are in Listings, those of 22 in
+-- Seconds.
 use mathlib.Core.List.{List, [], _∷_, _++_}
 use lib.ListN.{replicate}
 use Rattle.message.specs.declared.Message.the-variants.{Hello, Update}

@@ -19,6 +19,8 @@ use Rattle.gateway_check_sheet.specs.Listings.{listings}
 use Rattle.gateway_check_sheet.specs.Effects.{effects, readOnC, writtenOnC}
 use Rattle.gateway_check_sheet.specs.Effects as Effects
 use Rattle.gateway_check_sheet.specs.Strays.{strays, refusedStrays}
+use Rattle.gateway_check_sheet.specs.Seconds.{ticks, untimed, refusedTicks, timedForms, listedComputed, listedWritten}
+use Rattle.gateway_check_sheet.specs.Seconds as Seconds
 use Rattle.gateway_check_sheet.specs.Indications.{indicationLines}
 use Rattle.gateway_check_sheet.specs.Indications as Indications
 
@@ -54,6 +56,15 @@ pub record CheckSheet : Type 0 where
   pub strays : map Effects.computed strays ≡ map Effects.written strays
   -- and that a check that refuses it comes first
   pub refused-strays : map computed refusedStrays ≡ map written refusedStrays
+  -- the seconds in each state: what a tick counts, and that nothing else does
+  pub seconds : map Effects.computed ticks ≡ map Effects.written ticks
+  pub untimed : map Effects.computed untimed ≡ map Effects.written untimed
+  -- 22, in its place, and that a refused tick is not counted
+  pub refused-ticks : map Seconds.computed refusedTicks ≡ map Seconds.written refusedTicks
+  -- 1 by their sum; what add and remove make of them
+  pub timed-forms : map computed timedForms ≡ map written timedForms
+  -- their five lines in a listing
+  pub timed-listing : listedComputed ≡ listedWritten
   -- which Update is an indication, and that a refused one is none
   pub indications : map Indications.computed indicationLines ≡ map Indications.written indicationLines
   -- an Update read on a net of class C

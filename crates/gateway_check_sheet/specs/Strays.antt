@@ -7,7 +7,7 @@ use Rattle.neighbour.specs.declared.Phase.the-variants.{Acquisition, Down, Up}
 use Rattle.neighbour.specs.declared.Mode.the-variants.{Unset, Active, Passive}
 use Rattle.neighbour_machine.specs.Intrinsics.{Start, Stop, Tick}
 use Rattle.gateway_state.specs.declared.State.{State}
-use Rattle.gateway_check_sheet.specs.Given.{hex, common, ours, set, nineWith, made, since, falling, reporting, inSlotTwo, inIdle}
+use Rattle.gateway_check_sheet.specs.Given.{hex, common, ours, set, nineWith, made, since, resting, falling, reporting, seconds, clocked, inSlotTwo, inIdle}
 use Rattle.gateway_check_sheet.specs.Line.{Line, heard}
 use Rattle.gateway_check_sheet.specs.Effects.{WorkedCall, event, kept, heardAlone}
 
@@ -108,11 +108,11 @@ strays =
     heardAlone "02 03 03 07 FA EE 00 07 00 00" inIdle 10 "02 03 04 00 F9 F3 00 09 00 00" inIdle kept ∷
     heardAlone "02 03 03 00 FA EC 00 07 00 09" quietIdle 10 "02 03 04 00 F9 EA 00 09 00 09" quietIdle kept ∷
     heardAlone "02 03 03 07 FA EE 00 07 00 00" quietIdle 10 "02 03 04 00 F9 F3 00 09 00 00" quietIdle kept ∷
-    -- Start, Stop and a tick in Idle with `quiet` 1: as before
+    -- Start, Stop and a tick in Idle with `quiet` 1: as before; the tick is counted (02, L7)
     event Start quietIdle 14 0 (hex "02 03 00 00 FD 5D 00 09 00 00 00 1E 00 78")
     (quietly (inSlotTwo (since 0 0 (made Acquisition 0 0 0 0 Unset 30 0 120 0 0 0)) 0)) kept ∷
     event Stop quietIdle 0 0 [] quietIdle kept ∷
-    event Tick quietIdle 0 0 [] quietIdle kept ∷
+    event Tick quietIdle 0 0 [] (quietly (clocked (seconds 1 0 0 0 0) resting 0)) kept ∷
     -- outside Idle `quiet` 1 changes nothing: a Hello in Down and in Up
     heardAlone "02 05 00 01 FD E9 00 07 00 09" (quietly (inSlotTwo falling 0)) 10 "02 05 01 02 FC E6 00 09 00 09"
     (quietly (inSlotTwo (since 0 120 (made Down 3 9 32 122 Passive 20 0 3600 4 1 0)) 0)) kept ∷

@@ -20,6 +20,7 @@ host-sheet =
       packed = refl;
       results = refl;
       effects = refl;
+      seconds = refl;
       readings = refl;
       writings = refl;
     }

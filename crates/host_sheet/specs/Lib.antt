@@ -5,6 +5,7 @@ pub mod Line
 pub mod Numbers
 pub mod Results
 pub mod Effects
+pub mod Seconds
 pub mod Readings
 pub mod Writings
 pub mod Sheet

@@ -36,9 +36,9 @@ pub record Left : Type 0 where
 unfoldable pub twoRows : List ℕ → List ℕ
 twoRows table = take 24 (drop 3072 table)
 
--- of a buffer, the first 160 octets: what a call writes of the sheet's, and what it leaves behind that
+-- of a buffer, the first 200 octets: what a call writes of the sheet's, and what it leaves behind that
 unfoldable pub front : List ℕ → List ℕ
-front buffer = take 160 buffer
+front buffer = take 200 buffer
 
 -- what the definitions give
 unfoldable pub computed : Line → Left
@@ -73,7 +73,7 @@ computed (whole call block table returned after tableThen reply) =
 
 -- the octets of a reply, and 7s behind them
 unfoldable pub replied : List ℕ → List ℕ
-replied reply = front (reply ++ sevens 160)
+replied reply = front (reply ++ sevens 200)
 
 -- what the line says; where nothing is returned but the number, that is the number itself
 unfoldable pub written : Line → Left

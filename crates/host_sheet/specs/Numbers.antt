@@ -8,7 +8,7 @@ use Rattle.checks.specs.Lists.{join}
 use Rattle.neighbour_machine.specs.Intrinsics.{Start, Stop, Tick}
 use Rattle.model.specs.Model.{Call, add, remove, happen, receive, listing}
 use Rattle.gateway_check_sheet.specs.Given.{hex, ip, set, nineWith}
-use Rattle.host_sheet.specs.Given.{sound, full, changed, shorter, longer, withoutQuiet, withoutCounts, eights, sevens, table, room, page, inSlot0, inSlot2, inSlot7, nobody, blockOfU, tableOfU, row, rows}
+use Rattle.host_sheet.specs.Given.{sound, full, changed, shorter, longer, withoutSeconds, withoutQuiet, withoutCounts, eights, sevens, table, room, page, inSlot0, inSlot2, inSlot7, nobody, blockOfU, tableOfU, row, rows}
 use Rattle.host_sheet.specs.Line.{Line, fresh, alone, refused, keeps}
 
 -- a Hello from the neighbour in slot 2, and the same without its last octet, which is 6
@@ -43,58 +43,64 @@ unfoldable pub ofLength : Call → List Line
 ofLength call =
     keeps call shorter table 20 ∷
     refused call longer table 20 ∷
+    refused call withoutSeconds table 20 ∷
     refused call withoutQuiet table 20 ∷
     refused call withoutCounts table 20 ∷
     refused call [] table 20 ∷
     []
 
 unfoldable pub beforeOthers : Call → List Line
-beforeOthers call = keeps call (replicate 243 255) (eights 12287) 20 ∷ refused call (replicate 245 255) [] 20 ∷ refused call [] [] 20 ∷ []
+beforeOthers call = keeps call (replicate 403 255) (eights 12287) 20 ∷ refused call (replicate 405 255) [] 20 ∷ refused call [] [] 20 ∷ []
 
 unfoldable pub lengths : List Line
 lengths =
     join (map ofLength goodCalls) ++ (join (map beforeOthers badCalls) ++
     (alone (add (ip 128 9 0 18) 18) shorter 20 shorter ∷
     alone (add (ip 128 9 0 18) 18) longer 20 longer ∷
+    alone (add (ip 128 9 0 18) 18) withoutSeconds 20 withoutSeconds ∷
     alone (add (ip 128 9 0 18) 18) withoutQuiet 20 withoutQuiet ∷
     alone (add (ip 128 9 0 18) 18) withoutCounts 20 withoutCounts ∷
     alone (add (ip 128 9 0 18) 18) [] 20 [] ∷
-    alone (add 0 0) (replicate 243 255) 20 (replicate 243 255) ∷
+    alone (add 0 0) (replicate 403 255) 20 (replicate 403 255) ∷
     alone (remove inSlot7) shorter 20 shorter ∷
     alone (remove inSlot7) longer 20 longer ∷
+    alone (remove inSlot2) withoutSeconds 20 withoutSeconds ∷
     alone (remove inSlot2) withoutQuiet 20 withoutQuiet ∷
     alone (remove inSlot2) withoutCounts 20 withoutCounts ∷
     alone (remove inSlot7) [] 20 [] ∷
-    alone (remove nobody) (replicate 245 255) 20 (replicate 245 255) ∷
+    alone (remove nobody) (replicate 405 255) 20 (replicate 405 255) ∷
     -- fresh: 20 before 16, which an own AS of 0 is, and a `quiet` of 2
-    fresh (set 9 (ip 128 9 0 1) 0 (ip 128 9 0 0)) (replicate 243 255) 20 (replicate 243 255) ∷
-    fresh (set 9 (ip 128 9 0 1) 0 (ip 128 9 0 0)) (replicate 245 255) 20 (replicate 245 255) ∷
+    fresh (set 9 (ip 128 9 0 1) 0 (ip 128 9 0 0)) (replicate 403 255) 20 (replicate 403 255) ∷
+    fresh (set 9 (ip 128 9 0 1) 0 (ip 128 9 0 0)) (replicate 405 255) 20 (replicate 405 255) ∷
+    fresh (set 9 (ip 128 9 0 1) 0 (ip 128 9 0 0)) withoutSeconds 20 withoutSeconds ∷
     fresh (set 9 (ip 128 9 0 1) 0 (ip 128 9 0 0)) withoutQuiet 20 withoutQuiet ∷
     fresh (nineWith 1) withoutQuiet 20 withoutQuiet ∷
     fresh (set 9 (ip 128 9 0 1) 0 (ip 128 9 0 0)) withoutCounts 20 withoutCounts ∷
     fresh (set 9 (ip 128 9 0 1) 0 (ip 128 9 0 0)) [] 20 [] ∷
-    fresh (set 0 (ip 128 9 0 1) 0 (ip 128 9 0 0)) (replicate 243 255) 20 (replicate 243 255) ∷
+    fresh (set 0 (ip 128 9 0 1) 0 (ip 128 9 0 0)) (replicate 403 255) 20 (replicate 403 255) ∷
+    fresh (set 0 (ip 128 9 0 1) 0 (ip 128 9 0 0)) withoutSeconds 20 withoutSeconds ∷
     fresh (set 0 (ip 128 9 0 1) 0 (ip 128 9 0 0)) [] 20 [] ∷
-    fresh (nineWith 2) (replicate 243 255) 20 (replicate 243 255) ∷ []))
+    fresh (nineWith 2) (replicate 403 255) 20 (replicate 403 255) ∷ []))
 
--- 1: state 5, mode 3, heard 2, a Poll's count of 121, `quiet` 2, all else being good; register 16, `quiet` 255, a
--- block of 255s and one of zeros, before 2
+-- 1: state 5, mode 3, heard 2, a Poll's count of 121, `quiet` 2, a sum of 4,294,967,296, all else being good; register
+-- 16, `quiet` 255, a block of 255s and one of zeros, before 2
 unfoldable pub ofForm : Call → List Line
 ofForm call =
     keeps call (changed 34 5 sound) table 1 ∷
-    refused call (changed 238 3 sound) table 1 ∷
-    refused call (changed 124 2 sound) table 1 ∷
-    refused call (changed 127 121 sound) table 1 ∷
+    refused call (changed 378 3 sound) table 1 ∷
+    refused call (changed 184 2 sound) table 1 ∷
+    refused call (changed 187 121 sound) table 1 ∷
     refused call (changed 11 2 sound) table 1 ∷
+    refused call (changed 403 1 sound) table 1 ∷
     []
 
 unfoldable pub beforeTable : Call → List Line
 beforeTable call =
-    refused call (changed 92 5 sound) (eights 12287) 1 ∷
-    refused call (changed 123 16 sound) (eights 3072) 1 ∷
+    refused call (changed 132 5 sound) (eights 12287) 1 ∷
+    refused call (changed 183 16 sound) (eights 3072) 1 ∷
     refused call (changed 11 255 sound) (eights 3072) 1 ∷
-    keeps call (replicate 244 255) [] 1 ∷
-    refused call (replicate 244 0) [] 1 ∷
+    keeps call (replicate 404 255) [] 1 ∷
+    refused call (replicate 404 0) [] 1 ∷
     []
 
 unfoldable pub forms : List Line
@@ -102,11 +108,11 @@ forms =
     join (map ofForm goodCalls) ++ (join (map beforeTable badCalls) ++
     (alone (add (ip 128 9 0 18) 18) (changed 34 5 sound) 1 (changed 34 5 sound) ∷
     alone (add 0 0) (changed 35 3 sound) 1 (changed 35 3 sound) ∷
-    alone (add 0 0) (changed 124 2 sound) 1 (changed 124 2 sound) ∷
+    alone (add 0 0) (changed 184 2 sound) 1 (changed 184 2 sound) ∷
     alone (add (ip 128 9 0 18) 18) (changed 11 2 sound) 1 (changed 11 2 sound) ∷
     alone (remove inSlot7) (changed 34 5 sound) 1 (changed 34 5 sound) ∷
     alone (remove inSlot7) (changed 11 2 sound) 1 (changed 11 2 sound) ∷
-    alone (remove nobody) (changed 123 16 sound) 1 (changed 123 16 sound) ∷ []))
+    alone (remove nobody) (changed 183 16 sound) 1 (changed 183 16 sound) ∷ []))
 
 -- 2: "12,288 octets", all else being good: one less, one more, the number of its numbers; before 3
 unfoldable pub ofTable : Call → List Line
@@ -187,11 +193,11 @@ others =
     alone (remove (ip 128 9 0 13)) sound 18 sound ∷
     alone (remove (ip 128 9 0 14)) sound 18 sound ∷
     -- fresh, 16: AS 0; capability 3; a net that is none; an address off it; `quiet` 2 and 255. 02: "nor by a refused fresh"
-    fresh (set 0 (ip 128 9 0 1) 0 (ip 128 9 0 0)) (replicate 244 255) 16 (replicate 244 255) ∷
-    fresh (set 9 (ip 128 9 0 1) 3 (ip 128 9 0 0)) (replicate 244 255) 16 (replicate 244 255) ∷
-    fresh (set 9 (ip 128 9 0 1) 0 (ip 128 9 0 1)) (replicate 244 255) 16 (replicate 244 255) ∷
+    fresh (set 0 (ip 128 9 0 1) 0 (ip 128 9 0 0)) (replicate 404 255) 16 (replicate 404 255) ∷
+    fresh (set 9 (ip 128 9 0 1) 3 (ip 128 9 0 0)) (replicate 404 255) 16 (replicate 404 255) ∷
+    fresh (set 9 (ip 128 9 0 1) 0 (ip 128 9 0 1)) (replicate 404 255) 16 (replicate 404 255) ∷
     fresh (set 9 (ip 128 10 0 1) 0 (ip 128 9 0 0)) sound 16 sound ∷
-    fresh (nineWith 2) (replicate 244 255) 16 (replicate 244 255) ∷
+    fresh (nineWith 2) (replicate 404 255) 16 (replicate 404 255) ∷
     fresh (nineWith 2) sound 16 sound ∷
     fresh (nineWith 255) sound 16 sound ∷
     []

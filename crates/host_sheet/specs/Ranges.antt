@@ -29,86 +29,119 @@ ranges =
     octet 1 9 true true ∷
     -- state 5 of each slot, the free one too
     octet 34 5 false false ∷
-    octet 63 5 false false ∷
-    octet 92 5 false false ∷
-    octet 121 5 false false ∷
-    octet 150 5 false false ∷
-    octet 179 5 false false ∷
-    octet 208 5 false false ∷
-    octet 237 5 false false ∷
+    octet 83 5 false false ∷
+    octet 132 5 false false ∷
+    octet 181 5 false false ∷
+    octet 230 5 false false ∷
+    octet 279 5 false false ∷
+    octet 328 5 false false ∷
+    octet 377 5 false false ∷
     -- mode 3 of each slot
     octet 35 3 false false ∷
-    octet 64 3 false false ∷
-    octet 93 3 false false ∷
-    octet 122 3 false false ∷
-    octet 151 3 false false ∷
-    octet 180 3 false false ∷
-    octet 209 3 false false ∷
-    octet 238 3 false false ∷
+    octet 84 3 false false ∷
+    octet 133 3 false false ∷
+    octet 182 3 false false ∷
+    octet 231 3 false false ∷
+    octet 280 3 false false ∷
+    octet 329 3 false false ∷
+    octet 378 3 false false ∷
     -- 255
     octet 34 255 false false ∷
-    octet 92 255 false false ∷
-    octet 93 255 false false ∷
-    octet 238 255 false false ∷
+    octet 132 255 false false ∷
+    octet 133 255 false false ∷
+    octet 378 255 false false ∷
     -- state 4 and mode 2 are let through: Cease with a cause, Up and passive; then those that other fields forbid
-    octet 150 4 true true ∷
-    octet 93 2 true true ∷
-    octet 92 4 true false ∷
+    octet 230 4 true true ∷
+    octet 133 2 true true ∷
+    octet 132 4 true false ∷
     octet 34 4 true false ∷
     octet 35 2 true false ∷
-    octet 179 4 true false ∷
-    octet 180 2 true false ∷
+    octet 279 4 true false ∷
+    octet 280 2 true false ∷
     -- "register at most 15 and heard at most 1", here of slot 3, which is Down
-    octet 123 15 true true ∷
-    octet 123 16 true false ∷
-    octet 124 0 true true ∷
-    octet 124 2 true false ∷
+    octet 183 15 true true ∷
+    octet 183 16 true false ∷
+    octet 184 0 true true ∷
+    octet 184 2 true false ∷
     -- "cause 5 or 6 in Cease"
-    octet 154 5 true true ∷
-    octet 154 7 true false ∷
+    octet 234 5 true true ∷
+    octet 234 7 true false ∷
     -- "row count at most 128", its lower octet: slot 6 has 128
-    octet 207 127 true true ∷
-    octet 207 129 true false ∷
+    octet 327 127 true true ∷
+    octet 327 129 true false ∷
     -- its higher octet
-    octet 206 1 true false ∷
+    octet 326 1 true false ∷
     -- "t1, t2, t3 at most 122, 482, 3,600; t1 and t3 at least 1 outside Idle": slot 3's
-    octet 114 122 true true ∷
-    octet 114 123 true false ∷
-    octet 114 0 true false ∷
-    octet 118 17 true false ∷
+    octet 174 122 true true ∷
+    octet 174 123 true false ∷
+    octet 174 0 true false ∷
+    octet 178 17 true false ∷
     -- "T1 is 32 to 122, T2 is 122 to 482": slot 3's
-    octet 110 32 true true ∷
-    octet 110 31 true false ∷
-    octet 112 227 true false ∷
+    octet 170 32 true true ∷
+    octet 170 31 true false ∷
+    octet 172 227 true false ∷
     -- 02, L5: "both to be at most 120": slot 3's Hello and Poll, then in Acquisition, Up and Cease
-    octet 126 0 true true ∷
-    octet 126 120 true true ∷
-    octet 126 121 true false ∷
-    octet 127 0 true true ∷
-    octet 127 120 true true ∷
-    octet 127 121 true false ∷
-    octet 68 120 true true ∷
-    octet 68 121 true false ∷
-    octet 69 121 true false ∷
-    octet 97 121 true false ∷
-    octet 98 121 true false ∷
-    octet 155 120 true true ∷
-    octet 155 121 true false ∷
-    octet 156 255 true false ∷
+    octet 186 0 true true ∷
+    octet 186 120 true true ∷
+    octet 186 121 true false ∷
+    octet 187 0 true true ∷
+    octet 187 120 true true ∷
+    octet 187 121 true false ∷
+    octet 88 120 true true ∷
+    octet 88 121 true false ∷
+    octet 89 121 true false ∷
+    octet 137 121 true false ∷
+    octet 138 121 true false ∷
+    octet 235 120 true true ∷
+    octet 235 121 true false ∷
+    octet 236 255 true false ∷
     -- "and 0 in Idle": slot 0's, and the free slot's
     octet 39 1 true false ∷
     octet 40 1 true false ∷
-    octet 184 1 true false ∷
-    octet 185 120 true false ∷
+    octet 284 1 true false ∷
+    octet 285 120 true false ∷
+    -- 02, L7: "a sum of at most 4,294,967,295": slot 7 has that in Idle; one second more in each other state
+    octet 387 254 true true ∷
+    octet 391 1 true false ∷
+    octet 395 1 true false ∷
+    octet 399 1 true false ∷
+    octet 403 1 true false ∷
+    -- slot 6 has it in five counts, slot 4 one less in two
+    octet 338 0x32 true true ∷
+    octet 338 0x34 true false ∷
+    octet 240 2 true true ∷
+    octet 240 3 true false ∷
+    octet 256 0xFE true true ∷
+    octet 256 0xFF true false ∷
+    -- slot 2's, by the highest octet of each count
+    octet 139 0x5B true true ∷
+    octet 139 0x5C true false ∷
+    octet 143 0x6B true true ∷
+    octet 143 0x6C true false ∷
+    octet 147 0x7B true true ∷
+    octet 147 0x7C true false ∷
+    octet 151 0x8B true true ∷
+    octet 151 0x8C true false ∷
+    octet 155 0x5F true true ∷
+    octet 155 0x60 true false ∷
+    -- "survive Idle, and well formed now allows it": slot 0's; "free slots are all zero": slot 5's
+    octet 41 255 true true ∷
+    octet 60 255 true true ∷
+    octet 289 1 true false ∷
+    octet 293 1 true false ∷
+    octet 297 1 true false ∷
+    octet 301 1 true false ∷
+    octet 305 1 true false ∷
+    octet 286 128 true false ∷
     -- any S and R
-    octet 105 255 true true ∷
-    octet 108 255 true true ∷
+    octet 165 255 true true ∷
+    octet 168 255 true true ∷
     -- AS 0, our own AS, address 0, our own address, a present one: slot 2's
-    octet 75 0 true false ∷
-    octet 75 9 true false ∷
-    octet 73 1 true false ∷
-    octet 73 10 true false ∷
-    octet 73 6 true true ∷
+    octet 115 0 true false ∷
+    octet 115 9 true false ∷
+    octet 113 1 true false ∷
+    octet 113 10 true false ∷
+    octet 113 6 true true ∷
     -- capability above 2; common net; own address off it
     octet 6 2 true true ∷
     octet 6 3 true false ∷

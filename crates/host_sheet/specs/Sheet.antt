@@ -11,6 +11,7 @@ use Rattle.host_sheet.specs.Line.{computed, written}
 use Rattle.host_sheet.specs.Numbers.{lengths, forms, tables, others}
 use Rattle.host_sheet.specs.Results.{packedComputed, packedWritten, results}
 use Rattle.host_sheet.specs.Effects.{effects}
+use Rattle.host_sheet.specs.Seconds.{seconds}
 use Rattle.host_sheet.specs.Readings.{readings}
 use Rattle.host_sheet.specs.Readings as Readings
 use Rattle.host_sheet.specs.Writings.{writings}
@@ -38,6 +39,8 @@ pub record HostSheet : Type 0 where
   pub results : map computed results ≡ map written results
   -- what is left in block and table
   pub effects : map computed effects ≡ map written effects
+  -- the seconds in each state
+  pub seconds : map computed seconds ≡ map written seconds
   -- reading alone, and writing
   pub readings : map Readings.computed readings ≡ map Readings.written readings
   pub writings : map Writings.computed writings ≡ map Writings.written writings

@@ -8,7 +8,7 @@
 #include <stdio.h>
 #include <string.h>
 
-enum { HEAD = 32, MOST = 4096, BUFFER = 70000, BLOCK = 12 + SLOTS * 29, MEANING = 24, READING = MEANING + ROWS * 12 };
+enum { HEAD = 32, MOST = 4096, BUFFER = 70000, BLOCK = 12 + SLOTS * 49, MEANING = 24, READING = MEANING + ROWS * 12 };
 enum { FRESH, ADD, REMOVE, START, STOP, TICK, MESSAGE, LISTING, READ, WRITE, HAND_STATE, HAND_TABLE };
 enum { NO_CALL = 255 };
 
@@ -53,6 +53,8 @@ static struct gateway read_block(const uint8_t *at)
             *words[i] = (uint16_t)take(&at, 2);
         for (unsigned i = 0; i < 7; i++)
             *last[i] = (uint8_t)take(&at, 1);
+        for (unsigned i = 0; i < PHASES; i++)
+            n->seconds[i] = take(&at, 4);
     }
     return g;
 }
@@ -72,6 +74,8 @@ static void write_block(uint8_t *at, const struct gateway *g)
             put(&at, words[i], 2);
         for (unsigned i = 0; i < 7; i++)
             put(&at, last[i], 1);
+        for (unsigned i = 0; i < PHASES; i++)
+            put(&at, n->seconds[i], 4);
     }
 }
 

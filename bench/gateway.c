@@ -32,7 +32,16 @@ static bool is_acquired(const struct neighbour *n)
     return n->phase == DOWN || n->phase == UP;
 }
 
-/* A free slot, or a neighbour in Idle: nothing but address and AS. */
+/* All ticks since the neighbour was added; they may be no more than a count holds. */
+static uint64_t sum_seconds(const struct neighbour *n)
+{
+    uint64_t sum = 0;
+    for (unsigned i = 0; i < PHASES; i++)
+        sum += n->seconds[i];
+    return sum;
+}
+
+/* A free slot, or a neighbour in Idle: nothing but address, AS and, in Idle, seconds. */
 static bool is_bare(const struct neighbour *n)
 {
     return !(n->s | n->r | n->hello | n->poll | n->t1 | n->t2 | n->t3 | n->rows | n->phase | n->mode | n->reach |
@@ -54,6 +63,8 @@ static bool has_no_terms(const struct neighbour *n)
 
 static bool variables_hold(const struct neighbour *n)
 {
+    if (sum_seconds(n) > UINT32_MAX)
+        return false;
     if (n->phase == IDLE)
         return is_bare(n);
     if (!within(n->t1, 1, 122) || !within(n->t3, 1, P4))
@@ -88,7 +99,7 @@ bool gateway_is_well_formed(const struct gateway *g)
     for (unsigned slot = 0; slot < SLOTS; slot++) {
         const struct neighbour *n = &g->slots[slot];
         if (n->address == 0) {
-            if (n->as != 0 || !is_bare(n))
+            if (n->as != 0 || !is_bare(n) || sum_seconds(n) != 0)
                 return false;
         } else if (!may_be_neighbour(g, n->address, n->as) || find(g, n->address, slot) < slot ||
                    !variables_hold(n)) {
@@ -230,7 +241,9 @@ static void leave_up(struct turn *t)
 static void enter_idle(struct turn *t)
 {
     leave_up(t);
-    *t->n = (struct neighbour){.address = t->n->address, .as = t->n->as};
+    struct neighbour idle = {.address = t->n->address, .as = t->n->as};
+    memcpy(idle.seconds, t->n->seconds, sizeof idle.seconds);
+    *t->n = idle;
 }
 
 /* Acquisition or Cease: no terms; S, R and the counts of ticks stay. */
@@ -396,6 +409,7 @@ static void do_tick(struct turn *t)
 {
     struct neighbour *n = t->n;
     bool was_up = n->phase == UP;
+    n->seconds[n->phase]++;
     if (n->phase == IDLE)
         return;
     n->since_hello += n->since_hello < MOST_TICKS;
@@ -450,6 +464,8 @@ static inline struct outcome happen(struct gateway *g, const struct lent *lent, 
         return answered(answer);
     if (!take_turn(&t, g, lent, address))
         return answered(UNKNOWN_ADDRESS);
+    if (event == do_tick && sum_seconds(t.n) == UINT32_MAX)
+        return answered(NO_MORE_SECONDS);
     event(&t);
     return t.o;
 }

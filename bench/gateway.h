@@ -20,7 +20,7 @@ enum {
     LONGEST = 2048
 };
 
-/* Checks are made in this order, 21 after 13, and the first that fails answers. */
+/* Checks are made in this order, 21 after 13 and 22 after 5, and the first that fails answers. */
 enum answer {
     DONE,
     BAD_STATE,
@@ -41,10 +41,11 @@ enum answer {
     BAD_SETTING,
     NO_FREE_SLOT,
     NOT_IDLE,
-    TOO_QUICK = 21 /* 19 and 20 are no gateway's */
+    TOO_QUICK = 21, /* 19 and 20 are no gateway's */
+    NO_MORE_SECONDS
 };
 
-enum phase { IDLE, ACQUISITION, DOWN, UP, CEASE };
+enum phase { IDLE, ACQUISITION, DOWN, UP, CEASE, PHASES };
 enum mode { NO_MODE, ACTIVE, PASSIVE };
 enum kind { REQUEST, CONFIRM, REFUSE, CEASE_COMMAND, CEASE_ACK, HELLO, I_H_U, POLL, UPDATE, ERROR, NO_KIND };
 
@@ -55,6 +56,7 @@ struct neighbour {
     uint16_t t1, t2, t3, rows;
     uint8_t phase, mode, reach, heard, cause; /* reach: the register of the last four intervals */
     uint8_t since_hello, since_poll;          /* ticks since the last of each in this acquisition, up to 120 */
+    uint32_t seconds[PHASES];                 /* ticks in each state since it was added */
 };
 
 struct gateway {

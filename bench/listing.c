@@ -11,9 +11,9 @@ static uint8_t *put_text(uint8_t *p, const char *text)
     return p + length;
 }
 
-static uint8_t *put_decimal(uint8_t *p, unsigned number)
+static uint8_t *put_decimal(uint8_t *p, uint32_t number)
 {
-    uint8_t digits[5];
+    uint8_t digits[10];
     unsigned count = 0;
     do {
         digits[count++] = (uint8_t)('0' + number % 10);
@@ -45,12 +45,15 @@ static uint8_t *put_neighbour(uint8_t *p, unsigned slot, const struct neighbour 
 {
     static const char *const phases[] = {"idle", "acquisition", "down", "up", "cease"};
     static const char *const modes[] = {"none", "active", "passive"};
+    static const char *const seconds[] = {"\nsidle=", "\nsacq=", "\nsdown=", "\nsup=", "\nscease="};
     p = put_decimal(put_text(p, "slot="), slot);
     p = put_dotted(put_text(p, "\naddr="), n->address);
     p = put_decimal(put_text(p, "\nas="), n->as);
     p = put_text(put_text(p, "\nstate="), phases[n->phase]);
     p = put_text(put_text(p, "\nmode="), modes[n->mode]);
     p = put_decimal(put_text(p, "\nrows="), n->rows);
+    for (unsigned i = 0; i < PHASES; i++)
+        p = put_decimal(put_text(p, seconds[i]), n->seconds[i]);
     *p++ = '\n';
     for (unsigned i = 0; i < n->rows; i++)
         p = put_row(p, &rows[i]);

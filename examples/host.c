@@ -1,8 +1,9 @@
 /*
  * A small host. It acquires one neighbour, comes up with it, polls it, takes its Update in, refuses what is wrong or
- * too quick, saves its state, loads it again, stops, and tells the neighbour so that has not noticed. There is no
- * network here: the neighbour's messages are made by egp_write, and what would go out is printed. A real host has a raw
- * socket of IP protocol 8 behind transmit and deliver, and a clock behind let_pass (docs/HOST.md, "A main loop").
+ * too quick, saves its state, loads it again, stops, tells the neighbour so that has not noticed, and prints how long
+ * it was in which state. There is no network here: the neighbour's messages are made by egp_write, and what would go
+ * out is printed. A real host has a raw socket of IP protocol 8 behind transmit and deliver, and a clock behind
+ * let_pass (docs/HOST.md, "A main loop").
  *
  *   host [FILE]     FILE is where the state is saved, host.state by default
  *
@@ -164,6 +165,16 @@ static void print_routes(const struct gateway *g)
         }
 }
 
+/* The seconds of each state since the neighbour was added, as long as it is not removed. */
+static void print_seconds(const struct gateway *g, unsigned slot)
+{
+    static const char *const names[] = {"Idle", "Acquisition", "Down", "Up", "Cease"};
+    for (int state = EGP_STATE_IDLE; state <= EGP_STATE_CEASE; state++)
+        printf("%s%s %u", state == EGP_STATE_IDLE ? "seconds: " : ", ", names[state],
+               (unsigned)egp_slot_seconds(g->block, slot, state));
+    printf("\n");
+}
+
 /* ---- across a restart: the file is the block, then the table */
 
 static void save(const char *path, const uint8_t *block, size_t block_len, const uint8_t *table)
@@ -233,10 +244,9 @@ int main(int argc, char **argv)
     m = written(EGP_UPDATE, EGP_STATUS_UP, 1, EGP_ADDRESS(10, 0, 0, 0));
     expect(EGP_BAD_UPDATE, deliver(&g, PEER, &m, "Update about another net"), "Update about another net");
 
-    /* A block of a later version, which has more fields, and then ours. */
-    uint8_t longer[EGP_STATE_SIZE + EGP_SLOTS] = {0};
-    memcpy(longer, g.block, sizeof g.block);
-    save(path, longer, sizeof longer, g.table);
+    /* A block as version 1.6 had it, without seconds, and then ours. */
+    enum { EARLIER = EGP_STATE_SIZE - 20 * EGP_SLOTS };
+    save(path, g.block, EARLIER, g.table);
     expect(EGP_BAD_STATE_LENGTH, load(path, &again), "a block of another length");
     save(path, g.block, sizeof g.block, g.table);
     expect(EGP_OK, load(path, &again), "the block that was saved");
@@ -246,10 +256,13 @@ int main(int argc, char **argv)
     /* The loaded one goes on where the saved one was. */
     printf("Stop\n");
     happen(&again, egp_stop, "egp_stop", PEER);
+    let_pass(&again, 2);
     peer_says(&again, "Cease-ack", EGP_CEASE_ACK, 0, 1);
 
     /* It is in Idle, and yet it goes on as if it were acquired: a Cease tells it, of status 7. */
     peer_says(&again, "late Hello", EGP_HELLO, EGP_STATUS_UP, 8);
+    let_pass(&again, 5);
+    print_seconds(&again, 0);
     expect(EGP_OK, egp_remove(again.block, sizeof again.block, PEER), "egp_remove");
     print_listing(&again);
     return fflush(stdout) == 0 ? EXIT_SUCCESS : EXIT_FAILURE;

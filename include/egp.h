@@ -19,12 +19,12 @@
 #include <stddef.h>
 #include <stdint.h>
 
-#define EGP_VERSION "1.6"
+#define EGP_VERSION "1.7"
 
 /* Lengths in octets. */
-#define EGP_STATE_SIZE 244     /* the state block, exactly: EGP_OWN_SIZE + EGP_SLOTS * EGP_SLOT_SIZE */
+#define EGP_STATE_SIZE 404     /* the state block, exactly: EGP_OWN_SIZE + EGP_SLOTS * EGP_SLOT_SIZE */
 #define EGP_OWN_SIZE 12        /* its first part, our own settings */
-#define EGP_SLOT_SIZE 29       /* one slot of it */
+#define EGP_SLOT_SIZE 49       /* one slot of it */
 #define EGP_TABLE_SIZE 12288   /* the table, exactly: EGP_SLOTS * EGP_ROWS * EGP_ROW_SIZE; all zero at first */
 #define EGP_ROW_SIZE 12        /* net, gateway, distance, four each */
 #define EGP_REPLY_SIZE 2048    /* a reply buffer, at least */
@@ -42,8 +42,8 @@
 /* The number of an address or net, from its four octets. */
 #define EGP_ADDRESS(a, b, c, d) ((uint32_t)(a) << 24 | (uint32_t)(b) << 16 | (uint32_t)(c) << 8 | (uint32_t)(d))
 
-/* The answers; of one call's checks, 20 is the first, 21 follows 13, and the others go by their numbers. 19 is not
-   used here. */
+/* The answers; of one call's checks, 20 is the first, 21 follows 13, 22 follows 5, and the others go by their numbers.
+   19 is not used here. */
 enum egp_answer {
     EGP_OK = 0,                /* carried out, even where nothing changes */
     EGP_BAD_STATE = 1,         /* the state block is not well formed */
@@ -65,7 +65,8 @@ enum egp_answer {
     EGP_NO_FREE_SLOT = 17,     /* there are eight neighbours already */
     EGP_NOT_IDLE = 18,         /* the neighbour to be removed is not in Idle */
     EGP_BAD_STATE_LENGTH = 20, /* block_len is not EGP_STATE_SIZE: the block of another version, perhaps */
-    EGP_TOO_QUICK = 21         /* a Hello less than 30 seconds, or a Poll less than 120, after the last one */
+    EGP_TOO_QUICK = 21,        /* a Hello less than 30 seconds, or a Poll less than 120, after the last one */
+    EGP_NO_MORE_SECONDS = 22   /* a tick after 4,294,967,295 of them, which are as many as can be counted */
 };
 
 /* What a neighbour can be in (octet EGP_SLOT_STATE), and the mode in Down and Up (EGP_SLOT_MODE). */
@@ -114,14 +115,19 @@ enum egp_slot_field {
     EGP_SLOT_TIMER1 = 14, /* t1, t2 and t3: the seconds left */
     EGP_SLOT_TIMER2 = 16,
     EGP_SLOT_TIMER3 = 18,
-    EGP_SLOT_ROWS = 20,        /* how many of its rows are used */
-    EGP_SLOT_STATE = 22,       /* 1 */
-    EGP_SLOT_MODE = 23,        /* 1 */
-    EGP_SLOT_REGISTER = 24,    /* 1; the last four evaluations of reachability */
-    EGP_SLOT_HEARD = 25,       /* 1 */
-    EGP_SLOT_CAUSE = 26,       /* 1; the status of our Cease */
-    EGP_SLOT_SINCE_HELLO = 27, /* 1; ticks since its last Hello in this acquisition, 120 at most */
-    EGP_SLOT_SINCE_POLL = 28   /* 1; and since its last Poll */
+    EGP_SLOT_ROWS = 20,                /* how many of its rows are used */
+    EGP_SLOT_STATE = 22,               /* 1 */
+    EGP_SLOT_MODE = 23,                /* 1 */
+    EGP_SLOT_REGISTER = 24,            /* 1; the last four evaluations of reachability */
+    EGP_SLOT_HEARD = 25,               /* 1 */
+    EGP_SLOT_CAUSE = 26,               /* 1; the status of our Cease */
+    EGP_SLOT_SINCE_HELLO = 27,         /* 1; ticks since its last Hello in this acquisition, 120 at most */
+    EGP_SLOT_SINCE_POLL = 28,          /* 1; and since its last Poll */
+    EGP_SLOT_SECONDS_IDLE = 29,        /* 4; how many seconds it was in each state since it was added */
+    EGP_SLOT_SECONDS_ACQUISITION = 33, /* 4 */
+    EGP_SLOT_SECONDS_DOWN = 37,        /* 4 */
+    EGP_SLOT_SECONDS_UP = 41,          /* 4 */
+    EGP_SLOT_SECONDS_CEASE = 45        /* 4 */
 };
 enum egp_meaning_field {
     EGP_MEANING_KIND = 0,   /* 1 */
@@ -159,7 +165,7 @@ uint64_t egp_fresh(uint8_t *block, size_t block_len, uint16_t own_as, uint32_t o
 uint64_t egp_add(uint8_t *block, size_t block_len, uint32_t address, uint16_t as);
 
 /*
- * Removes a neighbour that is in Idle; its slot is free again.
+ * Removes a neighbour that is in Idle, its seconds with it; its slot is free again.
  * Answers: 20 block_len; 1 the block is not well formed; 5 no neighbour has this address; 18 it is not in Idle.
  * On 0 that slot's octets of the block are zeroed; refused, nothing.
  */
@@ -186,8 +192,10 @@ uint64_t egp_stop(uint8_t *block, size_t block_len, uint8_t *table, size_t table
 
 /*
  * A second has passed for this neighbour. Once a second for each neighbour, whatever its state: Hello, Poll and all
- * repeats are sent by it.
- * Answers and what is written: as egp_start.
+ * repeats are sent by it. On 0 it is counted among the seconds of the state that the neighbour was in before; these
+ * stay until the neighbour is removed.
+ * Answers and what is written: as egp_start, and after 5, 22 the neighbour's five counts of seconds add up to
+ * 4,294,967,295.
  */
 uint64_t egp_tick(uint8_t *block, size_t block_len, uint8_t *table, size_t table_len, uint8_t *reply, size_t reply_len,
                   uint32_t address);
@@ -297,6 +305,7 @@ static inline const char *egp_answer_text(int answer)
     case EGP_NOT_IDLE: return "neighbour not in Idle";
     case EGP_BAD_STATE_LENGTH: return "state block of a wrong length";
     case EGP_TOO_QUICK: return "Hello or Poll too soon after the last one";
+    case EGP_NO_MORE_SECONDS: return "no more seconds can be counted";
     default: return "no answer of this version";
     }
 }
@@ -343,6 +352,12 @@ static inline uint32_t egp_slot_address(const uint8_t *block, unsigned slot)
 static inline int egp_slot_state(const uint8_t *block, unsigned slot)
 {
     return egp_slot(block, slot)[EGP_SLOT_STATE];
+}
+
+/* How many seconds the neighbour was in this state (enum egp_state) since it was added. */
+static inline uint32_t egp_slot_seconds(const uint8_t *block, unsigned slot, int state)
+{
+    return egp_get32(egp_slot(block, slot) + EGP_SLOT_SECONDS_IDLE + 4 * state);
 }
 
 /* The number of the slot's rows; only these are in use. */

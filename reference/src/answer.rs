@@ -49,6 +49,8 @@ pub enum Answer {
     BlockLength = 20,
     /// A Hello or Poll too soon after the last one (02, L5): after 13.
     TooQuick = 21,
+    /// A tick when the seconds counted are as many as may be (02, L7): after 5.
+    NoMoreSeconds = 22,
 }
 
 impl Answer {

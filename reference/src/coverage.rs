@@ -816,6 +816,17 @@ fn breaches(
                 .event_address()
                 .and_then(|address| before.state.find(address));
             event_laws(slot, before, after, record, &mut law);
+            if let Some(slot) = slot {
+                let was = before.state.neighbours[slot];
+                let mut seconds = was.seconds;
+                if kind == CallKind::Tick && record.answer == Answer::Done {
+                    *seconds.of_mut(was.state) += 1;
+                }
+                law(
+                    after.state.neighbours[slot].seconds == seconds,
+                    "a tick carried out, and nothing else, is a second of the state before it",
+                );
+            }
         }
         Call::Listing { .. } | Call::Read { .. } | Call::Write { .. } => {
             law(

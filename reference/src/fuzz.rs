@@ -12,7 +12,7 @@ use crate::gateway::{State, SLOTS, TABLE_NUMBERS};
 use crate::generate::hosts::{Hosts, BLOCK_LENGTHS, TABLE_LENGTHS};
 use crate::host::{self, row_octets, takes, HostCall, Part, TABLE};
 use crate::message::{Kind, SHORTEST, VERSION};
-use crate::neighbour::{Mode, Neighbour, NeighbourState, MOST_TICKS};
+use crate::neighbour::{Mode, Neighbour, NeighbourState, Seconds, MOST_TICKS};
 use crate::net::Class;
 use crate::record::{self, MEANING, STATE_BLOCK};
 use crate::update::{Row, MOST_ROWS};
@@ -235,6 +235,7 @@ fn made_state(input: &mut Input) -> State {
 fn neighbour(input: &mut Input, address: u32, as_number: u16, state: NeighbourState) -> Neighbour {
     let mut n = Neighbour::idle(address, as_number);
     n.state = state;
+    n.seconds = seconds(input, state);
     if state == NeighbourState::Idle {
         return n;
     }
@@ -264,6 +265,26 @@ fn neighbour(input: &mut Input, address: u32, as_number: u16, state: NeighbourSt
         n.cause = 5 + input.octet() % 2;
     }
     n
+}
+
+/// Seconds of a neighbour in this state: an octet says which counts are there, and whether this
+/// state's is filled up so that there is room for no more, or for one.
+fn seconds(input: &mut Input, state: NeighbourState) -> Seconds {
+    let chosen = input.octet();
+    let mut seconds = Seconds::default();
+    for (bit, each) in NeighbourState::ALL.into_iter().enumerate() {
+        if chosen >> bit & 1 == 1 {
+            // So that all five stay within their sum.
+            *seconds.of_mut(each) = input.number32() >> 3;
+        }
+    }
+    let left = (Seconds::MOST - seconds.sum()) as u32;
+    match chosen >> 5 {
+        6 => *seconds.of_mut(state) += left - 1,
+        7 => *seconds.of_mut(state) += left,
+        _ => {}
+    }
+    seconds
 }
 
 /// A table of zeros, or with rows where this state has them, and a few numbers changed.

@@ -3,7 +3,7 @@
 use crate::answer::Answer;
 use crate::message::{self, Body, Kind, Message, ERROR_TYPE, REPLY_BUFFER};
 use crate::neighbour::{
-    self, Event, Local, Mode, Neighbour, NeighbourState, RowChange, Transition,
+    self, Event, Local, Mode, Neighbour, NeighbourState, RowChange, Seconds, Transition,
     ADMINISTRATIVELY_PROHIBITED, BAD_DATA, BAD_HEADER, EXCESSIVE_POLLING_RATE, MOST_TICKS,
     UNSPECIFIED,
 };
@@ -100,7 +100,7 @@ fn variables_are_well_formed(neighbour: &Neighbour) -> bool {
     let acquired = n.state.is_acquired();
 
     let rows = n.row_count as usize <= MOST_ROWS && (up || n.row_count == 0);
-    let idle_is_bare = !idle || *n == Neighbour::idle(n.address, n.as_number);
+    let idle_is_bare = !idle || *n == n.in_idle();
     let timers_bounded = n.t1 <= 122 && n.t2 <= 482 && n.t3 <= 3600;
     let timers_run = idle || (n.t1 >= 1 && n.t3 >= 1);
     let poll_timer = (n.t2 >= 1) == up;
@@ -122,6 +122,7 @@ fn variables_are_well_formed(neighbour: &Neighbour) -> bool {
         n.cause == 0
     };
     let counts = n.since_hello <= MOST_TICKS && n.since_poll <= MOST_TICKS;
+    let seconds = n.seconds.sum() <= Seconds::MOST;
     rows && idle_is_bare
         && timers_bounded
         && timers_run
@@ -130,6 +131,7 @@ fn variables_are_well_formed(neighbour: &Neighbour) -> bool {
         && terms
         && cause
         && counts
+        && seconds
 }
 
 /// What a call gives back: the answer, two lengths and the state after it.
@@ -222,7 +224,7 @@ pub fn stop(state: &State, table: &mut [u32], reply: &mut [u8], address: u32) ->
     plain_event(state, table, reply, address, Event::Stop)
 }
 
-/// One second of one neighbour: checks 1, 2, 3, 5.
+/// One second of one neighbour: checks 1, 2, 3, 5, 22.
 pub fn tick(state: &State, table: &mut [u32], reply: &mut [u8], address: u32) -> Outcome {
     plain_event(state, table, reply, address, Event::Tick)
 }
@@ -240,7 +242,11 @@ fn plain_event(
     let Some(slot) = state.find(address) else {
         return Outcome::refused(state, Answer::UnknownAddress);
     };
-    let transition = neighbour::transition(state.local(&[]), &state.neighbours[slot], event);
+    let neighbour = &state.neighbours[slot];
+    if event == Event::Tick && neighbour.seconds.is_full() {
+        return Outcome::refused(state, Answer::NoMoreSeconds);
+    }
+    let transition = neighbour::transition(state.local(&[]), neighbour, event);
     carry_out(state, table, reply, slot, transition)
 }
 

@@ -9,7 +9,7 @@ use crate::call::CallKind;
 use crate::gateway::{self, Outcome, State, SLOTS, TABLE_NUMBERS};
 use crate::listing::{self, LISTING_BUFFER};
 use crate::message::{self, Body, Intervals, Kind, Message, REPLY_BUFFER};
-use crate::neighbour::{Mode, Neighbour, NeighbourState};
+use crate::neighbour::{Mode, Neighbour, NeighbourState, Seconds};
 use crate::record::{self, MEANING, READING, STATE_BLOCK};
 use crate::update::{Row, MOST_ROWS};
 
@@ -296,7 +296,8 @@ pub fn read_block(block: &[u8]) -> Result<State, Answer> {
 }
 
 /// The next slot: "address (4), AS, S, R, T1, T2, t1, t2, t3, row count (2 each), state, mode,
-/// register, heard, cause (1 each)", then L5's two counts of ticks, Hello's first.
+/// register, heard, cause (1 each)", then L5's two counts of ticks, Hello's first, and L7's five
+/// of seconds, in as many octets as their sum may need.
 fn read_slot(fields: &mut Fields) -> Option<Neighbour> {
     Some(Neighbour {
         address: fields.number32(),
@@ -316,6 +317,13 @@ fn read_slot(fields: &mut Fields) -> Option<Neighbour> {
         cause: fields.octet(),
         since_hello: fields.octet(),
         since_poll: fields.octet(),
+        seconds: Seconds {
+            idle: fields.number32(),
+            acquisition: fields.number32(),
+            down: fields.number32(),
+            up: fields.number32(),
+            cease: fields.number32(),
+        },
     })
 }
 

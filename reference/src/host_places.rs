@@ -12,12 +12,12 @@ use crate::coverage::{Moment, Survey};
 use crate::gateway::{State, SLOTS};
 use crate::generate::faults::STATE_FAULTS;
 use crate::generate::hosts::{
-    unused_octets, Case, BLOCK_LENGTHS, EARLIER_BLOCK, LATER_BLOCK, MEANING_LENGTHS, MODE_OCTET,
-    QUIET_OCTET, ROW_LENGTHS, SETTINGS, SINCE_HELLO_OCTET, SINCE_POLL_OCTET, SLOT, STATE_OCTET,
-    TABLE_LENGTHS,
+    unused_octets, Case, BEYOND_8_BITS, BLOCK_LENGTHS, EARLIER_BLOCKS, MEANING_LENGTHS, MODE_OCTET,
+    QUIET_OCTET, ROW_LENGTHS, SECONDS_OCTETS, SETTINGS, SINCE_HELLO_OCTET, SINCE_POLL_OCTET, SLOT,
+    STATE_OCTET, TABLE_LENGTHS,
 };
 use crate::host::{self, are_whole_rows, takes, HostCall, Part, ROW, TABLE};
-use crate::neighbour::NeighbourState;
+use crate::neighbour::{NeighbourState, Seconds};
 use crate::record::{MEANING, STATE_BLOCK};
 use crate::update::MOST_ROWS;
 
@@ -42,6 +42,7 @@ enum Group {
     Unused,
     Rows,
     Slots,
+    Seconds,
 }
 
 impl Group {
@@ -62,6 +63,7 @@ impl Group {
             Group::Unused => "a meaning, one octet set that its kind leaves 0",
             Group::Rows => "rows to be written, by their octets and beside which kind",
             Group::Slots => "what each slot's octets of block and table are used for",
+            Group::Seconds => "each slot's seconds: counted, full, too many, of nobody",
         }
     }
 }
@@ -175,7 +177,8 @@ fn expected() -> Found {
             found.push((Group::Order, order_label(kind, first, second)));
         }
         let near = [STATE_BLOCK - 1, STATE_BLOCK + 1];
-        for length in [0, 1, EARLIER_BLOCK, LATER_BLOCK].iter().chain(&near) {
+        let shorter = [0, 1, STATE_BLOCK - BEYOND_8_BITS];
+        for length in shorter.iter().chain(&EARLIER_BLOCKS).chain(&near) {
             if takes(kind, Part::Block) {
                 found.push((Group::BlockLengths, length_label(kind, *length)));
             }
@@ -200,6 +203,15 @@ fn expected() -> Found {
         for use_of_slot in USES {
             found.push((Group::Slots, format!("slot {slot}: {use_of_slot}")));
         }
+        for state in NeighbourState::ALL {
+            found.push((Group::Seconds, counted_label(slot, state)));
+        }
+        for what in [REFUSED, TOO_MANY] {
+            found.push((Group::Seconds, format!("slot {slot}: {what}")));
+        }
+    }
+    for octet in SECONDS_OCTETS {
+        found.push((Group::Seconds, nobody_label(octet)));
     }
     for (name, _, code) in NUMBERS {
         let label = format!("{name} {code}");
@@ -312,6 +324,7 @@ fn reached(case: &Case) -> Found {
     match case.answer() {
         0 => slots(case, &mut found),
         1 => broken_blocks(case, &mut found),
+        22 => refused_ticks(case, &mut found),
         _ => {}
     }
     if case.aim == "block: one octet changed" && takes(kind, Part::Block) {
@@ -467,6 +480,49 @@ fn broken_blocks(case: &Case, found: &mut Found) {
             found.push((Group::Codes, code_label(&label, slot)));
             found.push((Group::Codes, label));
         }
+        broken_seconds(block, slot, found);
+    }
+}
+
+// Seconds.
+
+const REFUSED: &str = "refused 22";
+const TOO_MANY: &str = "one too many";
+
+fn counted_label(slot: usize, state: NeighbourState) -> String {
+    format!("slot {slot}: counted in {state:?}")
+}
+
+fn nobody_label(octet: usize) -> String {
+    format!("free slot, octet {octet}")
+}
+
+/// Seconds for which alone a block is refused with 1: one more than may be, or one octet of a free
+/// slot's.
+fn broken_seconds(block: &[u8], slot: usize, found: &mut Found) {
+    let at = SETTINGS + SLOT * slot;
+    let octets = &block[at..at + SLOT];
+    let counts = host::numbers_of(&octets[SECONDS_OCTETS]);
+    let sum: u64 = counts.into_iter().map(u64::from).sum();
+    let is_free = octets[..4] == [0; 4];
+    let mut set = SECONDS_OCTETS.filter(|&octet| octets[octet] != 0);
+    let label = match (is_free, set.next(), set.next()) {
+        (true, Some(octet), None) => nobody_label(octet),
+        (false, ..) if sum == Seconds::MOST + 1 => format!("slot {slot}: {TOO_MANY}"),
+        _ => return,
+    };
+    let mut mended = block.to_vec();
+    mended[at..][SECONDS_OCTETS].fill(0);
+    if host::read_block(&mended).is_ok_and(|state| state.is_well_formed()) {
+        found.push((Group::Seconds, label));
+    }
+}
+
+/// A tick that is refused for its neighbour's seconds.
+fn refused_ticks(case: &Case, found: &mut Found) {
+    let state = host::read_block(&case.call.lent.block);
+    if let Some(slot) = state.ok().and_then(|state| state.find(case.call.address)) {
+        found.push((Group::Seconds, format!("slot {slot}: {REFUSED}")));
     }
 }
 
@@ -504,13 +560,16 @@ fn slots(case: &Case, found: &mut Found) {
         return;
     };
     for slot in (0..SLOTS).filter(|&slot| before.neighbours[slot] != after.neighbours[slot]) {
+        let [was, is] = [&before, &after].map(|state| state.neighbours[slot]);
+        if kind == CallKind::Tick {
+            found.push((Group::Seconds, counted_label(slot, was.state)));
+        }
         let mut note = |what: &str| found.push((Group::Slots, format!("slot {slot}: {what}")));
         match kind {
             CallKind::Add => note("added"),
             CallKind::Remove => note("removed"),
             _ => note(&format!("{kind:?} changes it")),
         }
-        let [was, is] = [&before, &after].map(|state| state.neighbours[slot]);
         if is.state != NeighbourState::Idle && was.since_hello > 0 && is.since_hello == 0 {
             note("since Hello zeroed");
         }

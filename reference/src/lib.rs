@@ -5,9 +5,9 @@
 //! that another implementation can be run against it call by call.
 //!
 //! * [`checksum`], [`net`], [`message`], [`update`]: the octets (01, "Octets").
-//! * [`neighbour`]: the state machine of one neighbour (01, "One neighbour"; 02, L3, L5, L6).
+//! * [`neighbour`]: the state machine of one neighbour (01, "One neighbour"; 02, L3, L5 to L7).
 //! * [`gateway`]: the state, its well-formedness and the calls (01, "Answer numbers").
-//! * [`listing`]: the table as text (01, "The listing").
+//! * [`listing`]: the table as text (01, "The listing"; 02, L7).
 //! * [`call`]: one call with all its raw arguments, and a bench that runs it.
 //! * [`generate`]: seeded lists of calls that steer into deep states.
 //! * [`coverage`], [`places`]: what a list of calls touched, the places among it that a comparison

@@ -1,4 +1,4 @@
-//! The table as text (01, "The listing").
+//! The table as text (01, "The listing"; 02, L7).
 
 use crate::answer::Answer;
 use crate::gateway::{Outcome, State, SLOT_NUMBERS, TABLE_NUMBERS};
@@ -75,6 +75,10 @@ fn text(state: &State, table: &[u32]) -> String {
         line("state", state_word(neighbour.state));
         line("mode", mode_word(neighbour.mode));
         line("rows", &neighbour.row_count.to_string());
+        for state in NeighbourState::ALL {
+            let seconds = neighbour.seconds.of(state);
+            line(seconds_name(state), &seconds.to_string());
+        }
         for row in rows_of(neighbour, slot, table) {
             line("net", &dotted(row.net));
             line("gw", &dotted(row.gateway));
@@ -92,6 +96,17 @@ fn state_word(state: NeighbourState) -> &'static str {
         NeighbourState::Down => "down",
         NeighbourState::Up => "up",
         NeighbourState::Cease => "cease",
+    }
+}
+
+/// "The listing gains five lines after `rows`" (02, L7).
+fn seconds_name(state: NeighbourState) -> &'static str {
+    match state {
+        NeighbourState::Idle => "sidle",
+        NeighbourState::Acquisition => "sacq",
+        NeighbourState::Down => "sdown",
+        NeighbourState::Up => "sup",
+        NeighbourState::Cease => "scease",
     }
 }
 

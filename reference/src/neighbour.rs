@@ -1,4 +1,4 @@
-//! The state machine of one neighbour (01, "One neighbour"; 02, L3, L5, L6; RFC 904, sections 3
+//! The state machine of one neighbour (01, "One neighbour"; 02, L3, L5 to L7; RFC 904, sections 3
 //! and 4).
 
 use crate::message::{Body, Intervals, Kind, Message};
@@ -76,6 +76,52 @@ impl NeighbourState {
     }
 }
 
+/// Seconds spent in each of the five states since the neighbour was added (02, L7), a tick being a
+/// second.
+#[derive(Clone, Copy, Debug, Default, PartialEq, Eq)]
+pub struct Seconds {
+    pub idle: u32,
+    pub acquisition: u32,
+    pub down: u32,
+    pub up: u32,
+    pub cease: u32,
+}
+
+impl Seconds {
+    /// "With a sum of at most 4,294,967,295."
+    pub const MOST: u64 = 4_294_967_295;
+
+    /// The five counts, in the order of the states.
+    pub fn all(self) -> [u32; 5] {
+        NeighbourState::ALL.map(|state| self.of(state))
+    }
+
+    pub fn of(self, state: NeighbourState) -> u32 {
+        let mut seconds = self;
+        *seconds.of_mut(state)
+    }
+
+    pub fn of_mut(&mut self, state: NeighbourState) -> &mut u32 {
+        match state {
+            NeighbourState::Idle => &mut self.idle,
+            NeighbourState::Acquisition => &mut self.acquisition,
+            NeighbourState::Down => &mut self.down,
+            NeighbourState::Up => &mut self.up,
+            NeighbourState::Cease => &mut self.cease,
+        }
+    }
+
+    /// All of them; five counts of 32 bits may add up to more than such a count holds.
+    pub fn sum(self) -> u64 {
+        self.all().into_iter().map(u64::from).sum()
+    }
+
+    /// Whether no tick can be counted any more.
+    pub fn is_full(self) -> bool {
+        self.sum() >= Seconds::MOST
+    }
+}
+
 /// M, the hello polling mode; none where it is 0.
 #[derive(Clone, Copy, Debug, Default, PartialEq, Eq, PartialOrd, Ord, Hash)]
 pub enum Mode {
@@ -115,6 +161,8 @@ pub struct Neighbour {
     /// [`MOST_TICKS`], and as many if there was none.
     pub since_hello: u8,
     pub since_poll: u8,
+    /// What no event but a tick changes.
+    pub seconds: Seconds,
 }
 
 impl Neighbour {
@@ -129,6 +177,15 @@ impl Neighbour {
 
     pub fn is_used(&self) -> bool {
         self.address != 0
+    }
+
+    /// What this neighbour is in Idle: "these counts survive Idle", nothing else but address and AS
+    /// does.
+    pub fn in_idle(&self) -> Neighbour {
+        Neighbour {
+            seconds: self.seconds,
+            ..Neighbour::idle(self.address, self.as_number)
+        }
     }
 
     /// Check 21: whether a message of this kind comes too soon after the last. "The rule holds in
@@ -156,6 +213,7 @@ pub struct Local<'a> {
 }
 
 /// An event. A message event holds the decoded message, beside the octets an Error quotes.
+#[derive(PartialEq, Eq)]
 pub enum Event<'a> {
     Message {
         message: &'a Message,
@@ -414,6 +472,8 @@ impl Machine<'_> {
 
     fn tick(&mut self) {
         let before = self.neighbour.state;
+        // "A tick carried out belongs to the state before it", Idle's too.
+        *self.neighbour.seconds.of_mut(before) += 1;
         if before == NeighbourState::Idle {
             return;
         }
@@ -536,10 +596,10 @@ impl Machine<'_> {
         neighbour.heard = 0;
     }
 
-    /// "Entering Idle zeroes all but address and AS."
+    /// "Entering Idle zeroes all but address and AS", and but the seconds.
     fn enter_idle(&mut self) {
         self.leave_up();
-        self.neighbour = Neighbour::idle(self.neighbour.address, self.neighbour.as_number);
+        self.neighbour = self.neighbour.in_idle();
     }
 
     /// "Leaving Up zeroes t2 and the neighbour's rows and count." Outside Up nothing is done.

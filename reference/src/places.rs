@@ -4,7 +4,7 @@
 //! one where a gateway can be wrong while nearly every other call agrees: two checks that fail
 //! at once, a number at its limit or one beyond, a message that nearly gets a reply, an Update
 //! that is or nearly is an indication, a Hello or Poll that is or nearly is too quick, a message
-//! that is or nearly is a stray one in Idle.
+//! that is or nearly is a stray one in Idle, a tick that is or nearly is one second too many.
 
 use crate::answer::Answer;
 use crate::call::{Call, CallKind, Record};
@@ -12,11 +12,12 @@ use crate::checksum;
 use crate::coverage::{self, Moment};
 use crate::gateway::{self, State, TABLE_NUMBERS};
 use crate::generate::faults::ONES;
-use crate::generate::{Origin, Step};
+use crate::generate::material::{self, CARRIES, DIGIT_EDGES};
+use crate::generate::{Origin, Step, ADDED_AGAIN};
 use crate::listing::{self, LISTING_BUFFER};
 use crate::message::{self, Body, Kind, LONGEST, REPLY_BUFFER, SHORTEST, VERSION};
 use crate::neighbour::{
-    Mode, Neighbour, NeighbourState, HELLO_TICKS, MOST_TICKS, P4, POLL_TICKS, STRAYS,
+    Mode, Neighbour, NeighbourState, Seconds, HELLO_TICKS, MOST_TICKS, P4, POLL_TICKS, STRAYS,
 };
 use crate::net::{self, Class};
 use crate::update::{self, Row, MOST_ROWS};
@@ -49,13 +50,19 @@ impl Seen<'_> {
         Some((&self.before.state.neighbours[slot], octets))
     }
 
-    /// The neighbour that a tick is for.
+    /// The neighbour that a tick is for which is carried out.
     fn tick(&self) -> Option<&Neighbour> {
+        self.tick_giving(0)
+    }
+
+    /// The neighbour that a tick is for which gives this number.
+    fn tick_giving(&self, number: u8) -> Option<&Neighbour> {
         let Call::Tick { address, .. } = &self.step.call else {
             return None;
         };
         let slot = self.before.state.find(*address)?;
-        self.gives(0).then_some(&self.before.state.neighbours[slot])
+        self.gives(number)
+            .then_some(&self.before.state.neighbours[slot])
     }
 
     /// The neighbour that something happens to which is carried out, and the row of the machine's
@@ -116,6 +123,11 @@ pub fn all() -> Vec<Place> {
     places.extend(rates());
     places.extend(ticks());
     places.extend(counts());
+    places.extend(seconds_in_states());
+    places.extend(seconds_of_ticks());
+    places.extend(full_sums());
+    places.extend(seconds_kept());
+    places.extend(seconds_listed());
     places.extend(home_lists());
     places.extend(readings());
     places.extend(writings());
@@ -149,7 +161,11 @@ const PAIRS: [(CallKind, &[(u8, u8)]); 8] = [
     ),
     (CallKind::Start, &[(1, 2), (2, 3), (3, 5)]),
     (CallKind::Stop, &[(1, 2), (2, 3), (3, 5)]),
-    (CallKind::Tick, &[(1, 2), (2, 3), (3, 5)]),
+    (
+        CallKind::Tick,
+        // 5 and 22 can't both fail of one neighbour.
+        &[(1, 2), (2, 3), (3, 5), (1, 22), (2, 22), (3, 22)],
+    ),
     (CallKind::Listing, &[(1, 2), (2, 3)]),
     (CallKind::Add, &[(1, 16), (16, 17)]),
     (CallKind::Remove, &[(1, 5), (1, 18)]),
@@ -204,6 +220,9 @@ fn fails(seen: &Seen, check: u8) -> bool {
         (16, Call::Write { message, loose, .. }) => {
             !message::can_write(message) || !loose.is_empty()
         }
+        (22, Call::Tick { address, .. }) => state
+            .find(*address)
+            .is_some_and(|slot| state.neighbours[slot].seconds.is_full()),
         (17, Call::Add { .. }) => state.neighbours.iter().all(Neighbour::is_used),
         (18, Call::Remove { address }) => state
             .find(*address)
@@ -358,7 +377,7 @@ fn states() -> Vec<Place> {
         places.push(place(format!("state: Idle, {name} 1"), move |seen| {
             seen.gives(1)
                 && any_mended(seen.before.state, |neighbour| {
-                    let bare = Neighbour::idle(neighbour.address, neighbour.as_number);
+                    let bare = neighbour.in_idle();
                     let mut wrong = bare;
                     set(&mut wrong);
                     (neighbour.is_used() && *neighbour == wrong).then_some(bare)
@@ -913,6 +932,264 @@ fn counts() -> Vec<Place> {
             }
         }
     }
+    places
+}
+
+// Seconds in each of the five states.
+
+/// Whether a neighbour's seconds are such that any change of them shows.
+fn are_apart(neighbour: &Neighbour) -> bool {
+    material::are_apart(neighbour.seconds)
+}
+
+fn has_all_five(seconds: Seconds) -> bool {
+    !seconds.all().contains(&0)
+}
+
+/// The state of the only count that is not 0.
+fn alone(seconds: Seconds) -> Option<NeighbourState> {
+    let mut counted = NeighbourState::ALL
+        .into_iter()
+        .filter(|state| seconds.of(*state) > 0);
+    counted.next().filter(|_| counted.next().is_none())
+}
+
+/// Seconds of states that the host hands in: of Idle, of free slots, at their sum's limit and beyond.
+fn seconds_in_states() -> Vec<Place> {
+    fn is_taken(seen: &Seen) -> bool {
+        seen.step.origin == Origin::HandedIn && makes_check_1(&seen.step.call) && !seen.gives(1)
+    }
+    /// Whether a state is refused just for the seconds of one neighbour, or of a free slot.
+    fn is_refused(seen: &Seen, is_wanted: impl Fn(&Neighbour) -> bool) -> bool {
+        seen.gives(1)
+            && any_mended(seen.before.state, |slot| {
+                let mended = Neighbour {
+                    seconds: Seconds::default(),
+                    ..*slot
+                };
+                is_wanted(slot).then_some(mended)
+            })
+    }
+    let mut places = Vec::new();
+    for state in NeighbourState::ALL {
+        let name = format!("state: Idle, seconds in {state:?} alone");
+        places.push(place(name, move |seen| {
+            let is_wanted = |n: &Neighbour| {
+                n.is_used() && n.state == NeighbourState::Idle && alone(n.seconds) == Some(state)
+            };
+            is_taken(seen) && seen.before.state.neighbours.iter().any(is_wanted)
+        }));
+        let name = format!("state: free slot, seconds in {state:?} alone");
+        places.push(place(name, move |seen| {
+            is_refused(seen, |n| !n.is_used() && alone(n.seconds) == Some(state))
+        }));
+        let name = format!("state: {state:?}, sum 4,294,967,295");
+        places.push(place(name, move |seen| {
+            let is_wanted = |n: &Neighbour| n.state == state && n.seconds.sum() == Seconds::MOST;
+            is_taken(seen) && seen.before.state.neighbours.iter().any(is_wanted)
+        }));
+        // Without any of the five it would be good.
+        let name = format!("state: {state:?}, sum 4,294,967,296 of all five");
+        places.push(place(name, move |seen| {
+            is_refused(seen, |n| {
+                let is_wanted = n.state == state && n.seconds.sum() == Seconds::MOST + 1;
+                is_wanted && has_all_five(n.seconds)
+            })
+        }));
+    }
+    places.push(place("state: seconds 4,294,967,295 and 1", |seen| {
+        is_refused(seen, |n| {
+            let mut counts = n.seconds.all();
+            counts.sort_unstable();
+            counts == [0, 0, 0, 1, u32::MAX]
+        })
+    }));
+    places.push(place("state: every count 4,294,967,295", |seen| {
+        is_refused(seen, |n| n.seconds.all() == [u32::MAX; 5])
+    }));
+    places
+}
+
+/// The state after a tick that is carried out.
+fn after_tick(neighbour: &Neighbour) -> NeighbourState {
+    use NeighbourState::{Acquisition, Cease, Down, Idle, Up};
+    match (neighbour.state, neighbour.t3, neighbour.t1) {
+        (Idle, ..) | (Acquisition | Cease, 1, _) => Idle,
+        (Down | Up, 1, _) => Cease,
+        (Down, _, 1) if is_turned(neighbour) => Up,
+        (Up, _, 1) if is_turned(neighbour) => Down,
+        (state, ..) => state,
+    }
+}
+
+/// A tick belongs to the state before it, and a refused one to none.
+fn seconds_of_ticks() -> Vec<Place> {
+    use NeighbourState::{Acquisition, Cease, Down, Idle, Up};
+    let mut places = Vec::new();
+    let stays = NeighbourState::ALL.map(|state| (state, state));
+    let turns = [
+        (Acquisition, Idle),
+        (Down, Up),
+        (Up, Down),
+        (Down, Cease),
+        (Up, Cease),
+        (Cease, Idle),
+    ];
+    for (from, to) in stays.into_iter().chain(turns) {
+        let name = match from == to {
+            true => format!("tick in {from:?}, seconds apart"),
+            false => format!("tick from {from:?} to {to:?}, seconds apart"),
+        };
+        places.push(place(name, move |seen| {
+            seen.tick()
+                .is_some_and(|n| n.state == from && after_tick(n) == to && are_apart(n))
+        }));
+    }
+    for state in NeighbourState::ALL {
+        for count in CARRIES {
+            let name = format!("tick in {state:?}, seconds {count:X} there");
+            places.push(place(name, move |seen| {
+                seen.tick()
+                    .is_some_and(|n| n.state == state && n.seconds.of(state) == count)
+            }));
+        }
+    }
+    for number in [2, 3] {
+        let name = format!("tick refused {number}, seconds apart");
+        places.push(place(name, move |seen| {
+            seen.tick_giving(number)
+                .is_some_and(|n| n.state != Idle && are_apart(n))
+        }));
+    }
+    places
+}
+
+/// Check 22, on both of its sides, and what it is not about.
+fn full_sums() -> Vec<Place> {
+    let mut places = Vec::new();
+    for state in NeighbourState::ALL {
+        for (sum, number) in [(Seconds::MOST - 1, 0), (Seconds::MOST, 22)] {
+            let name = format!("tick in {state:?}, sum {sum} of all five");
+            places.push(place(name, move |seen| {
+                seen.tick_giving(number).is_some_and(|n| {
+                    let is_wanted = n.state == state && n.seconds.sum() == sum;
+                    is_wanted && has_all_five(n.seconds)
+                })
+            }));
+            let name = format!("tick in {state:?}, all {sum} there");
+            places.push(place(name, move |seen| {
+                seen.tick_giving(number)
+                    .is_some_and(|n| n.state == state && n.seconds == material::all_in(state, sum))
+            }));
+        }
+    }
+    type Timer = fn(&Neighbour) -> u16;
+    let timers: [(&str, Timer); 3] = [("t1", |n| n.t1), ("t2", |n| n.t2), ("t3", |n| n.t3)];
+    for (name, timer) in timers {
+        // What it would send or clear is neither sent nor cleared.
+        places.push(place(format!("tick refused 22, {name} 1"), move |seen| {
+            seen.tick_giving(22).is_some_and(|n| timer(n) == 1)
+        }));
+    }
+    fn is_another_full(seen: &Seen) -> bool {
+        let address = seen.step.call.event_address();
+        let neighbours = seen.before.state.neighbours.iter();
+        neighbours
+            .filter(|n| n.is_used() && Some(n.address) != address)
+            .any(|n| n.seconds.is_full())
+    }
+    places.push(place("tick, another's sum 4,294,967,295", |seen| {
+        seen.tick().is_some() && is_another_full(seen)
+    }));
+    places.push(place("tick for nobody, a sum 4,294,967,295", |seen| {
+        matches!(seen.step.call, Call::Tick { .. }) && seen.gives(5) && is_another_full(seen)
+    }));
+    for kind in [CallKind::Start, CallKind::Stop, CallKind::Message] {
+        for state in NeighbourState::ALL {
+            let name = format!("{kind:?} in {state:?}, sum 4,294,967,295");
+            places.push(place(name, move |seen| {
+                seen.step.call.kind() == Some(kind)
+                    && seen
+                        .event()
+                        .is_some_and(|(n, _)| n.state == state && n.seconds.is_full())
+            }));
+        }
+    }
+    places
+}
+
+/// What changes a neighbour's record and not its seconds; and who is gone takes them along.
+fn seconds_kept() -> Vec<Place> {
+    use NeighbourState::{Acquisition, Cease, Down, Idle, Up};
+    let events: [(&str, &[NeighbourState]); 13] = [
+        ("Request, acceptable", &[Idle, Acquisition, Down, Up]),
+        ("Request, unacceptable", &[Acquisition, Down, Up]),
+        ("Confirm, acceptable", &[Acquisition]),
+        ("Confirm, unacceptable", &[Acquisition]),
+        ("Refuse", &[Acquisition]),
+        ("Cease", &NeighbourState::ALL),
+        ("Cease-ack", &[Cease]),
+        ("Hello", &[Idle, Down, Up]),
+        ("I-H-U", &[Down, Up]),
+        ("Poll", &[Down, Up]),
+        ("Update", &[Idle, Down, Up]),
+        ("Start", &NeighbourState::ALL),
+        ("Stop", &NeighbourState::ALL),
+    ];
+    let mut places = Vec::new();
+    for (event, states) in events {
+        for &state in states {
+            let name = format!("seconds kept: {event} in {state:?}");
+            places.push(place(name, move |seen| {
+                seen.event().is_some_and(|(neighbour, happens)| {
+                    happens == event && neighbour.state == state && are_apart(neighbour)
+                })
+            }));
+        }
+    }
+    places.push(place("seconds gone: Remove", |seen| {
+        let Call::Remove { address } = seen.step.call else {
+            return false;
+        };
+        let neighbours = &seen.before.state.neighbours;
+        let slot = seen.before.state.find(address);
+        seen.gives(0) && slot.is_some_and(|slot| has_all_five(neighbours[slot].seconds))
+    }));
+    places.push(place("seconds gone: added again", |seen| {
+        seen.gives(0) && seen.step.aim == ADDED_AGAIN
+    }));
+    places
+}
+
+/// Decimals of every length, the lines' order, and the longest listing.
+fn seconds_listed() -> Vec<Place> {
+    /// Whether a listing that is carried out has such a neighbour.
+    fn lists(seen: &Seen, is_wanted: impl Fn(&Neighbour) -> bool) -> bool {
+        let mut neighbours = seen.before.state.neighbours.iter();
+        matches!(seen.step.call, Call::Listing { .. })
+            && seen.gives(0)
+            && neighbours.any(|n| n.is_used() && is_wanted(n))
+    }
+    let mut places = Vec::new();
+    for count in DIGIT_EDGES {
+        places.push(place(format!("listing: seconds {count}"), move |seen| {
+            lists(seen, |n| n.seconds.all().contains(&count))
+        }));
+    }
+    for state in NeighbourState::ALL {
+        let name = format!("listing: all 4,294,967,295 in {state:?}");
+        places.push(place(name, move |seen| {
+            lists(seen, |n| {
+                n.seconds == material::all_in(state, Seconds::MOST)
+            })
+        }));
+    }
+    places.push(place("listing: seconds apart, with rows", |seen| {
+        lists(seen, |n| are_apart(n) && n.row_count > 0)
+    }));
+    places.push(place("listing: 59,581 octets", |seen| {
+        matches!(seen.step.call, Call::Listing { .. }) && seen.record.lengths.0 == 59_581
+    }));
     places
 }
 

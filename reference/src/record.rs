@@ -8,14 +8,14 @@ use std::io::{self, Read};
 use crate::call::{Bench, Buffer, Call, Record};
 use crate::gateway::State;
 use crate::message::{Body, Intervals, Kind, Message};
-use crate::neighbour::{Mode, Neighbour, NeighbourState};
+use crate::neighbour::{Mode, Neighbour, NeighbourState, Seconds};
 use crate::update::{Row, MOST_ROWS};
 
 /// Octets of the head of a record and of an answer.
 pub const RECORD_HEAD: usize = 32;
 pub const ANSWER_HEAD: usize = 16;
 /// Octets of a state block: the settings, then eight slots.
-pub const STATE_BLOCK: usize = 12 + 8 * 29;
+pub const STATE_BLOCK: usize = 12 + 8 * 49;
 /// Octets of a message's meaning.
 pub const MEANING: usize = 24;
 /// What reading alone is lent: the meaning, then the numbers of 128 rows.
@@ -159,7 +159,7 @@ pub fn rows(message: &Message) -> &[Row] {
     }
 }
 
-/// The state in 244 octets.
+/// The state in 404 octets.
 pub fn state_block(state: &State) -> Vec<u8> {
     let mut block = Vec::with_capacity(STATE_BLOCK);
     block.extend(state.as_number.to_be_bytes());
@@ -204,6 +204,16 @@ fn slot_block(neighbour: &Neighbour, block: &mut Vec<u8>) {
     };
     block.extend([state, mode, n.register, n.heard, n.cause]);
     block.extend([n.since_hello, n.since_poll]);
+    let Seconds {
+        idle,
+        acquisition,
+        down,
+        up,
+        cease,
+    } = n.seconds;
+    for count in [idle, acquisition, down, up, cease] {
+        block.extend(count.to_be_bytes());
+    }
 }
 
 /// The number of a kind in a meaning.

@@ -1,9 +1,10 @@
-//! A short stored list: cases of the bench sheet, a stray message and a refusal or two, for a
-//! driver's own test.
+//! A short stored list: cases of the bench sheet, a stray message, the last second that is counted
+//! and a refusal or two, for a driver's own test.
 
 use crate::call::{Bench, Buffer, Call};
-use crate::gateway::TABLE_NUMBERS;
+use crate::gateway::{self, State, TABLE_NUMBERS};
 use crate::message::{self, Body, Message, REPLY_BUFFER};
+use crate::neighbour::Seconds;
 use crate::net::address;
 use crate::record::{self, Given};
 use crate::update::Row;
@@ -50,6 +51,10 @@ fn calls() -> Vec<Call> {
         home: Vec::new(),
         reply,
     };
+    let tick = || Call::Tick {
+        address: PEER,
+        reply,
+    };
     let message = |octets: &[u8]| Call::Message {
         address: PEER,
         octets: octets.to_vec(),
@@ -92,17 +97,33 @@ fn calls() -> Vec<Call> {
         Call::HandTable(vec![0; TABLE_NUMBERS]),
         stray,
         message(CASE_Q),
-        Call::Tick {
-            address: PEER,
-            reply,
-        },
+        tick(),
         Call::Listing {
             buffer: Buffer {
                 length: 100,
                 fill: 7,
             },
         },
+        Call::HandState(Box::new(nearly_full())),
+        tick(),
+        tick(),
     ]
+}
+
+/// The neighbour in Idle with room for one second more.
+fn nearly_full() -> State {
+    let mut state = gateway::fresh(9, OWN, 1, NET, 0).state;
+    state = gateway::add(&state, PEER, 7).state;
+    let seconds = &mut state.neighbours[0].seconds;
+    *seconds = Seconds {
+        idle: 0x0102_0304,
+        acquisition: 0x0506_0708,
+        down: 0x090A_0B0C,
+        up: 0x0D0E_0F10,
+        cease: 0,
+    };
+    seconds.cease = (Seconds::MOST - 1 - seconds.sum()) as u32;
+    state
 }
 
 /// The list as records.

@@ -7,7 +7,7 @@ use reference::answer::Answer;
 use reference::call::{Bench, Buffer, Call};
 use reference::gateway::{self, State};
 use reference::listing;
-use reference::neighbour::{Mode, Neighbour};
+use reference::neighbour::{Mode, Neighbour, NeighbourState, Seconds};
 use reference::net::address;
 
 fn buffer(length: usize) -> Buffer {
@@ -47,8 +47,8 @@ fn event_calls(address: u32, length: usize) -> [Call; 4] {
 #[test]
 fn answer_0_even_if_nothing_changes() {
     let mut gateway = Gateway::new(1).quiet();
-    let before = gateway.bench.clone();
     assert_eq!(gateway.tick(), got(0, &[]));
+    let before = gateway.bench.clone();
     assert_eq!(gateway.stop(), got(0, &[]));
     assert_eq!(gateway.message(&peer(HELLO, 1, 9, &[])), got(0, &[]));
     assert_eq!(gateway.bench, before);
@@ -424,7 +424,7 @@ fn nothing_is_too_quick_in_other_states() {
         }
         let mut idle = Gateway::new(1).quiet();
         assert_eq!(idle.message(&octets), got(0, &[]));
-        assert_eq!(idle.n(), in_state(Idle, Mode::None));
+        assert_eq!(idle.n(), Neighbour::idle(N, PEER_AS));
     }
 }
 
@@ -478,7 +478,7 @@ fn a_stray_is_checked_first() {
                 let short = peer(pair, 0, 9, &rest[1..]);
                 assert_eq!(gateway.message(&short), got(12, &[]));
             }
-            assert_eq!(gateway.n(), in_state(Idle, Mode::None));
+            assert_eq!(gateway.n(), Neighbour::idle(N, PEER_AS));
         }
         // 10, and a stranger's Request, which has a reply with either setting.
         assert_eq!(gateway.message(&peer((5, 2), 0, 9, &[])), got(10, &[]));
@@ -612,6 +612,122 @@ fn answer_18_unless_idle() {
     assert_eq!(gateway.state().neighbours[1], Neighbour::idle(P, PEER_AS));
 }
 
+/// Five counts that add up to this.
+fn seconds_of(sum: u64) -> Seconds {
+    Seconds {
+        idle: (sum - 3_000_000_010) as u32,
+        acquisition: 1_000_000_000,
+        down: 10,
+        up: 2_000_000_000,
+        cease: 0,
+    }
+}
+
+/// N in this state with all its timers about to run out, and these seconds.
+fn last_second(state: NeighbourState, seconds: Seconds) -> Gateway {
+    let neighbour = in_state(state, Mode::Active);
+    Gateway::with(Neighbour {
+        t1: neighbour.t1.min(1),
+        t2: neighbour.t2.min(1),
+        t3: neighbour.t3.min(1),
+        seconds,
+        ..neighbour
+    })
+}
+
+/// 02, L7: "22, a tick when the sum is 4,294,967,295". [`Gateway::run`] sees to it that nothing
+/// changes.
+#[test]
+fn answer_22_for_a_tick_at_the_full_sum() {
+    for state in [Idle, Acquisition, Down, Up, Cease] {
+        let mut gateway = last_second(state, seconds_of(4_294_967_295));
+        assert_eq!(gateway.tick(), got(22, &[]));
+        assert_eq!(gateway.tick(), got(22, &[]));
+        // Whatever count the seconds are in.
+        for only in [Idle, Acquisition, Down, Up, Cease] {
+            let mut seconds = Seconds::default();
+            *seconds.of_mut(only) = u32::MAX;
+            assert_eq!(last_second(state, seconds).tick(), got(22, &[]));
+            *seconds.of_mut(only) = u32::MAX - 1;
+            let mut gateway = Gateway::with(Neighbour {
+                seconds,
+                ..in_state(state, Mode::Active)
+            });
+            assert_eq!(gateway.tick(), got(0, &[]));
+            *seconds.of_mut(state) += 1;
+            assert_eq!(gateway.n().seconds, seconds);
+            assert_eq!(gateway.tick(), got(22, &[]));
+        }
+    }
+}
+
+/// "After 5", so after 1, 2 and 3 too; of nobody there are no seconds.
+#[test]
+fn answer_22_comes_last() {
+    let bench = last_second(Up, seconds_of(4_294_967_295)).bench;
+    let tick = |address, length| Call::Tick {
+        address,
+        reply: buffer(length),
+    };
+    assert_eq!(answer(&bench, tick(N, 2048)), 22);
+    assert_eq!(answer(&bench, tick(N, 2047)), 3);
+    for unknown in [0, OWN, P + 1] {
+        assert_eq!(answer(&bench, tick(unknown, 2048)), 5);
+    }
+    // Another neighbour has seconds of its own.
+    assert_eq!(answer(&bench, tick(P, 2048)), 0);
+    let mut wrong = bench.clone();
+    wrong.table.pop();
+    assert_eq!(answer(&wrong, tick(N, 2048)), 2);
+    wrong.state.neighbours[1].heard = 1;
+    assert_eq!(answer(&wrong, tick(N, 2048)), 1);
+}
+
+/// What is no tick is carried out as ever, and counts nothing.
+#[test]
+fn only_ticks_are_refused_22() {
+    let full = seconds_of(4_294_967_295);
+    for state in [Idle, Acquisition, Down, Up, Cease] {
+        let before = Neighbour {
+            seconds: full,
+            ..in_state(state, Mode::Active)
+        };
+        let octets = [
+            request(0, 9, 30, 120),
+            request(0, 9, 121, 120),
+            confirm(0, 4, 30, 120),
+            peer(REFUSE, 0, 4, &[]),
+            peer(CEASE, 0, 9, &[]),
+            peer(CEASE_ACK, 0, 4, &[]),
+            peer(HELLO, 1, 9, &[]),
+            peer(I_H_U, 1, 4, &[]),
+            poll(1, 9, NET),
+            update(1, 4, 1, 0, &[0, 5, 1, 0, 1, 10]),
+            peer(ERROR, 1, 9, &[0; 14]),
+        ];
+        for octets in octets {
+            let mut gateway = Gateway::with(before);
+            assert_eq!(gateway.message(&octets).answer, 0);
+            assert_eq!(gateway.n().seconds, full);
+        }
+        let mut gateway = Gateway::with(before);
+        assert_eq!(gateway.start().answer, 0);
+        assert_eq!(gateway.n().seconds, full);
+        let mut gateway = Gateway::with(before);
+        assert_eq!(gateway.stop().answer, 0);
+        assert_eq!(gateway.n().seconds, full);
+        assert!(gateway.listing().is_ok());
+        // Even a refused message is not refused for the seconds.
+        assert_eq!(gateway.message(&[0; 9]), got(6, &[]));
+    }
+    let mut gateway = last_second(Idle, full);
+    assert_eq!(
+        gateway.run(Call::Remove { address: N }).answer,
+        Answer::Done
+    );
+    assert_eq!(gateway.n(), Neighbour::default());
+}
+
 #[test]
 fn listing_makes_2_before_3() {
     let mut gateway = Gateway::with(in_state(Up, Mode::Active));
@@ -660,6 +776,13 @@ fn well_formed_own_values() {
     assert!(!with(&|state| state.neighbours[7].row_count = 1));
     assert!(!with(&|state| state.neighbours[7].since_hello = 1));
     assert!(!with(&|state| state.neighbours[7].since_poll = 1));
+    for only in [Idle, Acquisition, Down, Up, Cease] {
+        for count in [1, 1 << 8, 1 << 16, 1 << 24, u32::MAX] {
+            assert!(!with(&|state| {
+                *state.neighbours[7].seconds.of_mut(only) = count;
+            }));
+        }
+    }
     // Holes are allowed.
     assert!(with(&|state| state.neighbours[0] = Neighbour::default()));
 }
@@ -687,6 +810,40 @@ fn well_formed_in_idle_is_bare() {
     ];
     for change in changes {
         assert!(!well_formed(idle, change));
+    }
+}
+
+/// 02, L7: "well formed now allows it, with a sum of at most 4,294,967,295".
+#[test]
+fn well_formed_seconds() {
+    for state in [Idle, Acquisition, Down, Up, Cease] {
+        let neighbour = in_state(state, Mode::Active);
+        let with = |seconds: Seconds| well_formed(neighbour, |n| n.seconds = seconds);
+        assert!(with(Seconds::default()));
+        assert!(with(seconds_of(4_294_967_294)));
+        assert!(with(seconds_of(4_294_967_295)));
+        assert!(!with(seconds_of(4_294_967_296)));
+        for only in [Idle, Acquisition, Down, Up, Cease] {
+            let mut seconds = Seconds::default();
+            *seconds.of_mut(only) = u32::MAX;
+            assert!(with(seconds));
+            for other in [Idle, Acquisition, Down, Up, Cease] {
+                // In 32 bits they would add up to 0.
+                let mut seconds = seconds;
+                *seconds.of_mut(other) = seconds.of(other).wrapping_add(1).max(1);
+                assert_eq!(with(seconds), only == other);
+            }
+        }
+        let every = |count| Seconds {
+            idle: count,
+            acquisition: count,
+            down: count,
+            up: count,
+            cease: count,
+        };
+        assert!(with(every(858_993_459)));
+        assert!(!with(every(858_993_460)));
+        assert!(!with(every(u32::MAX)));
     }
 }
 

@@ -7,7 +7,7 @@ use reference::gateway;
 use reference::generate::faults::{self, Sender};
 use reference::generate::material;
 use reference::message::{self, Kind};
-use reference::neighbour::{Neighbour, NeighbourState};
+use reference::neighbour::NeighbourState;
 use reference::random::Random;
 use reference::update::{walk, MOST_ROWS};
 
@@ -37,8 +37,8 @@ fn broken_states_are_not_well_formed() {
     assert_eq!(made, BTreeSet::from(faults::STATE_FAULTS));
 }
 
-/// "In Idle only address and AS may be non-zero": a fault of that name leaves a used Idle slot
-/// that has something else.
+/// "In Idle only address and AS may be non-zero", and the seconds: a fault of that name leaves a used
+/// Idle slot that has something else.
 #[test]
 fn idle_faults_leave_the_neighbour_idle() {
     let mut random = Random::new(2);
@@ -51,7 +51,7 @@ fn idle_faults_leave_the_neighbour_idle() {
         let not_bare = state.neighbours.iter().filter(|neighbour| {
             neighbour.is_used()
                 && neighbour.state == NeighbourState::Idle
-                && **neighbour != Neighbour::idle(neighbour.address, neighbour.as_number)
+                && **neighbour != neighbour.in_idle()
         });
         assert_eq!(not_bare.count(), 1, "{fault}");
     }

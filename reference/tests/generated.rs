@@ -3,7 +3,7 @@
 use reference::answer::Answer;
 use reference::call::{Bench, Call};
 use reference::coverage;
-use reference::gateway::{SLOTS, SLOT_NUMBERS};
+use reference::gateway::{State, SLOTS, SLOT_NUMBERS};
 use reference::generate::{Generator, Origin};
 use reference::message::{self, Body};
 use reference::neighbour::NeighbourState;
@@ -45,6 +45,40 @@ fn rows_are_really_reached() {
     assert!(with_rows > 1000);
 }
 
+/// 02, L7: the five counts are the ticks carried out in each state since the neighbour was added, or
+/// since the host handed in others.
+#[test]
+fn seconds_are_the_ticks_of_each_state() {
+    let mut bench = Bench::default();
+    let mut seconds = [[0; 5]; SLOTS];
+    let mut counted = [0; 5];
+    for step in Generator::new(5).take(60_000) {
+        let before = bench.state;
+        let record = bench.run(&step.call);
+        let is_done = record.answer == Answer::Done;
+        let slot_of = |state: &State, address| state.find(address).expect("a known neighbour");
+        match step.call {
+            Call::HandState(_) => seconds = bench.state.neighbours.map(|n| n.seconds.all()),
+            Call::Fresh { .. } => seconds = [[0; 5]; SLOTS],
+            Call::Add { address, .. } if is_done => {
+                seconds[slot_of(&bench.state, address)] = [0; 5];
+            }
+            Call::Remove { address } if is_done => seconds[slot_of(&before, address)] = [0; 5],
+            Call::Tick { address, .. } if is_done => {
+                let slot = slot_of(&before, address);
+                let state = before.neighbours[slot].state;
+                let index = NeighbourState::ALL.iter().position(|other| *other == state);
+                let index = index.expect("one of five");
+                seconds[slot][index] += 1;
+                counted[index] += 1;
+            }
+            _ => {}
+        }
+        assert_eq!(bench.state.neighbours.map(|n| n.seconds.all()), seconds);
+    }
+    assert!(counted.iter().all(|ticks| *ticks > 100), "{counted:?}");
+}
+
 /// "Rows of the last accepted Update since it last entered Up": in a list that began with fresh
 /// and a zeroed table, the table is exactly that, number for number.
 #[test]
@@ -52,7 +86,7 @@ fn the_table_holds_the_last_accepted_updates() {
     let mut bench = Bench::default();
     let mut rows: [Vec<Row>; SLOTS] = Default::default();
     let mut accepted = 0;
-    for step in Generator::new(5).take(30_000) {
+    for step in Generator::new(5).take(60_000) {
         let before = bench.state;
         let record = bench.run(&step.call);
         if step.origin == Origin::HandedIn || step.call.kind().is_none() {

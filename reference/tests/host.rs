@@ -55,14 +55,14 @@ const WITH_TABLE: [CallKind; 5] = [Start, Stop, Tick, Message, Listing];
 
 #[test]
 fn fresh_writes_the_whole_block() {
-    let (result, after) = fresh_over(vec![0xEE; 244]).make();
+    let (result, after) = fresh_over(vec![0xEE; 404]).make();
     assert_eq!(result, 0);
     assert_eq!(
         after.block[..12],
         hex("00 09 80 09 00 01 01 80 09 00 00 00")
     );
     assert!(after.block[12..].iter().all(|octet| *octet == 0));
-    let mut quiet = fresh_over(vec![0xEE; 244]);
+    let mut quiet = fresh_over(vec![0xEE; 404]);
     quiet.quiet = 1;
     let (result, after) = quiet.make();
     assert_eq!(result, 0);
@@ -75,7 +75,7 @@ fn fresh_writes_the_whole_block() {
 
 #[test]
 fn a_refused_fresh_touches_no_octet() {
-    let good = fresh_over(vec![0xEE; 244]);
+    let good = fresh_over(vec![0xEE; 404]);
     let spoils: [fn(&mut HostCall); 7] = [
         |call| call.as_number = 0,
         |call| call.capability = 3,
@@ -97,8 +97,9 @@ fn a_refused_fresh_touches_no_octet() {
 #[test]
 fn twenty_comes_first() {
     for kind in WITH_BLOCK {
-        // 243 octets had the block before it had `quiet` (02, L6).
-        for length in [0, 1, 227, 243, 245, 404, 65_536 + 244] {
+        // 243 octets had the block before it had `quiet` (02, L6), 244 before it had seconds (L7);
+        // 148 and 660 are 404 in eight bits.
+        for length in [0, 1, 148, 227, 243, 244, 403, 405, 660, 65_536 + 404] {
             let mut call = call(kind, up());
             call.lent.block.resize(length, 0);
             call.lent.table.clear();
@@ -115,7 +116,7 @@ fn numbers_of_no_state_and_no_mode_give_1() {
         for slot in 0..8 {
             for (at, code) in [(22, 5), (22, 255), (23, 3), (23, 255)] {
                 let mut call = call(kind, up());
-                call.lent.block[12 + 29 * slot + at] = code;
+                call.lent.block[12 + 49 * slot + at] = code;
                 call.lent.table.clear();
                 assert_refused(&call, 1);
             }
@@ -123,13 +124,13 @@ fn numbers_of_no_state_and_no_mode_give_1() {
     }
 }
 
-/// Their octets end each slot's part, Hello's first.
+/// Hello's comes first; the seconds alone stand behind them.
 #[test]
 fn counts_above_120_give_1() {
     for slot in 0..8 {
         for at in [27, 28] {
             let mut call = call(Tick, up());
-            let octet = 12 + 29 * slot + at;
+            let octet = 12 + 49 * slot + at;
             call.lent.block[octet] = 121;
             assert_refused(&call, 1);
             // Nor has Idle or a free slot any.
@@ -137,6 +138,108 @@ fn counts_above_120_give_1() {
             assert_eq!(answer(&call), u8::from(slot > 0));
         }
     }
+}
+
+/// Five counts of four octets end each slot's part: idle, acquisition, down, up, cease. A tick adds
+/// one to that of the state before it, and its octets carry.
+#[test]
+fn a_tick_is_counted_in_its_octets() {
+    use reference::neighbour::Mode;
+    for (index, state) in [Idle, Acquisition, Down, Up, Cease].into_iter().enumerate() {
+        for (count, later) in [
+            ([0, 0, 0, 0], [0, 0, 0, 1]),
+            ([0, 0, 0, 255], [0, 0, 1, 0]),
+            ([0, 0, 255, 255], [0, 1, 0, 0]),
+            ([0, 255, 255, 255], [1, 0, 0, 0]),
+            ([255, 255, 255, 200], [255, 255, 255, 201]),
+        ] {
+            let mut call = call(Tick, in_state(state, Mode::Active));
+            // Nothing else but three timers and two counts of ticks changes.
+            call.lent.block[12 + 29..12 + 49].copy_from_slice(&[0; 20]);
+            let at = 12 + 29 + 4 * index;
+            call.lent.block[at..at + 4].copy_from_slice(&count);
+            let (result, after) = call.make();
+            assert_eq!(result, 0);
+            let mut expected = [0; 20];
+            expected[4 * index..][..4].copy_from_slice(&later);
+            assert_eq!(after.block[12 + 29..12 + 49], expected);
+            assert_eq!(after.block[12 + 49..], call.lent.block[12 + 49..]);
+        }
+    }
+}
+
+/// In every slot, the last of which lie beyond octet 255.
+#[test]
+fn a_full_sum_gives_22_and_one_more_gives_1() {
+    for slot in 0..8 {
+        let mut call = call(Tick, up());
+        let neighbour = call.lent.block[12..12 + 49].to_vec();
+        call.lent.block[12..].fill(0);
+        let at = 12 + 49 * slot;
+        call.lent.block[at..at + 49].copy_from_slice(&neighbour);
+        let mut seconds = |octets: &str| {
+            call.lent.block[at + 29..at + 49].copy_from_slice(&hex(octets));
+            call.clone()
+        };
+        let zero = "00 00 00 00 ";
+        let full = seconds(&(zero.repeat(2) + "FF FF FF F0 00 00 00 0B 00 00 00 04"));
+        assert_refused(&full, 22);
+        let mut start = full.clone();
+        start.kind = Start;
+        assert_eq!(answer(&start), 0);
+        let one_less = seconds(&(zero.repeat(2) + "FF FF FF F0 00 00 00 0B 00 00 00 03"));
+        assert_eq!(answer(&one_less), 0);
+        let one_more = seconds(&(zero.repeat(2) + "FF FF FF F0 00 00 00 0B 00 00 00 05"));
+        assert_refused(&one_more, 1);
+        let wrapped = seconds(&("00 00 00 01 ".to_string() + &zero.repeat(3) + "FF FF FF FF"));
+        assert_refused(&wrapped, 1);
+        let mut short = full;
+        short.lent.buffer.pop();
+        assert_refused(&short, 3);
+        short.lent.buffer.push(FILL);
+        short.address = 77;
+        assert_refused(&short, 5);
+    }
+}
+
+#[test]
+fn seconds_of_nobody_give_1() {
+    for slot in 2..8 {
+        for octet in 29..49 {
+            let mut call = call(Listing, up());
+            call.lent.block[12 + 49 * slot + octet] = 1;
+            assert_refused(&call, 1);
+        }
+    }
+}
+
+/// They are left by what goes to Idle, and gone with the neighbour.
+#[test]
+fn seconds_stay_in_idle_and_go_with_the_neighbour() {
+    let mut stop = call(Stop, in_state(Cease, reference::neighbour::Mode::None));
+    let counts = stop.lent.block[12 + 29..12 + 49].to_vec();
+    assert_eq!(
+        counts,
+        [0, 0, 0, 11, 0, 0, 0, 12, 0, 0, 0, 13, 0, 0, 0, 14, 0, 0, 0, 15]
+    );
+    let (result, after) = stop.make();
+    assert_eq!((result, after.block[12 + 22]), (0, 0));
+    assert_eq!(after.block[12 + 29..12 + 49], counts);
+    stop.kind = Remove;
+    stop.lent = Lent {
+        block: after.block,
+        ..Lent::default()
+    };
+    let (result, after) = stop.make();
+    assert_eq!(result, 0);
+    assert_eq!(after.block[12..12 + 49], [0; 49]);
+    stop.kind = Add;
+    stop.as_number = PEER_AS;
+    stop.lent.block = after.block;
+    let (result, after) = stop.make();
+    assert_eq!(result, 0);
+    assert_eq!(after.block[12..18], hex("80 09 00 05 00 07"));
+    assert_eq!(after.block[18..12 + 49], [0; 43]);
 }
 
 /// Its octet ends the settings.

@@ -1,7 +1,7 @@
-//! Every cell of the machine's table (01, "One neighbour"; 02, L3, L5 and L6).
+//! Every cell of the machine's table (01, "One neighbour"; 02, L3, L5 to L7).
 //!
-//! The neighbour starts with S 4 and R 5; in Up it holds two rows. Each case compares the whole
-//! neighbour after the event, every octet sent, and the rows.
+//! The neighbour starts with S 4 and R 5, and with seconds in each state, which stay; in Up it holds
+//! two rows. Each case compares the whole neighbour after the event, every octet sent, and the rows.
 
 mod common;
 
@@ -54,7 +54,7 @@ fn message(octets: Vec<u8>) -> impl Fn(&mut Gateway) -> Got {
 }
 
 fn idle() -> Neighbour {
-    Neighbour::idle(N, PEER_AS)
+    in_state(Idle, Mode::None)
 }
 
 /// Idle answers this message with Cease, or with nothing if we are quiet; either way nothing else
@@ -622,7 +622,8 @@ fn a_stray_starts_nothing() {
         assert_eq!(gateway.tick(), got(0, &[]));
     }
     assert_eq!(gateway.message(&peer(CEASE_ACK, 0, 0, &[])), got(0, &[]));
-    assert_eq!(gateway.n(), idle());
+    assert_eq!(gateway.n().in_idle(), gateway.n());
+    assert_eq!(gateway.n().seconds.all(), [130, 0, 0, 0, 0]);
     assert_eq!(gateway.start(), got(0, &[our_request(1, 0)]));
 }
 

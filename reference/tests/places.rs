@@ -6,12 +6,13 @@ use common::*;
 use reference::call::{Buffer, Call};
 use reference::coverage::{self, Moment};
 use reference::gateway::TABLE_NUMBERS;
-use reference::generate::{Origin, Step};
+use reference::generate::{material, Origin, Step};
 use reference::listing::LISTING_BUFFER;
 use reference::message::{Body, Intervals, Kind, Message};
-use reference::neighbour::{Mode, Neighbour, NeighbourState, STRAYS};
+use reference::neighbour::{Mode, Neighbour, NeighbourState, Seconds, STRAYS};
 use reference::net::address;
 use reference::places::{self, Seen};
+use reference::random::Random;
 use reference::update::Row;
 
 /// The answer to a call on a state that the host handed in, and the places it reaches.
@@ -95,6 +96,9 @@ fn failing(call: &str, checks: &[u8]) -> (Gateway, Call) {
     if fails(1) {
         state.neighbours[1].as_number = 0;
     }
+    if fails(22) {
+        state.neighbours[0].seconds.up = u32::MAX - 51;
+    }
     if fails(17) {
         for (slot, neighbour) in state.neighbours.iter_mut().enumerate().skip(2) {
             *neighbour = Neighbour::idle(P + slot as u32, PEER_AS);
@@ -160,6 +164,7 @@ fn two_checks_fail_at_once() {
     for call in ["Start", "Stop", "Tick"] {
         pairs.extend([(call, 1, 2), (call, 2, 3), (call, 3, 5)]);
     }
+    pairs.extend([("Tick", 1, 22), ("Tick", 2, 22), ("Tick", 3, 22)]);
     pairs.extend([("Listing", 1, 2), ("Listing", 2, 3)]);
     pairs.extend([("Add", 1, 16), ("Add", 16, 17)]);
     pairs.extend([("Remove", 1, 5), ("Remove", 1, 18), ("Write", 3, 16)]);
@@ -754,6 +759,339 @@ fn what_becomes_of_the_counts() {
                 assert!(!reaches(&at_its_limit, call.clone(), &name), "{name}");
             }
         }
+    }
+}
+
+/// N in this state with these seconds.
+fn with_seconds(state: NeighbourState, seconds: Seconds) -> Gateway {
+    let mut gateway = Gateway::with(in_state(state, Mode::Active));
+    gateway.bench.state.neighbours[0].seconds = seconds;
+    gateway
+}
+
+const STATES: [NeighbourState; 5] = [Idle, Acquisition, Down, Up, Cease];
+
+fn all_in(state: NeighbourState, count: u32) -> Seconds {
+    let mut seconds = Seconds::default();
+    *seconds.of_mut(state) = count;
+    seconds
+}
+
+/// All five, that of Idle being what is left of the sum.
+fn of_sum(sum: u64) -> Seconds {
+    Seconds {
+        idle: (sum - 50) as u32,
+        acquisition: 11,
+        down: 12,
+        up: 13,
+        cease: 14,
+    }
+}
+
+const MOST: u64 = 4_294_967_295;
+
+#[test]
+fn seconds_of_states_handed_in() {
+    let mut gateway = Gateway::new(1);
+    for only in STATES {
+        let name = format!("state: Idle, seconds in {only:?} alone");
+        for (state, seconds, is_reached) in [
+            (Idle, all_in(only, 1), true),
+            (Idle, SECONDS, false),
+            (Idle, Seconds::default(), false),
+            (Down, all_in(only, 1), false),
+        ] {
+            let gateway = with_seconds(state, seconds);
+            assert_eq!(reaches(&gateway, tick(), &name), is_reached, "{name}");
+        }
+        let name = format!("state: free slot, seconds in {only:?} alone");
+        for count in [1, 256, u32::MAX] {
+            gateway.bench.state.neighbours[7].seconds = all_in(only, count);
+            assert!(reaches(&gateway, tick(), &name), "{name}");
+        }
+        gateway.bench.state.neighbours[7].seconds = SECONDS;
+        assert!(!reaches(&gateway, tick(), &name), "{name}");
+        gateway.bench.state.neighbours[7] = Neighbour::default();
+        assert!(!reaches(&gateway, tick(), &name), "{name}");
+    }
+    for state in STATES {
+        let full = format!("state: {state:?}, sum 4,294,967,295");
+        let more = format!("state: {state:?}, sum 4,294,967,296 of all five");
+        for (sum, name) in [
+            (MOST - 1, None),
+            (MOST, Some(&full)),
+            (MOST + 1, Some(&more)),
+        ] {
+            let gateway = with_seconds(state, of_sum(sum));
+            for place in [&full, &more] {
+                assert_eq!(
+                    reaches(&gateway, tick(), place),
+                    Some(place) == name,
+                    "{place}"
+                );
+            }
+        }
+    }
+    let mut wrapped = all_in(Up, u32::MAX);
+    wrapped.cease = 1;
+    let every = Seconds {
+        idle: u32::MAX,
+        acquisition: u32::MAX,
+        down: u32::MAX,
+        up: u32::MAX,
+        cease: u32::MAX,
+    };
+    for (seconds, name) in [
+        (wrapped, "state: seconds 4,294,967,295 and 1"),
+        (every, "state: every count 4,294,967,295"),
+    ] {
+        let mut gateway = with_seconds(Down, seconds);
+        let list = || failing("Listing", &[]).1;
+        assert_eq!(reached(&gateway, list()), (1, vec![name.to_string()]));
+        gateway.bench.state.capability = 3;
+        assert_eq!(reached(&gateway, list()), (1, vec![]));
+    }
+}
+
+#[test]
+fn a_tick_and_the_state_it_belongs_to() {
+    type Change = fn(&mut Neighbour);
+    let changed = |state, change: Change| {
+        let mut gateway = Gateway::with(in_state(state, Mode::Active));
+        change(&mut gateway.bench.state.neighbours[0]);
+        gateway
+    };
+    let three_heard = |n: &mut Neighbour| (n.t1, n.register, n.heard) = (1, 0b0011, 1);
+    let silent = |n: &mut Neighbour| (n.t1, n.register) = (1, 0b0100);
+    let ends: Change = |n| n.t3 = 1;
+    let turns: [(NeighbourState, Change, NeighbourState); 6] = [
+        (Acquisition, ends, Idle),
+        (Down, three_heard, Up),
+        (Up, silent, Down),
+        (Down, ends, Cease),
+        (Up, ends, Cease),
+        (Cease, ends, Idle),
+    ];
+    let stays = STATES.map(|state| -> (_, Change, _) { (state, |_| {}, state) });
+    for (from, change, to) in stays.into_iter().chain(turns) {
+        let name = match from == to {
+            true => format!("tick in {from:?}, seconds apart"),
+            false => format!("tick from {from:?} to {to:?}, seconds apart"),
+        };
+        let mut gateway = changed(from, change);
+        assert!(reaches(&gateway, tick(), &name), "{name}");
+        let mut after = gateway.bench.clone();
+        after.run(&tick());
+        assert_eq!(after.state.neighbours[0].state, to, "{name}");
+        // No other of them.
+        let of_turns =
+            |name: &&String| name.starts_with("tick ") && name.ends_with("seconds apart");
+        let (_, places) = reached(&gateway, tick());
+        assert_eq!(places.iter().filter(of_turns).count(), 1, "{name}");
+        gateway.bench.state.neighbours[0].seconds.down = SECONDS.up;
+        assert!(!reaches(&gateway, tick(), &name), "{name}");
+        gateway.bench.state.neighbours[0].seconds.down = 0;
+        assert!(!reaches(&gateway, tick(), &name), "{name}");
+    }
+    for state in STATES {
+        for (count, name) in [(255, "FF"), (65_535, "FFFF"), (16_777_215, "FFFFFF")] {
+            let name = format!("tick in {state:?}, seconds {name} there");
+            let there = with_seconds(state, all_in(state, count));
+            assert!(reaches(&there, tick(), &name), "{name}");
+            let elsewhere = if state == Up { Down } else { Up };
+            for other in [all_in(state, count + 1), all_in(elsewhere, count)] {
+                assert!(
+                    !reaches(&with_seconds(state, other), tick(), &name),
+                    "{name}"
+                );
+            }
+        }
+    }
+    for number in [2, 3] {
+        let name = format!("tick refused {number}, seconds apart");
+        let (gateway, call) = failing("Tick", &[number]);
+        assert!(reaches(&gateway, call, &name));
+        assert!(!reaches(&gateway, tick(), &name) || number == 2);
+        let (mut gateway, call) = failing("Tick", &[number]);
+        gateway.bench.state.neighbours[0].seconds.idle = 0;
+        assert!(!reaches(&gateway, call, &name));
+    }
+}
+
+#[test]
+fn a_tick_near_the_sum() {
+    for state in STATES {
+        for (sum, number) in [(MOST - 1, 0), (MOST, 22)] {
+            let of_all = format!("tick in {state:?}, sum {sum} of all five");
+            let there = format!("tick in {state:?}, all {sum} there");
+            let five = with_seconds(state, of_sum(sum));
+            let one = with_seconds(state, all_in(state, sum as u32));
+            let elsewhere = if state == Up { Down } else { Up };
+            let other = with_seconds(state, all_in(elsewhere, sum as u32));
+            for (gateway, wanted) in [(five, Some(&of_all)), (one, Some(&there)), (other, None)] {
+                assert_eq!(reached(&gateway, tick()).0, number);
+                for place in [&of_all, &there] {
+                    assert_eq!(reaches(&gateway, tick(), place), Some(place) == wanted);
+                }
+            }
+            let less = with_seconds(state, of_sum(sum - 1));
+            assert!(!reaches(&less, tick(), &of_all));
+        }
+    }
+    type Change = fn(&mut Neighbour);
+    let timers: [(&str, Change); 3] = [
+        ("t1", |n| n.t1 = 1),
+        ("t2", |n| n.t2 = 1),
+        ("t3", |n| n.t3 = 1),
+    ];
+    for (name, change) in timers {
+        let name = format!("tick refused 22, {name} 1");
+        let mut gateway = with_seconds(Up, of_sum(MOST));
+        assert!(!reaches(&gateway, tick(), &name));
+        change(&mut gateway.bench.state.neighbours[0]);
+        assert!(reaches(&gateway, tick(), &name));
+        gateway.bench.state.neighbours[0].seconds = SECONDS;
+        assert!(!reaches(&gateway, tick(), &name));
+    }
+}
+
+/// Seconds are each neighbour's own, and only ticks are refused for them.
+#[test]
+fn a_full_sum_of_another_and_other_calls() {
+    let another = "tick, another's sum 4,294,967,295";
+    let nobody = "tick for nobody, a sum 4,294,967,295";
+    let at = |address| Call::Tick {
+        address,
+        reply: reply_buffer(),
+    };
+    let full = with_seconds(Up, of_sum(MOST));
+    let nearly = with_seconds(Up, of_sum(MOST - 1));
+    assert!(reaches(&full, at(P), another) && !reaches(&full, at(N), another));
+    assert!(!reaches(&nearly, at(P), another));
+    assert!(reaches(&full, at(P + 1), nobody) && !reaches(&full, at(P), nobody));
+    assert!(!reaches(&nearly, at(P + 1), nobody));
+    for state in STATES {
+        let (address, reply) = (N, reply_buffer());
+        for (name, call) in [
+            ("Start", Call::Start { address, reply }),
+            ("Stop", Call::Stop { address, reply }),
+            ("Message", message(peer(ERROR, 1, 4, &[0; 14]))),
+        ] {
+            let name = format!("{name} in {state:?}, sum 4,294,967,295");
+            let full = with_seconds(state, of_sum(MOST));
+            assert!(reaches(&full, call.clone(), &name), "{name}");
+            let nearly = with_seconds(state, of_sum(MOST - 1));
+            assert!(!reaches(&nearly, call, &name), "{name}");
+        }
+    }
+}
+
+#[test]
+fn what_keeps_the_seconds() {
+    let (address, reply) = (N, reply_buffer());
+    for (event, call, states) in [
+        ("Start", Call::Start { address, reply }, STATES.to_vec()),
+        ("Stop", Call::Stop { address, reply }, STATES.to_vec()),
+        ("Cease", message(peer(CEASE, 5, 9, &[])), STATES.to_vec()),
+        (
+            "Cease-ack",
+            message(peer(CEASE_ACK, 0, 4, &[])),
+            vec![Cease],
+        ),
+        (
+            "Refuse",
+            message(peer(REFUSE, 0, 4, &[])),
+            vec![Acquisition],
+        ),
+        (
+            "Request, acceptable",
+            message(request(1, 9, 30, 120)),
+            vec![Idle, Acquisition, Down, Up],
+        ),
+        (
+            "Request, unacceptable",
+            message(request(1, 9, 121, 120)),
+            vec![Acquisition, Down, Up],
+        ),
+        (
+            "Confirm, acceptable",
+            message(confirm(1, 4, 30, 120)),
+            vec![Acquisition],
+        ),
+        (
+            "Confirm, unacceptable",
+            message(confirm(1, 4, 121, 120)),
+            vec![Acquisition],
+        ),
+        ("Hello", hello_call(), vec![Idle, Down, Up]),
+        ("I-H-U", message(peer(I_H_U, 1, 4, &[])), vec![Down, Up]),
+        ("Poll", poll_call(NET), vec![Down, Up]),
+        ("Update", message(update_failing(&[])), vec![Idle, Down, Up]),
+    ] {
+        for state in states {
+            let name = format!("seconds kept: {event} in {state:?}");
+            let gateway = with_seconds(state, SECONDS);
+            assert!(reaches(&gateway, call.clone(), &name), "{name}");
+            let mut after = gateway.bench.clone();
+            after.run(&call);
+            assert_eq!(after.state.neighbours[0].seconds, SECONDS, "{name}");
+            let none = with_seconds(state, Seconds::default());
+            assert!(!reaches(&none, call.clone(), &name), "{name}");
+        }
+    }
+    let gone = "seconds gone: Remove";
+    let remove = Call::Remove { address: N };
+    assert!(reaches(&with_seconds(Idle, SECONDS), remove.clone(), gone));
+    assert!(!reaches(&with_seconds(Down, SECONDS), remove.clone(), gone));
+    assert!(!reaches(&with_seconds(Idle, all_in(Up, 9)), remove, gone));
+}
+
+#[test]
+fn listings_of_seconds() {
+    let list = || failing("Listing", &[]).1;
+    for count in [0, 9, 10, 999_999_999, 1_000_000_000, 4_294_967_295] {
+        let name = format!("listing: seconds {count}");
+        for state in STATES {
+            assert!(reaches(
+                &with_seconds(Up, all_in(state, count)),
+                list(),
+                &name
+            ));
+        }
+        // P has none.
+        let other = with_seconds(Up, SECONDS);
+        assert_eq!(reaches(&other, list(), &name), count == 0);
+        assert!(!reaches(
+            &with_seconds(Up, all_in(Up, count)),
+            tick(),
+            &name
+        ));
+    }
+    for state in STATES {
+        let name = format!("listing: all 4,294,967,295 in {state:?}");
+        assert!(reaches(
+            &with_seconds(Up, all_in(state, u32::MAX)),
+            list(),
+            &name
+        ));
+        assert!(!reaches(
+            &with_seconds(Up, all_in(state, u32::MAX - 1)),
+            list(),
+            &name
+        ));
+    }
+    let name = "listing: seconds apart, with rows";
+    assert!(reaches(&with_seconds(Up, SECONDS), list(), name));
+    assert!(!reaches(&with_seconds(Down, SECONDS), list(), name));
+    assert!(!reaches(&with_seconds(Up, all_in(Up, 9)), list(), name));
+    let mut random = Random::new(1);
+    for _ in 0..20 {
+        let (state, table) = material::longest(&mut random);
+        let mut gateway = Gateway::new(1);
+        (gateway.bench.state, gateway.bench.table) = (state, table);
+        assert!(reaches(&gateway, list(), "listing: 59,581 octets"));
+        gateway.bench.table[2] = 99;
+        assert!(!reaches(&gateway, list(), "listing: 59,581 octets"));
     }
 }
 

@@ -1,8 +1,9 @@
-//! Playing a recording back (02, L1 and L6). The number in a test's name is the reading's.
+//! Playing a recording back (02, L1, L6 and L7). The number in a test's name is the reading's.
 
 mod common;
 
 use common::*;
+use reference::call::Bench;
 use reference::generate::recordings;
 use reference::message::Kind;
 use reference::neighbour::STRAYS;
@@ -13,7 +14,8 @@ use reference::site;
 
 const HEAD: &str = "ownas=9\nown=128.9.0.1\ncap=1\nnet=128.9.0.0\n";
 const NOBODY: &str = "neighbours=0\n";
-const N_IDLE: &str = "neighbours=1\nslot=0\naddr=128.9.0.5\nas=7\nstate=idle\nmode=none\nrows=0\n";
+const N_IDLE: &str = "neighbours=1\nslot=0\naddr=128.9.0.5\nas=7\nstate=idle\nmode=none\nrows=0\n\
+    sidle=0\nsacq=0\nsdown=0\nsup=0\nscease=0\n";
 
 fn play(recording: &str) -> String {
     String::from_utf8(playback::play(recording.as_bytes())).expect("text")
@@ -78,7 +80,8 @@ fn case_u_played() {
     let lines: Vec<&str> = lines.iter().map(String::as_str).collect();
     let rows = "net=10.0.0.0\ngw=128.9.0.5\ndist=0\nside=int\n\
         net=192.5.6.0\ngw=128.9.0.5\ndist=0\nside=int\n";
-    let listing = "neighbours=1\nslot=0\naddr=128.9.0.5\nas=7\nstate=up\nmode=active\nrows=2\n";
+    let listing = "neighbours=1\nslot=0\naddr=128.9.0.5\nas=7\nstate=up\nmode=active\nrows=2\n\
+        sidle=0\nsacq=0\nsdown=96\nsup=0\nscease=0\n";
     assert_eq!(
         after_head(&lines),
         format!("{}{listing}{rows}", sent_on_the_way_up())
@@ -155,7 +158,8 @@ fn a_ninth_neighbour_is_refused() {
 fn ticks_are_calls_one_by_one() {
     let output = after_head(&["add=128.9.0.5/7", "start=128.9.0.5", "tick=128.9.0.5/120"]);
     // A Request by Start, one every 30 seconds, and Idle when t3 has run out.
-    let expected = tx(N, &our_request(1, 0)).repeat(4) + N_IDLE;
+    let listing = N_IDLE.replace("sacq=0", "sacq=120");
+    let expected = tx(N, &our_request(1, 0)).repeat(4) + &listing;
     assert_eq!(output, expected);
     let one_less = after_head(&["add=128.9.0.5/7", "start=128.9.0.5", "tick=128.9.0.5/119"]);
     assert!(one_less.contains("state=acquisition\n"));
@@ -222,7 +226,39 @@ fn b80_ticks_go_on_whatever_one_answers() {
     let output = after_head(&lines);
     assert!(output.starts_with(&(tx(N, &our_request(1, 0)).repeat(2) + "neighbours=1\n")));
     let idle = after_head(&["add=128.9.0.5/7", "start=128.9.0.5", "tick=128.9.0.5/86400"]);
-    assert_eq!(idle, tx(N, &our_request(1, 0)).repeat(4) + N_IDLE);
+    let listing = N_IDLE.replace("sidle=0\nsacq=0", "sidle=86280\nsacq=120");
+    assert_eq!(idle, tx(N, &our_request(1, 0)).repeat(4) + &listing);
+}
+
+/// 02, L7: those that are refused for the seconds end no line, and what follows is played.
+#[test]
+fn b80_ticks_go_on_behind_the_last_that_is_counted() {
+    let lines: Vec<&[u8]> = HEAD
+        .as_bytes()
+        .split_inclusive(|octet| *octet == 10)
+        .collect();
+    let (mut bench, _) = playback::begin(&lines).expect("a good head");
+    let mut output = Vec::new();
+    let mut play = |bench: &mut Bench, line: &str| {
+        playback::play_line(bench, 9, format!("{line}\n").as_bytes(), &mut output);
+    };
+    play(&mut bench, "add=128.9.0.5/7");
+    play(&mut bench, "start=128.9.0.5");
+    bench.state.neighbours[0].seconds.down = u32::MAX - 31;
+    play(&mut bench, "tick=128.9.0.5/86400");
+    let n = bench.state.neighbours[0];
+    assert_eq!((n.seconds.acquisition, n.t1), (31, 29));
+    assert_eq!(n.seconds.sum(), 4_294_967_295);
+    play(&mut bench, "stop=128.9.0.5");
+    play(&mut bench, "tick=128.9.0.5/1");
+    play(&mut bench, "remove=128.9.0.5");
+    play(&mut bench, "add=128.9.0.5/7");
+    play(&mut bench, "tick=128.9.0.5/2");
+    let n = bench.state.neighbours[0];
+    assert_eq!(n.seconds.all(), [2, 0, 0, 0, 0]);
+    // Start's Request, and the one that the 30th tick repeats: no line is bad.
+    let expected = tx(N, &our_request(1, 0)).repeat(2);
+    assert_eq!(String::from_utf8(output).expect("text"), expected);
 }
 
 #[test]
@@ -524,8 +560,45 @@ fn the_example_shows_what_it_is_for() {
     // The row of the other neighbour stays.
     let after = play(stored);
     assert!(after.contains("addr=128.9.0.5\nas=7\nstate=idle\nmode=none\nrows=0\n"));
-    assert!(after.contains(&format!("rows=2\n{shared}gw=128.9.0.6\n")));
+    assert!(after.contains(&format!("scease=0\n{shared}gw=128.9.0.6\n")));
     assert_eq!(after.matches(&shared).count(), 1);
+}
+
+/// 02, L7: the seconds are those of the recordings' ticks, the last of which before Up is Down's; they
+/// outlast the Cease-ack.
+#[test]
+fn the_examples_count_every_second() {
+    let seconds = |recording: &str| -> Vec<String> {
+        let output = play(recording);
+        let lines = output.lines().filter(|line| line.starts_with('s'));
+        let lines = lines.filter(|line| {
+            !["slot=", "state=", "side="]
+                .iter()
+                .any(|key| line.starts_with(key))
+        });
+        lines.map(str::to_string).collect()
+    };
+    let of = |idle: u32, down: u32, up: u32| {
+        vec![
+            format!("sidle={idle}"),
+            "sacq=0".to_string(),
+            format!("sdown={down}"),
+            format!("sup={up}"),
+            "scease=0".to_string(),
+        ]
+    };
+    let site = include_str!("../../examples/site.rec");
+    assert_eq!(seconds(site), [of(0, 96, 10), of(0, 96, 32)].concat());
+    let stray = include_str!("../../examples/stray.rec");
+    assert_eq!(seconds(stray), of(30, 0, 0));
+    let passive = include_str!("../../examples/passive.rec");
+    let ticks = passive
+        .lines()
+        .filter_map(|line| line.strip_prefix("tick=128.9.0.5/"));
+    let ticks: u32 = ticks
+        .map(|count| count.parse::<u32>().expect("a number"))
+        .sum();
+    assert_eq!(seconds(passive), of(0, 32, ticks - 32));
 }
 
 /// 02, L5: a Hello and a Poll of the example come ten seconds after the last. Each draws Error 4 and
@@ -558,7 +631,7 @@ fn the_passive_example_stays_up() {
     let comes_up = "tick=128.9.0.5/23\n";
     let (before, after) = stored.split_once(comes_up).expect("seconds");
     let mut played = format!("{before}{comes_up}");
-    assert!(play(&played).contains("state=up\nmode=passive\nrows=0\n"));
+    assert!(play(&played).contains("state=up\nmode=passive\nrows=0\nsidle=0\nsacq=0\nsdown=32\n"));
     for line in after.split_inclusive('\n') {
         played.push_str(line);
         let output = play(&played);

@@ -8,7 +8,7 @@ use reference::answer::Answer;
 use reference::call::{Buffer, Call};
 use reference::gateway;
 use reference::message::{self, Body, Message};
-use reference::neighbour::{Mode, Neighbour};
+use reference::neighbour::{Mode, Neighbour, Seconds};
 use reference::net::address;
 use reference::update::Row;
 
@@ -536,7 +536,7 @@ fn b45_home_rows_are_internal() {
 fn b46_an_unacceptable_request_in_acquisition_is_silent() {
     let mut gateway = gateway_with(Acquisition, Mode::None, |_| {});
     assert_eq!(gateway.message(&request(0, 9, 121, 120)), got(0, &[]));
-    assert_eq!(gateway.n(), Neighbour::idle(N, PEER_AS));
+    assert_eq!(gateway.n(), in_state(Idle, Mode::None));
 }
 
 #[test]
@@ -683,7 +683,8 @@ fn b61_t3_alone_when_t1_runs_out_too() {
         n.t3 = 1;
     });
     assert_eq!(gateway.tick(), got(0, &[]));
-    assert_eq!(gateway.n(), Neighbour::idle(N, PEER_AS));
+    let idle = in_state(Idle, Mode::None);
+    assert_eq!(gateway.n(), changed(idle, |n| n.seconds.acquisition += 1));
 }
 
 #[test]
@@ -730,7 +731,7 @@ fn b66_events_without_effect_answer_0() {
     assert_eq!(gateway.start(), got(0, &[]));
     assert_eq!(gateway.n(), before);
     assert_eq!(gateway.stop(), got(0, &[]));
-    assert_eq!(gateway.n(), Neighbour::idle(N, PEER_AS));
+    assert_eq!(gateway.n(), in_state(Idle, Mode::None));
     assert_eq!(gateway.stop(), got(0, &[]));
 }
 
@@ -791,6 +792,7 @@ fn b70_the_hello_of_entering_down_says_down() {
 fn b71_a_neighbour_added_again_is_new() {
     let mut gateway = gateway_with(Up, Mode::Active, |_| {});
     gateway.message(&peer(CEASE, 5, 9, &[]));
+    assert_eq!(gateway.n().seconds, SECONDS);
     gateway.run(Call::Remove { address: N });
     gateway.run(Call::Add {
         address: N,
@@ -916,6 +918,46 @@ fn b91_cease_ack_and_error_draw_none() {
 }
 
 #[test]
+fn b93_the_sum_is_taken_in_64_bits() {
+    // In 32 bits these would add up to 0, and to what no tick is refused for.
+    for (idle, up) in [(4_294_967_295, 1), (1 << 31, 1 << 31), (u32::MAX, u32::MAX)] {
+        let mut gateway = gateway_with(Up, Mode::Active, |_| {});
+        gateway.bench.state.neighbours[0].seconds = Seconds {
+            idle,
+            up,
+            ..Seconds::default()
+        };
+        assert_eq!(gateway.tick(), got(1, &[]));
+        assert_eq!(gateway.listing(), Err(1));
+    }
+    let full = |n: &mut Neighbour| {
+        n.seconds = Seconds {
+            idle: 4_294_967_294,
+            up: 1,
+            ..Seconds::default()
+        };
+    };
+    assert_eq!(gateway_with(Up, Mode::Active, full).tick(), got(22, &[]));
+}
+
+#[test]
+fn b94_of_all_counts_the_seconds_alone_survive_idle() {
+    let mut gateway = gateway_with(Up, Mode::Active, |_| {});
+    gateway.message(&peer(CEASE, 5, 9, &[]));
+    let n = gateway.n();
+    assert_eq!((n.state, n.since_hello, n.since_poll), (Idle, 0, 0));
+    assert_eq!(n.seconds, SECONDS);
+    let bare = Neighbour {
+        seconds: Seconds::default(),
+        ..n
+    };
+    assert_eq!(bare, Neighbour::idle(N, PEER_AS));
+    assert!(gateway.state().is_well_formed());
+    gateway.bench.state.neighbours[0].since_hello = 1;
+    assert!(!gateway.state().is_well_formed());
+}
+
+#[test]
 fn b117_capability_is_a_number() {
     assert_eq!(gateway::fresh(OWN_AS, OWN, 3, NET, 0).answer.number(), 16);
 }
@@ -930,6 +972,29 @@ fn b120_a_refused_update_is_no_indication() {
     let mut gateway = gateway_with(Down, Mode::Passive, |_| {});
     assert_eq!(gateway.message(&update(1, 4, 0, 1, &[])), got(0, &[]));
     assert_eq!((gateway.n().heard, gateway.n().t3), (1, 3600));
+}
+
+#[test]
+fn b121_a_refused_tick_is_not_counted() {
+    for state in [Idle, Acquisition, Down, Up, Cease] {
+        let mut gateway = gateway_with(state, Mode::Active, |_| {});
+        let before = gateway.n();
+        let short = Buffer {
+            length: 2047,
+            fill: FILL,
+        };
+        let tick = Call::Tick {
+            address: N,
+            reply: short,
+        };
+        assert_eq!(gateway.run(tick.clone()).answer.number(), 3);
+        let table = std::mem::take(&mut gateway.bench.table);
+        assert_eq!(gateway.run(tick).answer.number(), 2);
+        gateway.bench.table = table;
+        assert_eq!(gateway.n(), before);
+        gateway.tick();
+        assert_eq!(gateway.n().seconds.sum(), SECONDS.sum() + 1);
+    }
 }
 
 #[test]

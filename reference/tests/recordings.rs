@@ -90,6 +90,14 @@ fn recordings_are_meaningful() {
     }
     assert!(with("mode=active\n") > 30 && with("mode=passive\n") > 30);
     assert!(with("rows=128\n") > 30 && with("side=ext\n") > 30);
+    // Seconds in each state, and more of Idle than 16 bits hold.
+    for name in ["sidle", "sacq", "sdown", "sup", "scease"] {
+        let none = lines(&format!("{name}=0"));
+        assert!(lines(&format!("{name}=")) > none + 100, "{name}");
+    }
+    let idle = outputs.iter().flat_map(|output| output.lines());
+    let idle = idle.filter_map(|line| line.strip_prefix("sidle=")?.parse().ok());
+    assert!(idle.filter(|seconds: &u32| *seconds > 65_536).count() > 10);
     // Errors of reason 4, to a Hello and to a Poll.
     let too_quick = |kind: &str| {
         let lines = outputs.iter().flat_map(|output| output.lines());

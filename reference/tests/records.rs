@@ -7,6 +7,7 @@ use reference::call::{Bench, Buffer, Call};
 use reference::compare;
 use reference::generate::Generator;
 use reference::message::{Body, Message};
+use reference::neighbour::Seconds;
 use reference::record::{self, Given, ANSWER_HEAD, MEANING, READING, RECORD_HEAD, STATE_BLOCK};
 use reference::sample;
 use reference::update::Row;
@@ -100,7 +101,7 @@ fn a_state_has_its_fields_where_the_format_says() {
     gateway.message(&request(0, 0x0102, 30, 120));
     let block = record::state_block(&gateway.bench.state);
     assert_eq!(block.len(), STATE_BLOCK);
-    assert_eq!(block.len(), 244);
+    assert_eq!(block.len(), 404);
     assert_eq!(block[..12], hex("00 09 80 09 00 01 01 80 09 00 00 00"));
     let quiet = record::state_block(&gateway.clone().quiet().bench.state);
     assert_eq!((quiet[11], &quiet[12..]), (1, &block[12..]));
@@ -117,6 +118,21 @@ fn a_state_has_its_fields_where_the_format_says() {
     }
     let block = record::state_block(&gateway.bench.state);
     assert_eq!(block[39..41], [10, 120]);
+    // Ten seconds in Down, and the other neighbour behind them.
+    assert_eq!(
+        block[41..65],
+        hex("00 00 00 00 00 00 00 00 00 00 00 0A 00 00 00 00 00 00 00 00 80 09 00 06")
+    );
+    gateway.bench.state.neighbours[1].seconds = Seconds {
+        idle: 0x0102_0304,
+        acquisition: 0x0506_0708,
+        down: 0x090A_0B0C,
+        up: 0x0D0E_0F10,
+        cease: 0x1112_1314,
+    };
+    let block = record::state_block(&gateway.bench.state);
+    let counts: Vec<u8> = (1..=20).collect();
+    assert_eq!(block[12 + 49 + 29..12 + 2 * 49], counts);
 }
 
 #[test]

@@ -1,9 +1,9 @@
-//! The tick, rule by rule (01, "One neighbour"; 02, L5).
+//! The tick, rule by rule (01, "One neighbour"; 02, L5 and L7).
 
 mod common;
 
 use common::*;
-use reference::neighbour::{Mode, Neighbour, NeighbourState};
+use reference::neighbour::{Mode, Neighbour, NeighbourState, Seconds};
 
 /// Ticks N once and gives the neighbour after it and what was sent.
 fn tick(before: Neighbour) -> (Neighbour, Vec<Vec<u8>>) {
@@ -25,8 +25,16 @@ fn later(before: Neighbour) -> Neighbour {
         t2: before.t2.saturating_sub(1),
         since_hello: (before.since_hello + 1).min(120),
         since_poll: (before.since_poll + 1).min(120),
+        seconds: one_more(before.state),
         ..before
     }
+}
+
+/// The seconds of [`in_state`] and one in this state.
+fn one_more(state: NeighbourState) -> Seconds {
+    let mut seconds = SECONDS;
+    *seconds.of_mut(state) += 1;
+    seconds
 }
 
 fn with(before: Neighbour, change: impl FnOnce(&mut Neighbour)) -> Neighbour {
@@ -36,9 +44,11 @@ fn with(before: Neighbour, change: impl FnOnce(&mut Neighbour)) -> Neighbour {
 }
 
 #[test]
-fn idle_does_nothing() {
+fn idle_only_counts_the_second() {
     let idle = in_state(Idle, Mode::None);
-    assert_eq!(tick(idle), (idle, vec![]));
+    let after = with(idle, |n| n.seconds = one_more(Idle));
+    assert_eq!(after.seconds.all(), [12, 12, 13, 14, 15]);
+    assert_eq!(tick(idle), (after, vec![]));
 }
 
 #[test]
@@ -68,8 +78,10 @@ fn t3_is_stop_and_ends_the_tick() {
             }
         })
     };
-    assert_eq!(tick(expiring(Acquisition, Mode::None)), (idle, vec![]));
-    assert_eq!(tick(expiring(Cease, Mode::None)), (idle, vec![]));
+    for state in [Acquisition, Cease] {
+        let after = with(idle, |n| n.seconds = one_more(state));
+        assert_eq!(tick(expiring(state, Mode::None)), (after, vec![]));
+    }
     for state in [Down, Up] {
         for mode in [Mode::Active, Mode::Passive] {
             let ceasing = Neighbour {
@@ -81,6 +93,7 @@ fn t3_is_stop_and_ends_the_tick() {
                 cause: 5,
                 since_hello: SINCE_HELLO + 1,
                 since_poll: SINCE_POLL,
+                seconds: one_more(state),
                 ..idle
             };
             let sent = vec![ours(CEASE, 5, 4, &[])];
@@ -308,7 +321,72 @@ fn a_life_in_active_mode() {
     assert!(gateway.area(0).iter().all(|number| *number == 0));
     let answer = gateway.message(&peer(CEASE, 5, 3, &[]));
     assert_eq!(answer, got(0, &[ours(CEASE_ACK, 0, 3, &[])]));
-    assert_eq!(gateway.n(), in_state(Idle, Mode::None));
+    // 96 seconds to come up, 128 to go down; they are known in Idle too.
+    let after = with(Neighbour::idle(N, PEER_AS), |n| {
+        n.seconds.down = 96;
+        n.seconds.up = 128;
+    });
+    assert_eq!(gateway.n(), after);
+    gateway.tick();
+    assert_eq!(gateway.n().seconds.all(), [1, 0, 96, 128, 0]);
+}
+
+/// 02, L7: "a tick carried out belongs to the state before it", whatever it does.
+#[test]
+fn a_tick_belongs_to_the_state_before_it() {
+    let turned = |state, change: fn(&mut Neighbour)| {
+        let before = with(in_state(state, Mode::Active), change);
+        let (after, _) = tick(before);
+        assert_eq!(after.seconds, one_more(state));
+        after.state
+    };
+    assert_eq!(turned(Idle, |_| {}), Idle);
+    for state in [Acquisition, Down, Up, Cease] {
+        assert_eq!(turned(state, |_| {}), state);
+        assert_eq!(turned(state, |n| n.t1 = 1), state);
+    }
+    assert_eq!(turned(Up, |n| n.t2 = 1), Up);
+    assert_eq!(turned(Acquisition, |n| n.t3 = 1), Idle);
+    assert_eq!(turned(Cease, |n| n.t3 = 1), Idle);
+    assert_eq!(turned(Down, |n| n.t3 = 1), Cease);
+    assert_eq!(turned(Up, |n| n.t3 = 1), Cease);
+    let three_heard = |n: &mut Neighbour| (n.t1, n.register, n.heard) = (1, 0b0011, 1);
+    assert_eq!(turned(Down, three_heard), Up);
+    let silent = |n: &mut Neighbour| (n.t1, n.register) = (1, 0b0100);
+    assert_eq!(turned(Up, silent), Down);
+}
+
+/// "Their sum is the number of ticks carried out since the neighbour was added."
+#[test]
+fn seconds_of_a_life_in_every_state() {
+    let mut gateway = Gateway::new(1);
+    let mut ticks = 0;
+    let mut pass = |gateway: &mut Gateway, count: u64| {
+        for _ in 0..count {
+            assert_eq!(gateway.tick().answer, 0);
+        }
+        ticks += count;
+        assert_eq!(gateway.n().seconds.sum(), ticks);
+        gateway.n().seconds.all()
+    };
+    assert_eq!(pass(&mut gateway, 7), [7, 0, 0, 0, 0]);
+    gateway.start();
+    assert_eq!(pass(&mut gateway, 40), [7, 40, 0, 0, 0]);
+    gateway.message(&confirm(2, 0, 30, 120));
+    for interval in 1..=3 {
+        gateway.message(&peer(I_H_U, 2, 0, &[]));
+        assert_eq!(pass(&mut gateway, 32), [7, 40, 32 * interval, 0, 0]);
+    }
+    assert_eq!(gateway.n().state, Up);
+    assert_eq!(pass(&mut gateway, 20), [7, 40, 96, 20, 0]);
+    gateway.stop();
+    assert_eq!(pass(&mut gateway, 119), [7, 40, 96, 20, 119]);
+    assert_eq!(gateway.n().state, Cease);
+    assert_eq!(pass(&mut gateway, 1), [7, 40, 96, 20, 120]);
+    assert_eq!(gateway.n().state, Idle);
+    assert_eq!(pass(&mut gateway, 3), [10, 40, 96, 20, 120]);
+    // The other neighbour's seconds are its own.
+    assert_eq!(gateway.state().neighbours[1], Neighbour::idle(P, PEER_AS));
 }
 
 #[test]

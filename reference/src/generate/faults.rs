@@ -4,13 +4,13 @@ use super::material;
 use crate::checksum;
 use crate::gateway::State;
 use crate::message::{Body, Kind, Message, LONGEST};
-use crate::neighbour::{Mode, Neighbour, NeighbourState};
+use crate::neighbour::{Mode, Neighbour, NeighbourState, Seconds};
 use crate::net::{self, Class};
 use crate::random::Random;
 use crate::update::{Row, EXTERNAL, MOST_ROWS};
 
 /// The rules of well-formedness, one to break each.
-pub const STATE_FAULTS: [&str; 55] = [
+pub const STATE_FAULTS: [&str; 67] = [
     "own AS 0",
     "capability above 2",
     "common net not left justified",
@@ -65,8 +65,29 @@ pub const STATE_FAULTS: [&str; 55] = [
     "no cause in Cease",
     "ticks since Hello above 120",
     "ticks since Poll above 120",
+    "a second too many in Idle",
+    "a second too many in Acquisition",
+    "a second too many in Down",
+    "a second too many in Up",
+    "a second too many in Cease",
+    "seconds that add up to 0 in 32 bits",
+    "every count of seconds as large as can be",
+    "free slot with seconds in Idle",
+    "free slot with seconds in Acquisition",
+    "free slot with seconds in Down",
+    "free slot with seconds in Up",
+    "free slot with seconds in Cease",
     "cause outside Cease",
 ];
+
+/// The state that such a fault is about.
+fn state_named(fault: &str) -> NeighbourState {
+    let is_named = |state: &NeighbourState| fault.ends_with(&format!(" in {state:?}"));
+    NeighbourState::ALL
+        .into_iter()
+        .find(is_named)
+        .unwrap_or_default()
+}
 
 pub type Change = fn(&mut Neighbour);
 
@@ -105,6 +126,7 @@ pub fn break_state(random: &mut Random, state: &mut State) -> &'static str {
         "row count above 128" | "t2 0 in Up" | "t2 above 482" => Up,
         "row count outside Up" | "t2 outside Up" => random.pick(&outside_up),
         _ if fault.starts_with("Idle with") => Idle,
+        _ if fault.starts_with("a second too many") => state_named(fault),
         "t1 above 122"
         | "t3 above 3,600"
         | "t1 0 outside Idle"
@@ -222,6 +244,29 @@ pub fn break_state(random: &mut Random, state: &mut State) -> &'static str {
         "no cause in Cease" => n.cause = 0,
         "ticks since Hello above 120" => n.since_hello = nearest(random, 121, &[128, 255]),
         "ticks since Poll above 120" => n.since_poll = nearest(random, 121, &[128, 255]),
+        "seconds that add up to 0 in 32 bits" => {
+            // As large as can be and 1, or two halves, in any two counts.
+            let one = random.below(5);
+            let other = (one + 1 + random.below(4)) % 5;
+            let count = random.pick(&[u32::MAX, u32::MAX, 1 << 31]);
+            n.seconds = Seconds::default();
+            *n.seconds.of_mut(NeighbourState::ALL[one]) = count;
+            *n.seconds.of_mut(NeighbourState::ALL[other]) = count.wrapping_neg();
+        }
+        "every count of seconds as large as can be" => {
+            for state in NeighbourState::ALL {
+                *n.seconds.of_mut(state) = u32::MAX;
+            }
+        }
+        _ if fault.starts_with("a second too many") => {
+            let sum = Seconds::MOST + 1;
+            n.seconds = material::seconds_of_sum(random, sum);
+        }
+        _ if fault.starts_with("free slot with seconds") => {
+            *n = Neighbour::default();
+            let count = random.pick(&[1, 1 << 8, 1 << 16, 1 << 24, u32::MAX]);
+            *n.seconds.of_mut(state_named(fault)) = count;
+        }
         _ => n.cause = random.pick(&[1, 5, 6]),
     }
     fault

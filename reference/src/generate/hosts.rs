@@ -11,6 +11,7 @@ use crate::checksum;
 use crate::gateway::{State, SLOTS};
 use crate::host::{self, row_octets, takes, HostCall, Lent, Part, ROW, TABLE};
 use crate::message::Kind;
+use crate::neighbour::Seconds;
 use crate::net;
 use crate::random::Random;
 use crate::record::{self, MEANING, READING, STATE_BLOCK};
@@ -18,18 +19,20 @@ use crate::update::MOST_ROWS;
 
 /// What a length has besides where 16 bits of it are good.
 pub const BEYOND_16_BITS: usize = 65_536;
-/// Octets of a block before it had counts of ticks (02, L5), and with what L7 adds. One octet less
-/// is a block before it had `quiet` (L6).
-pub const EARLIER_BLOCK: usize = 227;
-pub const LATER_BLOCK: usize = 404;
+/// The same where 8 bits of it are.
+pub const BEYOND_8_BITS: usize = 256;
+/// Octets of a block before it had `quiet` (02, L6), and before it had seconds (L7).
+pub const EARLIER_BLOCKS: [usize; 2] = [243, 244];
 /// Lengths of a block that has not its own.
-pub const BLOCK_LENGTHS: [usize; 8] = [
+pub const BLOCK_LENGTHS: [usize; 10] = [
     0,
     1,
-    EARLIER_BLOCK,
+    STATE_BLOCK - BEYOND_8_BITS,
+    EARLIER_BLOCKS[0],
+    EARLIER_BLOCKS[1],
     STATE_BLOCK - 1,
     STATE_BLOCK + 1,
-    LATER_BLOCK,
+    STATE_BLOCK + BEYOND_8_BITS,
     2 * STATE_BLOCK,
     BEYOND_16_BITS + STATE_BLOCK,
 ];
@@ -60,14 +63,15 @@ pub const ROW_LENGTHS: [usize; 10] = [
 pub const MEANING_LENGTHS: [usize; 6] = [0, 1, 23, 25, 48, BEYOND_16_BITS + MEANING];
 
 /// Octets of the settings and of a slot in a block, where among the settings `quiet` stands, and
-/// where in a slot its state and mode, and its counts of ticks.
+/// where in a slot its state and mode, its counts of ticks and its five counts of seconds.
 pub const SETTINGS: usize = 12;
 pub const QUIET_OCTET: usize = 11;
-pub const SLOT: usize = 29;
+pub const SLOT: usize = 49;
 pub const STATE_OCTET: usize = 22;
 pub const MODE_OCTET: usize = 23;
 pub const SINCE_HELLO_OCTET: usize = 27;
 pub const SINCE_POLL_OCTET: usize = 28;
+pub const SECONDS_OCTETS: std::ops::Range<usize> = 29..49;
 
 /// One call of a host, what the reference returns for it, and what that leaves.
 pub struct Case {
@@ -112,6 +116,8 @@ enum Fault {
     BlockLength,
     /// A number that no state, mode, count of ticks or `quiet` has.
     BlockCode,
+    /// Seconds of a free slot, or about as many as can be.
+    BlockSeconds,
     /// One rule of well-formedness.
     BlockClause,
     BlockOctet,
@@ -141,6 +147,7 @@ fn faults_of(kind: CallKind) -> &'static [(u32, Fault)] {
         CallKind::Add | CallKind::Remove => &[
             (4, BlockLength),
             (3, BlockCode),
+            (2, BlockSeconds),
             (5, BlockClause),
             (3, BlockOctet),
             (2, BlockGarbage),
@@ -149,6 +156,7 @@ fn faults_of(kind: CallKind) -> &'static [(u32, Fault)] {
         CallKind::Start | CallKind::Stop | CallKind::Tick => &[
             (4, BlockLength),
             (3, BlockCode),
+            (2, BlockSeconds),
             (4, BlockClause),
             (3, BlockOctet),
             (2, BlockGarbage),
@@ -160,6 +168,7 @@ fn faults_of(kind: CallKind) -> &'static [(u32, Fault)] {
         CallKind::Message => &[
             (3, BlockLength),
             (3, BlockCode),
+            (2, BlockSeconds),
             (4, BlockClause),
             (3, BlockOctet),
             (2, BlockGarbage),
@@ -175,6 +184,7 @@ fn faults_of(kind: CallKind) -> &'static [(u32, Fault)] {
         CallKind::Listing => &[
             (5, BlockLength),
             (3, BlockCode),
+            (2, BlockSeconds),
             (3, BlockClause),
             (3, BlockOctet),
             (2, BlockGarbage),
@@ -467,6 +477,7 @@ impl Hosts {
                 "block length"
             }
             Fault::BlockCode => self.block_code(call, state),
+            Fault::BlockSeconds => self.block_seconds(call, state),
             Fault::BlockClause => {
                 let mut broken = *state;
                 let clause = faults::break_state(&mut self.random, &mut broken);
@@ -579,6 +590,31 @@ impl Hosts {
             *octet = code;
         }
         aim
+    }
+
+    /// An octet of a free slot's seconds, or a neighbour's seconds near their sum, one too many among
+    /// them.
+    fn block_seconds(&mut self, call: &mut HostCall, state: &State) -> &'static str {
+        let is_free = self.random.thousandths(500);
+        let slot = self.slot(|slot| state.neighbours[slot].is_used() != is_free);
+        let neighbour = state.neighbours[slot];
+        let from = SETTINGS + SLOT * slot + SECONDS_OCTETS.start;
+        let Some(octets) = call.lent.block.get_mut(from..from + SECONDS_OCTETS.len()) else {
+            return "block length";
+        };
+        if !neighbour.is_used() {
+            let any = self.random.octet().max(1);
+            octets[self.random.below(octets.len())] = self.random.pick(&[1, 128, 255, any]);
+            return "seconds of a free slot";
+        }
+        let seconds = match self.random.below(3) {
+            0 => material::seconds_of_sum(&mut self.random, Seconds::MOST + 1),
+            _ => material::seconds_near_the_sum(&mut self.random, neighbour.state),
+        };
+        for (place, count) in octets.chunks_exact_mut(4).zip(seconds.all()) {
+            place.copy_from_slice(&count.to_be_bytes());
+        }
+        "seconds near their sum"
     }
 
     /// Octets that are no state: all of them, the slots', or those of one slot.

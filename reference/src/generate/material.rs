@@ -5,7 +5,7 @@ use crate::checksum;
 use crate::gateway::{State, SLOTS, SLOT_NUMBERS, TABLE_NUMBERS};
 use crate::message::{Body, Intervals, Kind, Message, LONGEST, VERSION};
 use crate::neighbour::{
-    Mode, Neighbour, NeighbourState, HELLO_TICKS, MOST_TICKS, PASSIVE_ONLY, POLL_TICKS,
+    Mode, Neighbour, NeighbourState, Seconds, HELLO_TICKS, MOST_TICKS, PASSIVE_ONLY, POLL_TICKS,
 };
 use crate::net::{self, Class};
 use crate::random::Random;
@@ -415,6 +415,166 @@ fn ticks_since(random: &mut Random, apart: u8) -> u8 {
     }) as u8
 }
 
+/// Counts of seconds at which a decimal gets a digit more, the least and the most among them.
+pub const DIGIT_EDGES: [u32; 20] = [
+    0,
+    9,
+    10,
+    99,
+    100,
+    999,
+    1_000,
+    9_999,
+    10_000,
+    99_999,
+    100_000,
+    999_999,
+    1_000_000,
+    9_999_999,
+    10_000_000,
+    99_999_999,
+    100_000_000,
+    999_999_999,
+    1_000_000_000,
+    u32::MAX,
+];
+
+/// Counts of seconds at which one tick more changes two octets, three or all four.
+pub const CARRIES: [u32; 3] = [0xFF, 0xFFFF, 0xFF_FFFF];
+
+/// Whether no count is 0 and no two are equal, so that any change shows, and any exchange.
+pub fn are_apart(seconds: Seconds) -> bool {
+    let mut counts = seconds.all();
+    counts.sort_unstable();
+    counts[0] > 0 && counts.windows(2).all(|pair| pair[0] < pair[1])
+}
+
+/// Seconds of a neighbour in this state: apart, with room for more, more often than not; none, just
+/// one count, or as many as can be now and then.
+pub fn seconds(random: &mut Random, state: NeighbourState) -> Seconds {
+    match random.below(20) {
+        0..=1 => Seconds::default(),
+        2..=3 => {
+            let mut seconds = Seconds::default();
+            let alone = random.pick(&NeighbourState::ALL);
+            *seconds.of_mut(alone) = a_count(random);
+            seconds
+        }
+        4..=5 => seconds_near_the_sum(random, state),
+        _ => seconds_apart(random, state),
+    }
+}
+
+/// Seconds that are apart, with room for more than a list of calls has ticks; the count of this
+/// state is often one at which octets carry.
+pub fn seconds_apart(random: &mut Random, state: NeighbourState) -> Seconds {
+    const ROOM: u64 = 1_000_000;
+    loop {
+        let mut seconds = Seconds::default();
+        for each in NeighbourState::ALL {
+            *seconds.of_mut(each) = a_count(random);
+        }
+        if random.thousandths(400) {
+            *seconds.of_mut(state) = random.pick(&CARRIES);
+        }
+        if are_apart(seconds) && seconds.sum() <= Seconds::MOST - ROOM {
+            return seconds;
+        }
+    }
+}
+
+fn a_count(random: &mut Random) -> u32 {
+    match random.below(8) {
+        0..=1 => random.pick(&DIGIT_EDGES[1..19]),
+        2..=3 => random.between(1, 300) as u32,
+        4..=5 => random.number32() >> 12,
+        _ => random.between(1, 800_000_000) as u32,
+    }
+}
+
+/// Seconds that add up to the limit, or to one or two less; often all of them in one count, this
+/// state's most often.
+pub fn seconds_near_the_sum(random: &mut Random, state: NeighbourState) -> Seconds {
+    let sum = Seconds::MOST - random.weighted(&[(5, 0), (3, 1), (1, 2)]);
+    let any = random.pick(&NeighbourState::ALL);
+    match random.below(20) {
+        0..=5 => all_in(state, sum),
+        6..=8 => all_in(any, sum),
+        _ => seconds_of_sum(random, sum),
+    }
+}
+
+/// All seconds in the count of this state.
+pub fn all_in(state: NeighbourState, sum: u64) -> Seconds {
+    let mut seconds = Seconds::default();
+    *seconds.of_mut(state) = sum as u32;
+    seconds
+}
+
+/// Five counts that are not 0 and add up to this, which is more than five and at most one more than
+/// well formed allows.
+pub fn seconds_of_sum(random: &mut Random, sum: u64) -> Seconds {
+    let mut seconds = Seconds::default();
+    let mut left = sum;
+    let mut order = NeighbourState::ALL;
+    order.rotate_left(random.below(5));
+    for (index, state) in order.into_iter().enumerate() {
+        let others = 4 - index as u64;
+        let count = match others {
+            0 => left,
+            _ => random.between(1, (left - others).min(left / 2 + 1)),
+        };
+        *seconds.of_mut(state) = count as u32;
+        left -= count;
+    }
+    seconds
+}
+
+/// Five counts of as many digits as may be in all: ten, but for one of nine.
+fn longest_seconds(random: &mut Random) -> Seconds {
+    const LEAST: u64 = 1_000_000_000;
+    let short = random.pick(&NeighbourState::ALL);
+    let mut left = Seconds::MOST - 4 * LEAST - LEAST / 10;
+    let mut seconds = Seconds::default();
+    for state in NeighbourState::ALL {
+        let more = random.between(0, left);
+        left -= more;
+        let least = if state == short { LEAST / 10 } else { LEAST };
+        *seconds.of_mut(state) = (least + more) as u32;
+    }
+    seconds
+}
+
+/// A state and a table whose listing is as long as can be: eight neighbours of 128 rows, every number
+/// of as many digits as it may have.
+pub fn longest(random: &mut Random) -> (State, Vec<u32>) {
+    let quad = |random: &mut Random| {
+        let octet = |random: &mut Random| random.between(100, 255) as u8;
+        net::address(octet(random), octet(random), octet(random), octet(random))
+    };
+    let mut state = self::state(random);
+    for slot in 0..SLOTS {
+        let (mut address, mut as_number) = (0, 0);
+        while !state.may_be_neighbour(address, as_number) || state.find(address).is_some() {
+            address = quad(random);
+            as_number = random.between(10_000, 65_535) as u16;
+        }
+        state.neighbours[slot] = Neighbour {
+            mode: Mode::Passive,
+            row_count: MOST_ROWS as u16,
+            seconds: longest_seconds(random),
+            ..neighbour(random, address, as_number, NeighbourState::Up)
+        };
+    }
+    let mut table = Vec::with_capacity(TABLE_NUMBERS);
+    for _ in 0..TABLE_NUMBERS / 3 {
+        let distance = random.between(100, 255) as u32;
+        table.extend([quad(random), quad(random)]);
+        table.push(distance + random.pick(&[0, EXTERNAL]));
+    }
+    (state, table)
+}
+
 /// A well-formed neighbour in this state, reachable or not.
 pub fn neighbour(
     random: &mut Random,
@@ -424,6 +584,7 @@ pub fn neighbour(
 ) -> Neighbour {
     let mut neighbour = Neighbour::idle(address, as_number);
     neighbour.state = state;
+    neighbour.seconds = seconds(random, state);
     if state == NeighbourState::Idle {
         return neighbour;
     }

@@ -32,6 +32,9 @@ use faults::Sender;
 const SELDOM: u64 = 150;
 const OFTEN: u64 = 400;
 
+/// What an add is made for right after the same neighbour was removed.
+pub(crate) const ADDED_AGAIN: &str = "added again";
+
 /// The type of a Poll.
 const POLL_TYPE: u8 = 2;
 
@@ -115,6 +118,8 @@ enum Handed {
     /// A well-formed state in which about as many ticks have gone by as Hellos and Polls must be
     /// apart.
     NearTheRates,
+    /// A well-formed state in which about as many seconds are counted as can be.
+    NearTheSum,
     /// A state that breaks one rule.
     BrokenState,
     /// A table of a wrong length.
@@ -202,23 +207,25 @@ impl Generator {
             return self.fill();
         }
         match self.random.below(1000) {
-            0..=59 => self.read_alone(),
+            0..=59 | 509..=512 => self.read_alone(),
             60..=99 => self.write_alone(),
             100..=174 => self.hand_well_formed(),
-            175..=209 => self.hand_broken(),
+            175..=209 | 476..=482 => self.hand_broken(),
             210..=226 => self.hand_table(),
             227..=235 => self.refused_fresh(),
             236..=278 => self.wrong_argument(),
-            279..=378 => {
+            279..=378 | 513..=519 => {
                 let slot = self.used_slot();
                 self.faulty_message(slot)
             }
-            379..=393 => self.membership(),
+            379..=393 | 520..=521 => self.membership(),
             394..=398 => self.list(SELDOM),
             399..=400 => self.near_the_turn(),
             401..=412 => self.hand_unheard(),
             413..=457 => self.hand_near_the_rates(),
             458..=475 => self.hand_idle(),
+            483..=507 => self.hand_near_the_sum(),
+            508 => self.hand_longest(),
             _ => self.live(),
         }
     }
@@ -363,14 +370,15 @@ impl Generator {
         }
     }
 
-    /// As many Polls as bring S to the turn would make a long list; S is moved there instead and
-    /// the list goes on.
+    /// As many Polls as bring S to the turn would make a long list, and as many ticks as fill a
+    /// count's octets a longer one; S and the seconds are moved instead, and the list goes on.
     fn near_the_turn(&mut self) -> (Call, &'static str) {
         let mut state = self.bench.state;
-        for neighbour in &mut state.neighbours {
+        for neighbour in state.neighbours.iter_mut().filter(|n| n.is_used()) {
             if neighbour.state == NeighbourState::Up {
                 neighbour.send_sequence = self.random.pick(&[65_534, 65_535, 65_535]);
             }
+            neighbour.seconds = material::seconds_apart(&mut self.random, neighbour.state);
         }
         (Call::HandState(Box::new(state)), "S near the turn")
     }
@@ -386,7 +394,7 @@ impl Generator {
                 (3, Act::RequestUnacceptable),
                 (2, Act::Cease),
                 (2, Act::Stop),
-                (2, Act::Tick),
+                (12, Act::Tick),
                 (2, Act::Hello),
                 (2, Act::Update),
                 (1, Act::Poll),
@@ -848,6 +856,36 @@ impl Generator {
         )
     }
 
+    /// A state where every neighbour has as many seconds as can be counted, or lacks one or two, and
+    /// about a call for each; now and then with a table of a wrong length besides.
+    fn hand_near_the_sum(&mut self) -> (Call, &'static str) {
+        self.put_aside(Handed::NearTheSum);
+        let phases = NeighbourState::ALL.map(|state| (1, state));
+        let state = self.state_in(&phases, |random, neighbour| {
+            neighbour.seconds = material::seconds_near_the_sum(random, neighbour.state);
+        });
+        if self.random.thousandths(80) {
+            let table = self.table_of_wrong_length();
+            self.queue
+                .push_back((Call::HandTable(table), "table handed in"));
+        }
+        (
+            Call::HandState(Box::new(state)),
+            "state handed in, near the sum",
+        )
+    }
+
+    /// The longest listing there is.
+    fn hand_longest(&mut self) -> (Call, &'static str) {
+        self.put_aside(Handed::State);
+        let (state, table) = material::longest(&mut self.random);
+        self.queue
+            .push_back((Call::HandTable(table), "table handed in"));
+        let step = self.list(0);
+        self.queue.push_back(step);
+        (Call::HandState(Box::new(state)), "state handed in, longest")
+    }
+
     /// A well-formed state with every neighbour in one of these states and then changed; as many
     /// calls are to be made on it as it has neighbours.
     fn state_in(
@@ -928,6 +966,7 @@ impl Generator {
             Handed::Unheard => self.update_to_unheard(),
             Handed::Idle => self.stray(self.focus),
             Handed::NearTheRates => self.call_near_the_rates(self.focus),
+            Handed::NearTheSum => self.call_near_the_sum(self.focus),
             Handed::BrokenState => self.call_on_broken(self.focus),
             Handed::Table => self.call_on_table(self.focus),
         };
@@ -983,6 +1022,37 @@ impl Generator {
         ]);
         let (call, _) = self.act(slot, act);
         (call, "Hello or Poll near its rate")
+    }
+
+    /// A tick more often than not, now and then with too short a buffer or for nobody; what is not
+    /// refused for the seconds; a neighbour that is removed and added again.
+    fn call_near_the_sum(&mut self, slot: usize) -> (Call, &'static str) {
+        const AIM: &str = "seconds near the sum";
+        let neighbour = self.bench.state.neighbours[slot];
+        let any = self.random.pick(&ACTS[3..]);
+        match self.random.below(100) {
+            0..=39 => (self.event(slot, Act::Tick), AIM),
+            40..=49 => {
+                let mut call = self.event(slot, Act::Tick);
+                self.shorten(&mut call);
+                (call, AIM)
+            }
+            50..=54 => {
+                let (address, reply) = (self.unknown_address(), self.reply_buffer());
+                (Call::Tick { address, reply }, AIM)
+            }
+            55..=64 => (self.event(slot, Act::Start), AIM),
+            65..=74 => (self.event(slot, Act::Stop), AIM),
+            75..=89 => self.act(slot, any),
+            90..=93 => self.list(SELDOM),
+            _ if neighbour.is_used() && neighbour.state == NeighbourState::Idle => {
+                let (address, as_number) = (neighbour.address, neighbour.as_number);
+                self.queue
+                    .push_back((Call::Add { address, as_number }, ADDED_AGAIN));
+                (Call::Remove { address }, AIM)
+            }
+            _ => (self.event(slot, Act::Tick), AIM),
+        }
     }
 
     /// Each call that makes check 1 about as often.

@@ -7,7 +7,9 @@ use crate::checksum;
 use crate::gateway::{self, SLOTS, SLOT_NUMBERS, TABLE_NUMBERS};
 use crate::listing::LISTING_BUFFER;
 use crate::message::{self, Body, Message, LONGEST, REPLY_BUFFER};
-use crate::neighbour::{Mode, Neighbour, NeighbourState, HELLO_TICKS, MOST_TICKS, STATUS_UP};
+use crate::neighbour::{
+    Mode, Neighbour, NeighbourState, Seconds, HELLO_TICKS, MOST_TICKS, STATUS_UP,
+};
 use crate::net::address;
 use crate::record;
 use crate::update::{Row, MOST_ROWS};
@@ -119,6 +121,14 @@ fn neighbour(slot: usize, rows: usize) -> Neighbour {
         row_count: rows as u16,
         since_hello: MOST_TICKS,
         since_poll: MOST_TICKS,
+        // A year, most of it in Up.
+        seconds: Seconds {
+            idle: 900,
+            acquisition: 30,
+            down: 96,
+            up: 31_534_884,
+            cease: 90,
+        },
     }
 }
 
@@ -370,7 +380,7 @@ pub fn all() -> Vec<Case> {
         "stray Hello in Idle, answered with Cease",
         SLOTS,
         MOST_ROWS,
-        |neighbour| *neighbour = Neighbour::idle(neighbour.address, neighbour.as_number),
+        |neighbour| *neighbour = neighbour.in_idle(),
         hello,
     ));
     cases.push(Case::the_loop());

@@ -7,7 +7,7 @@ use reference::answer::Answer;
 use reference::call::{Bench, Buffer, Call, Record};
 use reference::checksum;
 use reference::gateway::{self, State, TABLE_NUMBERS};
-use reference::neighbour::{Mode, Neighbour, NeighbourState};
+use reference::neighbour::{Mode, Neighbour, NeighbourState, Seconds};
 use reference::net::address;
 use reference::update::Row;
 
@@ -139,9 +139,21 @@ pub fn our_error(status: u8, sequence: u16, reason: u16, about: &[u8]) -> Vec<u8
 pub const SINCE_HELLO: u8 = 40;
 pub const SINCE_POLL: u8 = 120;
 
+/// Seconds of [`in_state`], which no event but a tick changes.
+pub const SECONDS: Seconds = Seconds {
+    idle: 11,
+    acquisition: 12,
+    down: 13,
+    up: 14,
+    cease: 15,
+};
+
 /// A neighbour in this state as an ordinary list would leave it: S 4, R 5.
 pub fn in_state(state: NeighbourState, mode: Mode) -> Neighbour {
-    let idle = Neighbour::idle(N, PEER_AS);
+    let idle = Neighbour {
+        seconds: SECONDS,
+        ..Neighbour::idle(N, PEER_AS)
+    };
     let running = Neighbour {
         state,
         send_sequence: 4,

@@ -1,10 +1,7 @@
 -- Laws of the slot's clock: what booking leaves as it was, and when there is time. Assumes nothing.
-use Prim.Native.Nat.{ℕ}
 use mathlib.Core.Path.{_≡_, refl}
 use mathlib.Core.Bool.{true}
 use borrow.Author.Tests.{not-true}
-use Rattle.neighbour.specs.declared.Neighbour.{Neighbour}
-use Rattle.neighbour_seconds.specs.declared.Seconds.{Seconds}
 use Rattle.neighbour_seconds.specs.Seconds.{secondsFormed}
 use Rattle.neighbour_seconds.proofs.Laws.{seconds-laws}
 use Rattle.neighbour_machine.specs.declared.Event.{Event}

@@ -8,7 +8,7 @@ use Rattle.text.specs.Text.{text}
 use Rattle.neighbour_machine.specs.Intrinsics.{Start, Stop, Tick}
 use Rattle.model.specs.Model.{add, remove, happen, receive, listing}
 use Rattle.gateway_check_sheet.specs.Given.{hex, ip}
-use Rattle.host_sheet.specs.Given.{own, free, block, sound, exchanged, slot0, slot1, slot2, slot3, slot4, slot7, changed, shorter, eights, sevens, table, room, page, inSlot0, inSlot1, inSlot2, inSlot3, inSlot4, inSlot6, inSlot7, nobody, tableOfU}
+use Rattle.host_sheet.specs.Given.{own, free, block, sound, exchanged, slot0, slot1, slot2, slot4, slot7, changed, shorter, eights, sevens, table, room, page, inSlot0, inSlot1, inSlot2, inSlot3, inSlot4, inSlot6, inSlot7, nobody, tableOfU}
 use Rattle.host_sheet.specs.Line.{Line, alone, refused, lent, whole, keeps}
 
 -- the sound block once slot 4's neighbour, in Cease, has had a tick: its sum is now the largest too

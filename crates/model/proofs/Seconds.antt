@@ -1,7 +1,7 @@
 -- Every tick is counted once; 22. Assumes nothing.
 use Prim.Native.Nat.{ℕ, _+_, _<_}
 use native.Mathlib.Omega.{arith}
-use mathlib.Core.Path.{_≡_, refl, sym, _∙_, ap, subst}
+use mathlib.Core.Path.{_≡_, refl, sym, _∙_, ap}
 use mathlib.Core.Bool.{Bool, true, false, cond, not, true≢false, false≢true}
 use mathlib.Core.List.{List, [], _∷_, _++_, append-assoc}
 use lib.Dec.{leb}
@@ -28,7 +28,7 @@ use Rattle.gateway_rules.specs.Seconds.{hasTime}
 use Rattle.gateway_rules.specs.Ruling.{stepped}
 use Rattle.gateway_rules.specs.Carried.{outcomeAfter}
 use Rattle.gateway_rules.specs.Calls.{tableFits, bufferFits, lentChecks, eventChecks, eventRuling, eventOutcome, eventTable}
-use Rattle.model.specs.Model.{Call, add, happen, Slot, free, used, Model, slotIn, step, model, modelFrom}
+use Rattle.model.specs.Model.{Call, add, Slot, free, used, Model, slotIn, step, model, modelFrom}
 use Rattle.model.specs.Ticks.{ticks, phaseOf, finds, changesHands, keepsHands, tally, tallySince}
 use Rattle.model.specs.Theorem.{Gateway, outcomeOf, tableLeft, gatewayStep, run, cell, Sensible}
 use Rattle.model.specs.Corollaries.{Taken, slotOn, Used}

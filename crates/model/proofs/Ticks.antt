@@ -1,7 +1,7 @@
 -- The model's seconds are those that the history tells. Assumes nothing.
 use Prim.Native.Nat.{ℕ, zero, suc, _+_, _<_}
 use native.Mathlib.Omega.{arith}
-use mathlib.Core.Path.{_≡_, refl, sym, _∙_, ap, subst}
+use mathlib.Core.Path.{_≡_, refl, sym, _∙_, ap}
 use mathlib.Core.Bool.{Bool, true, false, cond, not, _&&_}
 use mathlib.Core.List.{List, [], _∷_, _++_}
 use lib.Dec.{eqb}
@@ -17,7 +17,7 @@ use Rattle.neighbour_seconds.specs.Seconds.{secondsIn, noSeconds, secondsSum, c
 use Rattle.neighbour_seconds.specs.Claims.{isPhase}
 use Rattle.neighbour_seconds.proofs.Laws.{seconds-laws}
 use Rattle.neighbour_machine.specs.Intrinsics.{Intrinsic, Start, Stop, Tick}
-use Rattle.model.specs.Model.{Call, add, remove, happen, receive, listing, Slot, free, used, Model, slotIn, foundAt, vacancy, hasAddress, silent, answerToAdd, answerToRemove, addTurn, removeTurn, noMove, moved, secondsAfter, eventMove, answerTo, afterMessage, rowsAfter, messageMove, eventAnswer, messageAnswer, turnAt, eventTurn, messageTurn, listingTurn, step, model, modelFrom, empty, Peer, newPeer, refusedMove}
+use Rattle.model.specs.Model.{Call, add, remove, happen, receive, listing, Slot, free, used, Model, slotIn, foundAt, vacancy, hasAddress, silent, answerToAdd, answerToRemove, addTurn, removeTurn, noMove, moved, secondsAfter, eventMove, answerTo, afterMessage, rowsAfter, messageMove, eventAnswer, messageAnswer, turnAt, eventTurn, messageTurn, listingTurn, step, model, modelFrom, empty, newPeer, refusedMove}
 use Rattle.model.specs.Ticks.{ticks, phaseOf, finds, changesHands, keepsHands, tally, tallySince, ticksSince, ticksFinding}
 use Rattle.model.proofs.Represent.{Good, used-at}
 use Rattle.model.proofs.Simulation.{good-step, found-used}

@@ -7,7 +7,6 @@ use mathlib.Core.List.{List, [], _∷_, _++_}
 use mathlib.Core.Option.{none, some}
 use lib.Dec.{eqb}
 use lib.ListN.{length}
-use lib.Seq.{getD-set-same, getD-set-other}
 use borrow.Author.Tests.{eq-eqb, eqb-true, eqb-false, not-true, le-ltb}
 use Rattle.checks.specs.Checks.{check, ifOk}
 use Rattle.checks.proofs.Laws.{and-left, and-right}
@@ -27,12 +26,12 @@ use Rattle.neighbour_machine.specs.declared.Event.the-variants.{Received}
 use Rattle.neighbour_machine.specs.Intrinsics.{Intrinsic, asEvent}
 use Rattle.neighbour_machine.specs.Step.{stepOf}
 use Rattle.gateway_state.specs.Slots.{freeSlot}
-use Rattle.model.specs.Model.{Call, add, remove, happen, receive, listing, Slot, free, used, Model, slotIn, put, isFree, hasAddress, foundAt, isPresent, vacancy, spoken, Turn, isIdleSlot, answerToAdd, answerToRemove, addTurn, removeTurn, Move, noMove, moved, noOctets, secondsAfter, eventMove, kindAnswer, answerTo, firstTwelve, afterMessage, rowsAfter, messageMove, eventAnswer, messageAnswer, turnAt, eventTurn, messageTurn, listingTurn, step, modelFrom, Peer, newPeer, peerWith}
+use Rattle.model.specs.Model.{Call, add, remove, happen, receive, listing, Slot, free, used, Model, slotIn, isFree, hasAddress, foundAt, isPresent, vacancy, Turn, isIdleSlot, answerToAdd, answerToRemove, addTurn, removeTurn, moved, noOctets, secondsAfter, eventMove, kindAnswer, answerTo, firstTwelve, afterMessage, rowsAfter, messageMove, eventAnswer, messageAnswer, turnAt, eventTurn, messageTurn, listingTurn, step, modelFrom, Peer, newPeer, peerWith}
 use Rattle.model.specs.History.{isUpSlot, accepts, rowsSaid}
 use Rattle.model.specs.Theorem.{cell, rowsHeld}
 use Rattle.model.specs.Windows.{isIndication, isEvaluation, isRestart, recordIn, saidEvent, doneFor, eventFor, holdsOf, brings, restartsNone, windows, anyOf, firstFour, oneInFour, latest}
 use Rattle.model.proofs.Represent.{Good, good-at, used-at}
-use Rattle.model.proofs.Simulation.{good-step, spoken-answer, found-used, found-free, add-free}
+use Rattle.model.proofs.Simulation.{good-step, found-used, found-free, add-free}
 use Rattle.model.proofs.History.{message-stays, step-told}
 use Rattle.model.proofs.Puts.{turn-zero, event-zero, put-elim}
 use Rattle.model.proofs.Reach.{fine-in, Waits, idle-waits, step-waits, Held, step-enters, silentAfter, heardAfter, event-held}

@@ -1,8 +1,8 @@
--- What the steward asks of the seconds: every tick that is carried out is counted once, under the state that it found. The proofs are in
--- proofs/Seconds.antt.
+-- What the steward asks of the seconds: every tick that is carried out is counted once, under the state that it found.
+-- The proofs are in proofs/Seconds.antt.
 use Prim.Native.Nat.{ℕ, _+_, _<_}
 use mathlib.Core.Path.{_≡_}
-use mathlib.Core.Bool.{Bool, true, false, cond}
+use mathlib.Core.Bool.{true, false}
 use mathlib.Core.List.{List, [], _∷_, _++_}
 use lib.Dec.{leb}
 use lib.ListN.{length}
@@ -10,7 +10,6 @@ use Rattle.neighbour.specs.declared.Phase.{Phase}
 use Rattle.neighbour.specs.declared.Phase.the-variants.{Idle, Acquisition, Down, Up, Cease}
 use Rattle.neighbour.specs.declared.Settings.{Settings}
 use Rattle.neighbour_seconds.specs.Seconds.{secondsIn, noSeconds, clockFull, counted}
-use Rattle.gateway_state.specs.declared.Slot.{Slot}
 use Rattle.gateway_state.specs.Outcomes.{refusedOf}
 use Rattle.model.specs.Model.{Call, add, tick, start, stop, model}
 use Rattle.model.specs.Ticks.{ticks, finds, changesHands, keepsHands, tally}

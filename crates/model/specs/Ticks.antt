@@ -1,5 +1,5 @@
--- How many seconds each neighbour spent in each state, told from the history alone: which ticks were carried out, and in which state each found it
--- after the calls before it. It reads no seconds of the model.
+-- How many seconds each neighbour spent in each state, told from the history alone: which ticks were carried out, and in
+-- which state each found it after the calls before it. It reads no seconds of the model.
 use Prim.Native.Nat.{ℕ, _+_}
 use mathlib.Core.Bool.{Bool, true, false, cond, not, _&&_}
 use mathlib.Core.List.{List, [], _∷_, _++_}

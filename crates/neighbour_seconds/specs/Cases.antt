@@ -1,6 +1,6 @@
 -- Worked cases, in literals. The proofs are in proofs/Cases.antt.
 use Prim.Native.Nat.{ℕ}
-use mathlib.Core.Bool.{Bool, true, false}
+use mathlib.Core.Bool.{true, false}
 use mathlib.Core.Path.{_≡_}
 use mathlib.Core.List.{List, [], _∷_, map}
 use Rattle.neighbour.specs.declared.Phase.{Phase}
@@ -12,7 +12,7 @@ use Rattle.neighbour_seconds.specs.Seconds.{noSeconds, areNone, secondsF
 abbrev pub seconds : ℕ → ℕ → ℕ → ℕ → ℕ → Seconds
 seconds a b c d e = record { idle = a; acquisition = b; down = c; up = d; cease = e }
 
--- five states, and seconds of five sums: one below the limit, at it twice, above it, and one that 32 bits would take for 0
+-- one second below the limit, at it twice, and one above it twice, which in 32 bits would be 0
 abbrev pub almostFull : List Seconds
 almostFull =
     seconds 4294967290 1 1 1 1 ∷ seconds 4294967295 0 0 0 0 ∷ seconds 858993459 858993459 858993459 858993459 858993459

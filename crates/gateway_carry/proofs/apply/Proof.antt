@@ -1,6 +1,5 @@
 use native.Mathlib.Omega.{arith}
 use mathlib.Core.Path.{refl}
-use Rattle.neighbour.specs.Record.{idle}
 use Rattle.gateway_state.specs.Slots.{withSlot}
 use Rattle.gateway_carry.specs.Asked.{rulingOf}
 use Rattle.gateway_carry.proofs.Carrying.{carried}

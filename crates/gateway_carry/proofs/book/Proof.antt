@@ -1,4 +1,3 @@
-use mathlib.Core.Path.{ap}
 use borrow.Author.Tests.{not-true}
 use Rattle.neighbour_seconds.proofs.Laws.{seconds-laws}
 use Rattle.gateway_rules.specs.Seconds.{hasTime, booked}

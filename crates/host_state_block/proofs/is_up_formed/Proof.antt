@@ -1,8 +1,7 @@
-use mathlib.Core.Path.{_≡_, sym, ap, _∙_}
+use mathlib.Core.Path.{sym, ap, _∙_}
 use mathlib.Core.Bool.{false≢true}
 use borrow.Author.Tests.{not-false}
 use Rattle.checks.proofs.Laws.{and-both}
-use Rattle.gateway_state.specs.declared.Slot.{Slot}
 use Rattle.gateway_state.specs.Formed.{slotFormed}
 use Rattle.host_state_block.specs.Layout.{numbersAt}
 use Rattle.host_state_block.specs.Block.{slotOf, slotIn}

@@ -141,6 +141,14 @@ impl Call {
         }
     }
 
+    /// The neighbour that a call of a recording is about.
+    pub fn about(&self) -> Option<u32> {
+        match self {
+            Call::Add { address, .. } | Call::Remove { address } => Some(*address),
+            _ => self.event_address(),
+        }
+    }
+
     /// The neighbour an event call is about.
     pub fn event_address(&self) -> Option<u32> {
         match self {

@@ -125,13 +125,28 @@ pub fn difference(ours: &[u8], theirs: &[u8]) -> Option<Difference> {
 
 /// Plays so many recordings of a seed with the program and compares what it writes.
 pub fn compare(program: &str, seed: u64, count: usize) -> Result<Tally, Stop> {
-    let mut random = Random::new(seed);
     let mut tally = Tally::default();
+    compare_outputs(program, seed, count, |recording| {
+        let ours = playback::play(recording);
+        tally.add(recording, &ours);
+        ours
+    })?;
+    Ok(tally)
+}
+
+/// Hands so many recordings of a seed to the program and compares what it writes with what it should
+/// write of each.
+pub fn compare_outputs(
+    program: &str,
+    seed: u64,
+    count: usize,
+    mut expected: impl FnMut(&[u8]) -> Vec<u8>,
+) -> Result<(), Stop> {
+    let mut random = Random::new(seed);
     for _ in 0..count {
         let name = next_name(&mut random);
         let recording = recordings::recording(name.seed, name.lines);
-        let ours = playback::play(&recording);
-        tally.add(&recording, &ours);
+        let ours = expected(&recording);
         let piece = random.between(1, 9000) as usize;
         let theirs =
             output_of(program, recording, piece).map_err(|error| Stop::Broken(name, error))?;
@@ -139,7 +154,7 @@ pub fn compare(program: &str, seed: u64, count: usize) -> Result<Tally, Stop> {
             return Err(Stop::Difference(name, difference));
         }
     }
-    Ok(tally)
+    Ok(())
 }
 
 /// Short recordings more often than long ones, some with nothing but a head or less.

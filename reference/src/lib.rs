@@ -15,11 +15,12 @@
 //! * [`record`], [`compare`], [`sample`], [`speed`]: calls as octets, and another implementation
 //!   run on them call by call, or timed.
 //! * [`recording`], [`playback`]: a site's recording, and what playing it gives (02, L1).
+//! * [`trace`]: what tracing it gives, a line for each call.
 //! * [`host`], [`host_places`]: the layer for a host in C (02, L4), and what a comparison through it
 //!   must reach.
 //! * [`ffi`], [`fuzz`]: the reference for programs in C, and a fuzzer's input as a call.
-//! * [`compare_recordings`], [`site`]: another implementation's player beside this one, and the
-//!   technicians' example.
+//! * [`compare_recordings`], [`compare_traces`], [`site`]: another implementation's player and tracer
+//!   beside these, and the technicians' example.
 
 #![deny(unsafe_code)]
 
@@ -29,6 +30,7 @@ pub mod checksum;
 pub mod checksums;
 pub mod compare;
 pub mod compare_recordings;
+pub mod compare_traces;
 pub mod coverage;
 pub mod ffi;
 pub mod fuzz;
@@ -48,4 +50,5 @@ pub mod recording;
 pub mod sample;
 pub mod site;
 pub mod speed;
+pub mod trace;
 pub mod update;

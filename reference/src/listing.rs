@@ -83,13 +83,13 @@ fn text(state: &State, table: &[u32]) -> String {
             line("net", &dotted(row.net));
             line("gw", &dotted(row.gateway));
             line("dist", &(row.distance % EXTERNAL).to_string());
-            line("side", if row.is_external() { "ext" } else { "int" });
+            line("side", side_word(&row));
         }
     }
     text
 }
 
-fn state_word(state: NeighbourState) -> &'static str {
+pub(crate) fn state_word(state: NeighbourState) -> &'static str {
     match state {
         NeighbourState::Idle => "idle",
         NeighbourState::Acquisition => "acquisition",
@@ -111,10 +111,18 @@ fn seconds_name(state: NeighbourState) -> &'static str {
 }
 
 /// "Mode is none outside Down and Up", where M is 0.
-fn mode_word(mode: Mode) -> &'static str {
+pub(crate) fn mode_word(mode: Mode) -> &'static str {
     match mode {
         Mode::None => "none",
         Mode::Active => "active",
         Mode::Passive => "passive",
+    }
+}
+
+pub(crate) fn side_word(row: &Row) -> &'static str {
+    if row.is_external() {
+        "ext"
+    } else {
+        "int"
     }
 }

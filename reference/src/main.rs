@@ -10,7 +10,10 @@ use reference::generate::hosts::Hosts;
 use reference::generate::{day, recordings};
 use reference::host_places::HostSurvey;
 use reference::speed::{self, growth, instructions};
-use reference::{checksums, compare, compare_recordings, coverage, fuzz, playback, sample, site};
+use reference::{
+    checksums, compare, compare_recordings, compare_traces, coverage, fuzz, playback, sample, site,
+    trace,
+};
 
 fn main() -> ExitCode {
     let arguments: Vec<String> = std::env::args().skip(1).collect();
@@ -66,13 +69,18 @@ fn speed_command(words: &[&str]) -> ExitCode {
 /// The commands about recordings.
 fn recording_command(words: &[&str]) -> ExitCode {
     match words {
-        ["play"] => print_playback(read_input()),
-        ["play", file] => print_playback(fs::read(file)),
+        ["play"] => print_played(playback::play, read_input()),
+        ["play", file] => print_played(playback::play, fs::read(file)),
+        ["trace"] => print_played(trace::trace, read_input()),
+        ["trace", file] => print_played(trace::trace, fs::read(file)),
         ["recording", seed, lines] => with_numbers(seed, lines, |seed, lines| {
             print_octets(&recordings::recording(seed, lines))
         }),
         ["compare-recordings", program, seed, count] => with_numbers(seed, count, |seed, count| {
             print_comparison(seed, compare_recordings::compare(program, seed, count))
+        }),
+        ["compare-traces", program, seed, count] => with_numbers(seed, count, |seed, count| {
+            compare_traces(program, seed, count)
         }),
         ["day", seed] => with_numbers(seed, "0", |seed, _| {
             print_octets(day::recording(seed, day::DAY).as_bytes())
@@ -125,6 +133,25 @@ fn compare_seeds(driver: &str, count: usize, seeds: &[u64], survey: &mut Survey)
         }
     }
     ExitCode::SUCCESS
+}
+
+/// Compares the traces of a seed's recordings, and asks that they tell of everything.
+fn compare_traces(program: &str, seed: u64, count: usize) -> ExitCode {
+    let verdict = compare_traces::compare(program, seed, count);
+    let exit = print_comparison(seed, verdict.as_ref());
+    let Ok(tally) = verdict else {
+        return exit;
+    };
+    print!("{}", tally.report());
+    let missed = tally.missed();
+    for what in &missed {
+        println!("never met: {what}");
+    }
+    if missed.is_empty() {
+        ExitCode::SUCCESS
+    } else {
+        ExitCode::FAILURE
+    }
 }
 
 /// Says how often each place was reached, and which were not reached often enough.
@@ -209,9 +236,10 @@ fn read_input() -> io::Result<Vec<u8>> {
     Ok(octets)
 }
 
-fn print_playback(recording: io::Result<Vec<u8>>) -> ExitCode {
+/// Writes what playing a recording gives, or tracing it.
+fn print_played(play: fn(&[u8]) -> Vec<u8>, recording: io::Result<Vec<u8>>) -> ExitCode {
     match recording {
-        Ok(recording) => print_octets(&playback::play(&recording)),
+        Ok(recording) => print_octets(&play(&recording)),
         Err(error) => {
             eprintln!("{error}");
             ExitCode::FAILURE
@@ -262,8 +290,10 @@ fn usage() -> ExitCode {
        reference compare-checksums PROGRAM
        reference checksum-speed PROGRAM
        reference play [FILE]
+       reference trace [FILE]
        reference recording SEED LINES
        reference compare-recordings PROGRAM SEED COUNT
+       reference compare-traces PROGRAM SEED COUNT
        reference day SEED
        reference site recording|output"
     );

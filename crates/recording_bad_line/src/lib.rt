@@ -18,7 +18,7 @@ pub fn one_more(lines: u64) -> u64
 }
 
 // Writes a number of up to 64 bits, the highest digit first.
-fn put_long(out: &mut [u8], at: usize, n: u64) -> usize
+pub fn put_long(out: &mut [u8], at: usize, n: u64) -> usize
     requires { ⌜ at + length (decimal n) ≤ length (now out) ⌝ }
     ensures { λ r. ⌜ Written (decimal n) at (now (out .entry)) (now (out .exit)) r ⌝ }
 {

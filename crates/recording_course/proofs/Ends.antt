@@ -67,22 +67,22 @@ plenty-more (l ∷ lents) lent e = go (isPlenty l) (plenty-more lents lent e)
 abbrev deckOf : Player → List ℕ → List ℕ → Deck
 deckOf p line table = record { player = p; line = line; table = table }
 
-module _ (recording : List ℕ) where
+module _ (traced : Bool) (recording : List ℕ) where
   -- so many turns at least with room and an octet led here
   record Sofar (turns : ℕ) (d : Deck) (rest : List ℕ) : Type 0 where
     lents : List Lent
     many : turns ≤ plenty lents
     text : List ℕ
-    same : drive lents (freshDeck (zeros 4118)) recording ≡ record { deck = d; rest = rest; text = text }
+    same : drive lents (freshDeck traced (zeros 4118)) recording ≡ record { deck = d; rest = rest; text = text }
 
   -- after 86,401 such turns for each octet nothing is left to do
   all-done : (turns : ℕ) (p : Player) (line table rest : List ℕ) → 86401 * length recording ≤ turns → Sofar turns (deckOf p line table) rest
       → (eqb (length rest) 0 && ready p) ≡ true
   unfolding isDone
   all-done turns p line table rest m t =
-      ap isDone (sym (t .same)) ∙ every-recording-ends (zeros 4118) recording (t .lents) zeros-fit (omega (arith, m, t .many))
+      ap isDone (sym (t .same)) ∙ every-recording-ends traced (zeros 4118) recording (t .lents) zeros-fit (omega (arith, m, t .many))
 
-module _ (recording out : List ℕ) (room : roomy out ≡ true) where
+module _ (traced : Bool) (recording out : List ℕ) (room : roomy out ≡ true) where
   lent-plenty : (n : ℕ) → 0 < n → isPlenty (record { size = n; out = out }) ≡ true
   unfolding isPlenty
   lent-plenty n k = rw (room, lt-ltb 0 n k)
@@ -96,7 +96,7 @@ module _ (recording out : List ℕ) (room : roomy out ≡ true) where
 
     by-size : (turns n : ℕ) → 0 < n → turnStep (roomy out) p line table (take n (rest ++ left)) ≡ s
         → heldOf p line (take n (rest ++ left)) ≡ heldOf p line rest
-        → Sofar recording turns (deckOf p line table) (rest ++ left) → Sofar recording (suc turns) after (drop (s .used) rest ++ left)
+        → Sofar traced recording turns (deckOf p line table) (rest ++ left) → Sofar traced recording (suc turns) after (drop (s .used) rest ++ left)
     unfolding onward afterTurn stepOn
     by-size turns n k e f t =
         let lent : Lent = record { size = n; out = out } in
@@ -104,7 +104,7 @@ module _ (recording out : List ℕ) (room : roomy out ≡ true) where
           lents = t .lents ++ (lent ∷ []);
           many = omega (arith, t .many, plenty-more (t .lents) lent (lent-plenty n k));
           text = t .text ++ s .text;
-          same = drive-onward (t .lents) lent (freshDeck (zeros 4118)) recording
+          same = drive-onward (t .lents) lent (freshDeck traced (zeros 4118)) recording
               ∙ ap (onward lent) (t .same)
               ∙ (λ i. record {
                 deck = record { player = (e i) .player; line = f i; table = (e i) .table };
@@ -118,11 +118,11 @@ module _ (recording out : List ℕ) (room : roomy out ≡ true) where
               });
         }
 
-    turn-more : (turns : ℕ) → usedUp p (length rest) ≡ false → Sofar recording turns (deckOf p line table) (rest ++ left)
-        → Sofar recording (suc turns) after (drop (s .used) rest ++ left)
+    turn-more : (turns : ℕ) → usedUp p (length rest) ≡ false → Sofar traced recording turns (deckOf p line table) (rest ++ left)
+        → Sofar traced recording (suc turns) after (drop (s .used) rest ++ left)
     turn-more turns u t = go (eqb (length rest) 0) refl
       where
-        go : (b : Bool) → eqb (length rest) 0 ≡ b → Sofar recording (suc turns) after (drop (s .used) rest ++ left)
+        go : (b : Bool) → eqb (length rest) 0 ≡ b → Sofar traced recording (suc turns) after (drop (s .used) rest ++ left)
         go false e =
             let some : (length rest ≡ 0) → ⊥ = eqb-false (length rest) 0 e in
             by-size turns (length rest) (omega (arith, some)) (ap (turnStep (roomy out) p line table) (take-append-seam rest left))
@@ -146,7 +146,7 @@ host stage p from to line table piece coming held text =
       text = text;
     }
 
-module _ (ends : Bool) (recording : List ℕ) where
+module _ (traced ends : Bool) (recording : List ℕ) where
   -- from this host on, in so many steps
   abbrev Done : ℕ → Host → Type 0
   Done n h = (outs : List (List ℕ)) → every roomy outs ≡ true → n ≤ length outs → isOver ((playAll ends outs h) .course .stage) ≡ true
@@ -198,18 +198,18 @@ module _ (ends : Bool) (recording : List ℕ) where
   -- with so many turns more, close and listing
   record Goes (fuel : ℕ) : Type 0 where
     reads : (turns : ℕ) (p : Player) (from to : ℕ) (line table piece : List ℕ) (coming : List (List ℕ)) (held text : List ℕ)
-        → every isSome coming ≡ true → 86401 * length recording ≤ turns + fuel → Sofar recording turns (deckOf p line table) (join coming)
+        → every isSome coming ≡ true → 86401 * length recording ≤ turns + fuel → Sofar traced recording turns (deckOf p line table) (join coming)
         → Done (suc (suc fuel)) (host Read p from to line table piece coming held text)
     plays : (turns : ℕ) (p : Player) (from to : ℕ) (line table piece : List ℕ) (coming : List (List ℕ)) (held text : List ℕ)
         → every isSome coming ≡ true → 86401 * length recording ≤ turns + fuel → usedUp p (length (restOf from to piece)) ≡ false
-        → Sofar recording turns (deckOf p line table) (restOf from to piece ++ join coming)
+        → Sofar traced recording turns (deckOf p line table) (restOf from to piece ++ join coming)
         → Done (suc (suc fuel)) (host Play p from to line table piece coming held text)
 
   -- ---- a turn
 
   module _ (fuel : ℕ) (g : Goes fuel) (turns : ℕ) (p : Player) (from to : ℕ) (line table piece : List ℕ) (coming : List (List ℕ))
       (some : every isSome coming ≡ true) (m : 86401 * length recording ≤ turns + suc fuel) (u : usedUp p (length (restOf from to piece)) ≡ false)
-      (t : Sofar recording turns (deckOf p line table) (restOf from to piece ++ join coming)) where
+      (t : Sofar traced recording turns (deckOf p line table) (restOf from to piece ++ join coming)) where
     abbrev rest : List ℕ
     rest = restOf from to piece
 
@@ -220,21 +220,21 @@ module _ (ends : Bool) (recording : List ℕ) where
       abbrev next : Deck
       next = deckOf (turn .player) (heldOf p line rest) (turn .table)
 
-      made : Sofar recording (suc turns) next (drop (turn .used) rest ++ join coming)
-      made = turn-more recording out room p line table rest (join coming) turns u t
+      made : Sofar traced recording (suc turns) next (drop (turn .used) rest ++ join coming)
+      made = turn-more traced recording out room p line table rest (join coming) turns u t
 
       -- so many octets are left after the turn
       left-after : length (restOf (from + turn .used) to piece) ≡ length rest - turn .used
       left-after = ap length (rest-on from to (turn .used) piece) ∙ length-drop (turn .used) rest
 
-      none-left : length rest - turn .used ≡ 0 → Sofar recording (suc turns) next (join coming)
+      none-left : length rest - turn .used ≡ 0 → Sofar traced recording (suc turns) next (join coming)
       none-left z =
           let k : length rest ≤ turn .used = omega (arith, z) in
-          subst (λ (l : List ℕ). Sofar recording (suc turns) next (l ++ join coming)) (drop-of-length-le rest k) made
+          subst (λ (l : List ℕ). Sofar traced recording (suc turns) next (l ++ join coming)) (drop-of-length-le rest k) made
 
-      some-left : Sofar recording (suc turns) next (restOf (from + turn .used) to piece ++ join coming)
+      some-left : Sofar traced recording (suc turns) next (restOf (from + turn .used) to piece ++ join coming)
       some-left =
-          subst (λ (l : List ℕ). Sofar recording (suc turns) next (l ++ join coming)) (sym (rest-on from to (turn .used) piece)) made
+          subst (λ (l : List ℕ). Sofar traced recording (suc turns) next (l ++ join coming)) (sym (rest-on from to (turn .used) piece)) made
 
       none-of : usedUp (turn .player) (length rest - turn .used) ≡ true → length rest - turn .used ≡ 0
       unfolding usedUp
@@ -289,7 +289,7 @@ module _ (ends : Bool) (recording : List ℕ) where
 
   read-done : (fuel : ℕ) → Goes fuel → (turns : ℕ) (p : Player) (from to : ℕ) (line table piece octets : List ℕ) (coming : List (List ℕ)) (held text : List ℕ)
       → every isSome (octets ∷ coming) ≡ true → 86401 * length recording ≤ turns + suc fuel
-      → Sofar recording turns (deckOf p line table) (join (octets ∷ coming))
+      → Sofar traced recording turns (deckOf p line table) (join (octets ∷ coming))
       → Done (suc (suc (suc fuel))) (host Read p from to line table piece (octets ∷ coming) held text)
   unfolding isOver isRead readOn readNext join
   read-done fuel g turns p from to line table piece octets coming held text e m t =
@@ -301,24 +301,24 @@ module _ (ends : Bool) (recording : List ℕ) where
       (λ (x : Course). Done (suc (suc fuel)) (goOn out (record { course = x; line = line; table = table; piece = buffer; coming = coming; held = held; text = text })))
       (sym (given-some c true (length octets) refl some))
       (step-done fuel g turns p 0 (length octets) line table buffer coming (some-tail octets coming e) m (fresh-piece p octets piece some)
-      (subst (λ (l : List ℕ). Sofar recording turns (deckOf p line table) (l ++ join coming)) (sym (rest-read octets piece)) t) out room held text))
+      (subst (λ (l : List ℕ). Sofar traced recording turns (deckOf p line table) (l ++ join coming)) (sym (rest-read octets piece)) t) out room held text))
 
   -- ---- no turn is left: neither is an octet or a tick
 
   no-octet : (turns : ℕ) (p : Player) (line table octets : List ℕ) (coming : List (List ℕ)) → every isSome (octets ∷ coming) ≡ true
-      → 86401 * length recording ≤ turns → Sofar recording turns (deckOf p line table) (join (octets ∷ coming)) → ⊥
+      → 86401 * length recording ≤ turns → Sofar traced recording turns (deckOf p line table) (join (octets ∷ coming)) → ⊥
   unfolding join
   no-octet turns p line table octets coming e m t =
       let all = octets ++ join coming in
-      let z = eqb-true (length all) 0 (and-left (eqb (length all) 0) (ready p) (all-done recording turns p line table all m t)) in
+      let z = eqb-true (length all) 0 (and-left (eqb (length all) 0) (ready p) (all-done traced recording turns p line table all m t)) in
       let some : (length octets ≡ 0) → ⊥ = eqb-false (length octets) 0 (some-head octets coming e) in
       some (omega (arith, z, length-append octets (join coming)))
 
   no-turn : (turns : ℕ) (p : Player) (line table rest left : List ℕ) → usedUp p (length rest) ≡ false
-      → 86401 * length recording ≤ turns → Sofar recording turns (deckOf p line table) (rest ++ left) → ⊥
+      → 86401 * length recording ≤ turns → Sofar traced recording turns (deckOf p line table) (rest ++ left) → ⊥
   unfolding usedUp
   no-turn turns p line table rest left u m t =
-      let done = all-done recording turns p line table (rest ++ left) m t in
+      let done = all-done traced recording turns p line table (rest ++ left) m t in
       let z = eqb-true (length (rest ++ left)) 0 (and-left (eqb (length (rest ++ left)) 0) (ready p) done) in
       let n : length rest ≡ 0 = omega (arith, z, length-append rest left) in
       let r = and-right (eqb (length (rest ++ left)) 0) (ready p) done in
@@ -333,7 +333,7 @@ module _ (ends : Bool) (recording : List ℕ) where
       }
     where
       ending : (turns : ℕ) (p : Player) (from to : ℕ) (line table piece : List ℕ) (coming : List (List ℕ)) (held text : List ℕ)
-          → every isSome coming ≡ true → 86401 * length recording ≤ turns + 0 → Sofar recording turns (deckOf p line table) (join coming)
+          → every isSome coming ≡ true → 86401 * length recording ≤ turns + 0 → Sofar traced recording turns (deckOf p line table) (join coming)
           → Done 2 (host Read p from to line table piece coming held text)
       ending turns p from to line table piece [] held text e m t = none-done 0 p from to line table piece held text
       ending turns p from to line table piece (octets ∷ coming) held text e m t =
@@ -346,7 +346,7 @@ module _ (ends : Bool) (recording : List ℕ) where
       }
     where
       reading : Goes fuel → (turns : ℕ) (p : Player) (from to : ℕ) (line table piece : List ℕ) (coming : List (List ℕ)) (held text : List ℕ)
-          → every isSome coming ≡ true → 86401 * length recording ≤ turns + suc fuel → Sofar recording turns (deckOf p line table) (join coming)
+          → every isSome coming ≡ true → 86401 * length recording ≤ turns + suc fuel → Sofar traced recording turns (deckOf p line table) (join coming)
           → Done (suc (suc (suc fuel))) (host Read p from to line table piece coming held text)
       reading g turns p from to line table piece [] held text e m t = none-done (suc fuel) p from to line table piece held text
       reading g turns p from to line table piece (octets ∷ coming) held text e m t =
@@ -355,9 +355,9 @@ module _ (ends : Bool) (recording : List ℕ) where
 -- a turn for each octet and each second that it may say, close and listing
 pub every-course-ends : EveryCourseEnds
 unfolding hostOf setOut freshDeck drive
-every-course-ends ends buffer pieces e =
+every-course-ends traced ends buffer pieces e =
     record {
       steps = suc (suc (86401 * length (join pieces)));
-      over = goes ends (join pieces) (86401 * length (join pieces)) .reads 0 beginning 0 0 _ _ buffer pieces [] [] e (omega arith)
+      over = goes traced ends (join pieces) (86401 * length (join pieces)) .reads 0 (beginning traced) 0 0 _ _ buffer pieces [] [] e (omega arith)
           (record { lents = []; many = omega arith; text = []; same = refl });
     }

@@ -96,11 +96,11 @@ ready p = p .broken || eqb (p .ticks) 0
 abbrev deckOf : Player → List ℕ → List ℕ → Deck
 deckOf p line table = record { player = p; line = line; table = table }
 
-module _ (ends : Bool) (recording : List ℕ) where
+module _ (traced ends : Bool) (recording : List ℕ) where
   -- the turns so far
   record Sofar (d : Deck) (rest text : List ℕ) : Type 0 where
     lents : List Lent
-    same : drive lents (freshDeck (zeros 4118)) recording ≡ record { deck = d; rest = rest; text = text }
+    same : drive lents (freshDeck traced (zeros 4118)) recording ≡ record { deck = d; rest = rest; text = text }
 
   -- close was made behind the last turn
   record Closed (p : Player) (table text : List ℕ) : Type 0 where
@@ -114,8 +114,8 @@ module _ (ends : Bool) (recording : List ℕ) where
 
   -- all was said
   record Said (text : List ℕ) : Type 0 where
-    whole : length recording < 18446744073709551616 → ends ≡ true → text ≡ outputOf recording
-    unlisted : ends ≡ false → Unlisted recording text
+    whole : length recording < 18446744073709551616 → ends ≡ true → text ≡ outputOf traced recording
+    unlisted : ends ≡ false → Unlisted traced recording text
 
   -- at each stage
   abbrev At : Stage → Player → ℕ → ℕ → List ℕ → List ℕ → List ℕ → List (List ℕ) → List ℕ → Type 0
@@ -223,7 +223,7 @@ module _ (ends : Bool) (recording : List ℕ) where
           let q = take-append-seam rest (join coming) in
           record {
             lents = t .lents ++ (record { size = length rest; out = out } ∷ []);
-            same = drive-onward (t .lents) (record { size = length rest; out = out }) (freshDeck (zeros 4118)) recording
+            same = drive-onward (t .lents) (record { size = length rest; out = out }) (freshDeck traced (zeros 4118)) recording
                 ∙ ap (onward (record { size = length rest; out = out })) (t .same)
                 ∙ (λ i. record {
                   deck = record {
@@ -288,7 +288,7 @@ module _ (ends : Bool) (recording : List ℕ) where
               (λ i. (k .text-as i) ++ (finishStep out (k .player i) (k .table-as i)) .text)
               ∙ append-assoc (k .before) ((closed (k .deck)) .text) last
               ∙ ap (allText out) (sym (r .same))
-              ∙ recordings .played (zeros 4118) recording (r .lents) zeros-fit (ap isDone (r .same) ∙ k .none) .output few out room;
+              ∙ recordings .played traced (zeros 4118) recording (r .lents) zeros-fit (ap isDone (r .same) ∙ k .none) .output few out room;
           unlisted = λ e. absurd (true≢false (sym (s .1) ∙ e));
         }
 
@@ -404,30 +404,30 @@ all-bare ends (out ∷ outs) h k =
     cond-elim Bare (isOver (h .course .stage)) h (playAll ends outs (goOn out (readOn ends h))) (λ _. k)
     (λ _. all-bare ends outs (goOn out (readOn ends h)) (bare-turn out (readOn ends h)))
 
-bare : (ends : Bool) (outs pieces : List (List ℕ)) (buffer : List ℕ) → Bare (playAll ends outs (hostOf buffer pieces))
+bare : (traced ends : Bool) (outs pieces : List (List ℕ)) (buffer : List ℕ) → Bare (playAll ends outs (hostOf traced buffer pieces))
 unfolding hostOf
-bare ends outs pieces buffer = all-bare ends outs (hostOf buffer pieces) (record { at-read = λ _. refl; at-end = λ _. refl })
+bare traced ends outs pieces buffer = all-bare ends outs (hostOf traced buffer pieces) (record { at-read = λ _. refl; at-end = λ _. refl })
 
 -- before the first read
-set-out : (ends : Bool) (buffer : List ℕ) (pieces : List (List ℕ)) → every isSome pieces ≡ true → Stands ends (join pieces) (hostOf buffer pieces)
+set-out : (traced ends : Bool) (buffer : List ℕ) (pieces : List (List ℕ)) → every isSome pieces ≡ true → Stands traced ends (join pieces) (hostOf traced buffer pieces)
 unfolding hostOf setOut freshDeck drive beginning
-set-out ends buffer pieces e = (record { lents = []; same = refl }, (refl, e))
+set-out traced ends buffer pieces e = (record { lents = []; same = refl }, (refl, e))
 
-module _ (ends : Bool) (pieces outs : List (List ℕ)) (buffer : List ℕ) (some : every isSome pieces ≡ true) (room : every roomy outs ≡ true) where
+module _ (traced ends : Bool) (pieces outs : List (List ℕ)) (buffer : List ℕ) (some : every isSome pieces ≡ true) (room : every roomy outs ≡ true) where
   abbrev h : Host
-  h = playAll ends outs (hostOf buffer pieces)
+  h = playAll ends outs (hostOf traced buffer pieces)
 
-  said : isOver (h .course .stage) ≡ true → Said ends (join pieces) (h .text)
+  said : isOver (h .course .stage) ≡ true → Said traced ends (join pieces) (h .text)
   said e =
-      subst (Said ends (join pieces)) (ap (λ (l : List ℕ). h .text ++ l) (bare ends outs pieces buffer .at-end e) ∙ append-nil (h .text))
-      (over-said ends (join pieces) (h .course .stage) (h .course .player) (h .course .from) (h .course .to) (h .line) (h .table) (h .piece) (h .coming)
+      subst (Said traced ends (join pieces)) (ap (λ (l : List ℕ). h .text ++ l) (bare traced ends outs pieces buffer .at-end e) ∙ append-nil (h .text))
+      (over-said traced ends (join pieces) (h .course .stage) (h .course .player) (h .course .from) (h .course .to) (h .line) (h .table) (h .piece) (h .coming)
       (h .text ++ h .held) e
-      (all-kept ends (join pieces) outs room (hostOf buffer pieces) (set-out ends buffer pieces some)))
+      (all-kept traced ends (join pieces) outs room (hostOf traced buffer pieces) (set-out traced ends buffer pieces some)))
 
 pub courses : Courses
 courses =
     record {
-      ended = λ pieces outs buffer few some room e. said true pieces outs buffer some room e .whole few refl;
-      failed = λ pieces outs buffer some room e. said false pieces outs buffer some room e .unlisted refl;
-      shown-at-reads = λ ends pieces outs buffer e. bare ends outs pieces buffer .at-read e;
+      ended = λ traced pieces outs buffer few some room e. said traced true pieces outs buffer some room e .whole few refl;
+      failed = λ traced pieces outs buffer some room e. said traced false pieces outs buffer some room e .unlisted refl;
+      shown-at-reads = λ traced ends pieces outs buffer e. bare traced ends outs pieces buffer .at-read e;
     }

@@ -32,9 +32,9 @@ isOver Over = true
 unfoldable pub staged : Course → Stage → Course
 staged c stage = record { player = c .player; stage = stage; from = c .from; to = c .to }
 
--- before the first read
-unfoldable pub setOut : Course
-setOut = record { player = beginning; stage = Read; from = 0; to = 0 }
+-- before the first read; calls are told of by a trace, or not
+unfoldable pub setOut : Bool → Course
+setOut traced = record { player = beginning traced; stage = Read; from = 0; to = 0 }
 
 -- ---- what the host says
 

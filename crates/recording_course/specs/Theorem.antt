@@ -86,9 +86,9 @@ playAll ends [] h = h
 playAll ends (out ∷ outs) h = cond (isOver (h .course .stage)) h (playAll ends outs (goOn out (readOn ends h)))
 
 -- before the first read, whatever the buffer for pieces holds
-unfoldable pub hostOf : List ℕ → List (List ℕ) → Host
-hostOf buffer pieces =
-    record { course = setOut; line = zeros 4118; table = emptyTable; piece = buffer; coming = pieces; held = []; text = [] }
+unfoldable pub hostOf : Bool → List ℕ → List (List ℕ) → Host
+hostOf traced buffer pieces =
+    record { course = setOut traced; line = zeros 4118; table = emptyTable; piece = buffer; coming = pieces; held = []; text = [] }
 
 -- ---- the statement
 
@@ -97,36 +97,36 @@ unfoldable pub isSome : List ℕ → Bool
 isSome octets = not (eqb (length octets) 0)
 
 -- what the player's turns write, once nothing of the recording is left and no tick is due; neither close nor listing
-pub record Unlisted (recording text : List ℕ) : Type 0 where
+pub record Unlisted (traced : Bool) (recording text : List ℕ) : Type 0 where
   pub lents : List Lent
-  pub done : isDone (drive lents (freshDeck (zeros 4118)) recording) ≡ true
-  pub same : text ≡ (drive lents (freshDeck (zeros 4118)) recording) .text
+  pub done : isDone (drive lents (freshDeck traced (zeros 4118)) recording) ≡ true
+  pub same : text ≡ (drive lents (freshDeck traced (zeros 4118)) recording) .text
 
 pub record Courses : Type 0 where
   -- the recording was read to its end: what it should write was written, all of it; lines are counted in 64 bits
   pub ended :
-      (pieces outs : List (List ℕ)) (buffer : List ℕ) → length (join pieces) < 18446744073709551616
+      (traced : Bool) (pieces outs : List (List ℕ)) (buffer : List ℕ) → length (join pieces) < 18446744073709551616
       → every isSome pieces ≡ true → every roomy outs ≡ true
-      → isOver ((playAll true outs (hostOf buffer pieces)) .course .stage) ≡ true
-      → (playAll true outs (hostOf buffer pieces)) .text ≡ outputOf (join pieces)
+      → isOver ((playAll true outs (hostOf traced buffer pieces)) .course .stage) ≡ true
+      → (playAll true outs (hostOf traced buffer pieces)) .text ≡ outputOf traced (join pieces)
   -- a read failed
   pub failed :
-      (pieces outs : List (List ℕ)) (buffer : List ℕ) → every isSome pieces ≡ true → every roomy outs ≡ true
-      → isOver ((playAll false outs (hostOf buffer pieces)) .course .stage) ≡ true
-      → Unlisted (join pieces) ((playAll false outs (hostOf buffer pieces)) .text)
+      (traced : Bool) (pieces outs : List (List ℕ)) (buffer : List ℕ) → every isSome pieces ≡ true → every roomy outs ≡ true
+      → isOver ((playAll false outs (hostOf traced buffer pieces)) .course .stage) ≡ true
+      → Unlisted traced (join pieces) ((playAll false outs (hostOf traced buffer pieces)) .text)
   -- nothing is held back at a read
   pub shown-at-reads :
-      (ends : Bool) (pieces outs : List (List ℕ)) (buffer : List ℕ)
-      → isRead ((playAll ends outs (hostOf buffer pieces)) .course .stage) ≡ true
-      → (playAll ends outs (hostOf buffer pieces)) .held ≡ []
+      (traced ends : Bool) (pieces outs : List (List ℕ)) (buffer : List ℕ)
+      → isRead ((playAll ends outs (hostOf traced buffer pieces)) .course .stage) ≡ true
+      → (playAll ends outs (hostOf traced buffer pieces)) .held ≡ []
 
 -- however the recording is cut into pieces, and whether its last read ends or fails, the loop comes to its end
-pub record CourseEnding (ends : Bool) (buffer : List ℕ) (pieces : List (List ℕ)) : Type 0 where
+pub record CourseEnding (traced ends : Bool) (buffer : List ℕ) (pieces : List (List ℕ)) : Type 0 where
   pub steps : ℕ
   pub over :
       (outs : List (List ℕ)) → every roomy outs ≡ true → steps ≤ length outs
-      → isOver ((playAll ends outs (hostOf buffer pieces)) .course .stage) ≡ true
+      → isOver ((playAll ends outs (hostOf traced buffer pieces)) .course .stage) ≡ true
 
 abbrev pub EveryCourseEnds : Type 0
 EveryCourseEnds =
-    (ends : Bool) (buffer : List ℕ) (pieces : List (List ℕ)) → every isSome pieces ≡ true → CourseEnding ends buffer pieces
+    (traced ends : Bool) (buffer : List ℕ) (pieces : List (List ℕ)) → every isSome pieces ≡ true → CourseEnding traced ends buffer pieces

@@ -37,10 +37,10 @@ pub struct Went {
 }
 
 // Before the first read.
-pub fn set_out() -> Course
-    ensures { λ r. ⌜ r ≡ setOut ⌝ }
+pub fn set_out(traced: bool) -> Course
+    ensures { λ r. ⌜ r ≡ setOut traced ⌝ }
 {
-    let player = recording_player::begin();
+    let player = recording_player::begin(traced);
     Course {
         player,
         stage: Stage::Read,

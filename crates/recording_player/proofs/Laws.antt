@@ -2,7 +2,7 @@
 use Prim.Native.Nat.{ℕ, _≤_, _<_, _-_}
 use native.Mathlib.Omega.{arith}
 use mathlib.Core.Path.{_≡_, refl, sym, ap, _∙_}
-use mathlib.Core.Bool.{Bool, true, false, cond, not, _&&_}
+use mathlib.Core.Bool.{Bool, true, false, cond, not, _&&_, _||_, false≢true}
 use mathlib.Core.List.{List, [], _∷_}
 use lib.Dec.{leb, ltb, eqb}
 use lib.ListN.{length, take, drop}
@@ -18,8 +18,8 @@ use Rattle.neighbour.specs.Record.{withQuiet}
 use Rattle.gateway_state.specs.declared.State.{State}
 use Rattle.gateway_state.specs.declared.Outcome.{Outcome}
 use Rattle.gateway_state.specs.Formed.{stateFormed}
-use Rattle.gateway_state.specs.Outcomes.{refusedOf, silentOf}
-use Rattle.gateway_slots.specs.Calls.{freshOf, addOf, removeOf}
+use Rattle.gateway_state.specs.Outcomes.{refusedOf}
+use Rattle.gateway_slots.specs.Calls.{freshOf}
 use Rattle.recording_gather.specs.declared.Gathered.{Gathered}
 use Rattle.recording_gather.specs.Gathering.{gathered, lineAfter, lineHeld}
 use Rattle.recording_bad_line.specs.BadLine.{badText}
@@ -28,7 +28,9 @@ use Rattle.listing_lines.specs.Listing.{entries, listingChecks, listingOutcome,
 use Rattle.model.specs.Model as M
 use Rattle.model.specs.Theorem.{outcomeOf, tableLeft, bufferLeft, seenOf}
 use Rattle.recording_call.specs.declared.Called.{Called}
-use Rattle.recording_call.specs.Told.{lent, txText, repliesText, callText, calledOf, on}
+use Rattle.recording_trace.specs.declared.Telling.{Telling}
+use Rattle.recording_trace.specs.Steps.{happenedIn}
+use Rattle.recording_call.specs.Told.{lent, calledFor, happenedBy, callText, calledOf, on}
 use Rattle.text.specs.Text.{text}
 use Rattle.text_values.specs.declared.Number.{Number}
 use Rattle.text_values.specs.declared.Number.the-variants.{Bad, Is}
@@ -45,7 +47,7 @@ use Rattle.recording_lines.specs.Steps.{standsOn}
 use Rattle.gateway_rules.specs.Calls.{lentChecks}
 use Rattle.recording_player.specs.declared.Player.{Player}
 use Rattle.recording_player.specs.declared.Told.{Told}
-use Rattle.recording_player.specs.Player.{Step, nextLine, holding, breaking, due, settled, having, roomy, lineFits, callChecks, formedCheck, reportCheck, given, reported, withUsed, badStep, brokenStep, silentStep, withAs, withOwn, withCapability, withNet, settingStep, freshStep, netStep, quietLineStep, headStep, isSetting, callStep, eventStep, eventChecked, lineStep, lineChecked, tickStep, endedLine, freeStep, turnChecked, turnStep, onlyHolds, heldOf, toldOf, closeStep, listedIn, finishStep}
+use Rattle.recording_player.specs.Player.{Step, nextLine, holding, breaking, due, settled, having, tellingOf, roomy, lineFits, callChecks, formedCheck, reportCheck, given, reported, withUsed, badStep, brokenStep, silentStep, withAs, withOwn, withCapability, withNet, settingStep, freshStep, netStep, quietLineStep, headStep, isSetting, callStep, onlyStep, eventStep, eventChecked, lineStep, lineChecked, tickStep, endedLine, freeStep, turnChecked, turnStep, onlyHolds, heldOf, toldOf, closeStep, listedIn, finishStep}
 use Rattle.recording_player.specs.declared.Heard.{Heard}
 use Rattle.recording_player.specs.declared.Heard.the-variants as H
 use Rattle.recording_player.specs.Steps.{heardOf, carriedTurn, usingOf}
@@ -362,46 +364,46 @@ module _ (p : Player) (table : List ℕ) where
 
 -- ---- what an event asks for
 
-module _ (room : Bool) (st : State) (numbers : ℕ) (read : Read) (line : List ℕ) where
-  pub asks-bad : read ≡ R.Bad → eventChecked room st numbers (meant read line) ≡ reportCheck room 19
+module _ (traced room : Bool) (st : State) (numbers : ℕ) (read : Read) (line : List ℕ) where
+  pub asks-bad : read ≡ R.Bad → eventChecked traced room st numbers (meant read line) ≡ reportCheck room 19
   unfolding meant eventChecked
   asks-bad e = rw e
 
-  pub asks-add : (a asn : ℕ) → read ≡ R.Add a asn → eventChecked room st numbers (meant read line) ≡ formedCheck st
+  pub asks-add : (a asn : ℕ) → read ≡ R.Add a asn → eventChecked traced room st numbers (meant read line) ≡ formedCheck traced room st
   unfolding meant eventChecked
   asks-add a asn e = rw e
 
-  pub asks-remove : (a : ℕ) → read ≡ R.Remove a → eventChecked room st numbers (meant read line) ≡ formedCheck st
+  pub asks-remove : (a : ℕ) → read ≡ R.Remove a → eventChecked traced room st numbers (meant read line) ≡ formedCheck traced room st
   unfolding meant eventChecked
   asks-remove a e = rw e
 
-  pub asks-tick : (a count : ℕ) → read ≡ R.Tick a count → eventChecked room st numbers (meant read line) ≡ 0
+  pub asks-tick : (a count : ℕ) → read ≡ R.Tick a count → eventChecked traced room st numbers (meant read line) ≡ 0
   unfolding meant eventChecked
   asks-tick a count e = rw e
 
-  pub asks-start : (a : ℕ) → read ≡ R.Start a → eventChecked room st numbers (meant read line) ≡ callChecks room st numbers
+  pub asks-start : (a : ℕ) → read ≡ R.Start a → eventChecked traced room st numbers (meant read line) ≡ callChecks room st numbers
   unfolding meant eventChecked
   asks-start a e = rw e
 
-  pub asks-stop : (a : ℕ) → read ≡ R.Stop a → eventChecked room st numbers (meant read line) ≡ callChecks room st numbers
+  pub asks-stop : (a : ℕ) → read ≡ R.Stop a → eventChecked traced room st numbers (meant read line) ≡ callChecks room st numbers
   unfolding meant eventChecked
   asks-stop a e = rw e
 
-  pub asks-rx : (a at : ℕ) → read ≡ R.Receive a at → eventChecked room st numbers (meant read line) ≡ callChecks room st numbers
+  pub asks-rx : (a at : ℕ) → read ≡ R.Receive a at → eventChecked traced room st numbers (meant read line) ≡ callChecks room st numbers
   unfolding meant eventChecked
   asks-rx a at e = rw e
 
 -- a call with replies
-pub asks-call : (room : Bool) (st : State) (numbers : ℕ) (read : Read) (line : List ℕ) → OneOf (3 ∷ 4 ∷ 6 ∷ []) (tagOf the-type read)
-    → eventChecked room st numbers (meant read line) ≡ callChecks room st numbers
+pub asks-call : (traced room : Bool) (st : State) (numbers : ℕ) (read : Read) (line : List ℕ) → OneOf (3 ∷ 4 ∷ 6 ∷ []) (tagOf the-type read)
+    → eventChecked traced room st numbers (meant read line) ≡ callChecks room st numbers
 unfolding meant eventChecked
-asks-call room st numbers R.Bad line h = absurd (miss (3 ∷ 4 ∷ 6 ∷ []) 0 tt h)
-asks-call room st numbers (R.Add a asn) line h = absurd (miss (3 ∷ 4 ∷ 6 ∷ []) 1 tt h)
-asks-call room st numbers (R.Remove a) line h = absurd (miss (3 ∷ 4 ∷ 6 ∷ []) 2 tt h)
-asks-call room st numbers (R.Start a) line h = refl
-asks-call room st numbers (R.Stop a) line h = refl
-asks-call room st numbers (R.Tick a count) line h = absurd (miss (3 ∷ 4 ∷ 6 ∷ []) 5 tt h)
-asks-call room st numbers (R.Receive a at) line h = refl
+asks-call traced room st numbers R.Bad line h = absurd (miss (3 ∷ 4 ∷ 6 ∷ []) 0 tt h)
+asks-call traced room st numbers (R.Add a asn) line h = absurd (miss (3 ∷ 4 ∷ 6 ∷ []) 1 tt h)
+asks-call traced room st numbers (R.Remove a) line h = absurd (miss (3 ∷ 4 ∷ 6 ∷ []) 2 tt h)
+asks-call traced room st numbers (R.Start a) line h = refl
+asks-call traced room st numbers (R.Stop a) line h = refl
+asks-call traced room st numbers (R.Tick a count) line h = absurd (miss (3 ∷ 4 ∷ 6 ∷ []) 5 tt h)
+asks-call traced room st numbers (R.Receive a at) line h = refl
 
 -- ---- calls
 
@@ -427,22 +429,16 @@ bad-made p table r out new room h k =
     (h ∙ ap toldOf e, (refl, k ∙ ap (λ (s : Step). over (s .text) out) e))
 
 -- a call from the player's state, and the turn that carries what it left to the player behind the line
-module _ (p next : Player) (n : next ≡ nextLine p) (table after : List ℕ) (k : Called) (r : Told) (out new : List ℕ) where
+module _ (p next : Player) (n : next ≡ nextLine p) (t : Telling) (w : t ≡ tellingOf next 0 true) (table after : List ℕ) (k : Called) (r : Told) (out new : List ℕ) where
   pub call-made : (call : M.Call)
-      → k ≡ calledOf call (on (p .state) table) → r ≡ carriedTurn next k
-      → after ≡ tableLeft call (on (p .state) table) → new ≡ over (callText call (on (p .state) table)) out → Made (callStep (nextLine p) table call) r after out new
-  unfolding callStep carriedTurn calledOf toldOf nextLine
-  call-made call e f h t = (f ∙ ap (λ (q : Player). carriedTurn q k) n ∙ ap (carriedTurn (nextLine p)) e, (h, t))
-
-module _ (p next : Player) (n : next ≡ nextLine p) (table : List ℕ) (k : Called) (r : Told) (out : List ℕ) where
-  -- add and remove are silent, and leave the table
-  pub add-made : (a asn : ℕ) → k ≡ calledOf (M.add a asn) (on (p .state) table) → r ≡ carriedTurn next k → Made (callStep (nextLine p) table (M.add a asn)) r table out out
-  unfolding tableLeft callText repliesText seenOf outcomeOf bufferLeft addOf silentOf on txText over
-  add-made a asn e f = call-made p next n table table k r out out (M.add a asn) e f refl refl
-
-  pub remove-made : (a : ℕ) → k ≡ calledOf (M.remove a) (on (p .state) table) → r ≡ carriedTurn next k → Made (callStep (nextLine p) table (M.remove a)) r table out out
-  unfolding tableLeft callText repliesText seenOf outcomeOf bufferLeft removeOf silentOf on txText over
-  remove-made a e f = call-made p next n table table k r out out (M.remove a) e f refl refl
+      → k ≡ calledOf t call (on (p .state) table) → r ≡ carriedTurn next k
+      → after ≡ tableLeft call (on (p .state) table) → new ≡ over (callText t call (on (p .state) table)) out → Made (onlyStep (nextLine p) table call) r after out new
+  unfolding onlyStep callStep carriedTurn calledOf calledFor callText happenedBy happenedIn toldOf nextLine
+  call-made call e f h u =
+      let so = w ∙ ap (λ (q : Player). tellingOf q 0 true) n in (
+        f ∙ ap (λ (q : Player). carriedTurn q k) n ∙ ap (carriedTurn (nextLine p)) (e ∙ ap (λ (x : Telling). calledOf x call (on (p .state) table)) so),
+        (h, u ∙ ap (λ (x : Telling). over (callText x call (on (p .state) table)) out) so),
+      )
 
 -- what an event is, by the answer of its reader
 module _ (p : Player) (table : List ℕ) (read : Read) (line : List ℕ) where
@@ -450,19 +446,19 @@ module _ (p : Player) (table : List ℕ) (read : Read) (line : List ℕ) where
   unfolding eventStep meant
   event-bad e = rw e
 
-  pub event-add : (a asn : ℕ) → read ≡ R.Add a asn → eventStep p table (meant read line) ≡ callStep (nextLine p) table (M.add a asn)
+  pub event-add : (a asn : ℕ) → read ≡ R.Add a asn → eventStep p table (meant read line) ≡ onlyStep (nextLine p) table (M.add a asn)
   unfolding eventStep meant
   event-add a asn e = rw e
 
-  pub event-remove : (a : ℕ) → read ≡ R.Remove a → eventStep p table (meant read line) ≡ callStep (nextLine p) table (M.remove a)
+  pub event-remove : (a : ℕ) → read ≡ R.Remove a → eventStep p table (meant read line) ≡ onlyStep (nextLine p) table (M.remove a)
   unfolding eventStep meant
   event-remove a e = rw e
 
-  pub event-start : (a : ℕ) → read ≡ R.Start a → eventStep p table (meant read line) ≡ callStep (nextLine p) table (M.start a lent)
+  pub event-start : (a : ℕ) → read ≡ R.Start a → eventStep p table (meant read line) ≡ onlyStep (nextLine p) table (M.start a lent)
   unfolding eventStep meant
   event-start a e = rw e
 
-  pub event-stop : (a : ℕ) → read ≡ R.Stop a → eventStep p table (meant read line) ≡ callStep (nextLine p) table (M.stop a lent)
+  pub event-stop : (a : ℕ) → read ≡ R.Stop a → eventStep p table (meant read line) ≡ onlyStep (nextLine p) table (M.stop a lent)
   unfolding eventStep meant
   event-stop a e = rw e
 
@@ -471,7 +467,7 @@ module _ (p : Player) (table : List ℕ) (read : Read) (line : List ℕ) where
   event-tick a count e = rw e
 
   pub event-rx : (a at : ℕ) → read ≡ R.Receive a at
-      → eventStep p table (meant read line) ≡ callStep (nextLine p) table (M.receive a (hexOctets (drop at line)) [] lent)
+      → eventStep p table (meant read line) ≡ onlyStep (nextLine p) table (M.receive a (hexOctets (drop at line)) [] lent)
   unfolding eventStep meant
   event-rx a at e = rw e
 
@@ -488,16 +484,32 @@ rx-stands read line a at e h =
 
 -- the part of the line that is handed over is its rest
 pub rx-made : (read : Read) (line : List ℕ) (a at : ℕ) → read ≡ R.Receive a at → (digits : List ℕ) → digits ≡ drop at line
-    → (p next : Player) → next ≡ nextLine p → (table after : List ℕ) (k : Called) (r : Told) (out new : List ℕ)
-    → k ≡ calledOf (M.receive a (hexOctets digits) [] lent) (on (p .state) table) → r ≡ carriedTurn next k
+    → (p next : Player) → next ≡ nextLine p → (t : Telling) → t ≡ tellingOf next 0 true → (table after : List ℕ) (k : Called) (r : Told) (out new : List ℕ)
+    → k ≡ calledOf t (M.receive a (hexOctets digits) [] lent) (on (p .state) table) → r ≡ carriedTurn next k
     → after ≡ tableLeft (M.receive a (hexOctets digits) [] lent) (on (p .state) table)
-    → new ≡ over (callText (M.receive a (hexOctets digits) [] lent) (on (p .state) table)) out → Made (eventStep p table (meant read line)) r after out new
-rx-made read line a at e digits d p next n table after k r out new h f t u =
+    → new ≡ over (callText t (M.receive a (hexOctets digits) [] lent) (on (p .state) table)) out → Made (eventStep p table (meant read line)) r after out new
+rx-made read line a at e digits d p next n t w table after k r out new h f u v =
     made-as out (event-rx p table read line a at e)
-    (call-made p next n table after k r out new (M.receive a (hexOctets (drop at line)) [] lent)
-    (h ∙ ap (λ (l : List ℕ). calledOf (M.receive a (hexOctets l) [] lent) (on (p .state) table)) d) f
-    (t ∙ ap (λ (l : List ℕ). tableLeft (M.receive a (hexOctets l) [] lent) (on (p .state) table)) d)
-    (u ∙ ap (λ (l : List ℕ). over (callText (M.receive a (hexOctets l) [] lent) (on (p .state) table)) out) d))
+    (call-made p next n t w table after k r out new (M.receive a (hexOctets (drop at line)) [] lent)
+    (h ∙ ap (λ (l : List ℕ). calledOf t (M.receive a (hexOctets l) [] lent) (on (p .state) table)) d) f
+    (u ∙ ap (λ (l : List ℕ). tableLeft (M.receive a (hexOctets l) [] lent) (on (p .state) table)) d)
+    (v ∙ ap (λ (l : List ℕ). over (callText t (M.receive a (hexOctets l) [] lent) (on (p .state) table)) out) d))
+
+-- whether a line's call is traced
+pub told-traced : (p next : Player) → next ≡ nextLine p → (t : Telling) → t ≡ tellingOf next 0 true → t .traced ≡ p .traced
+unfolding tellingOf nextLine
+told-traced p next n t w = ap (λ (x : Telling). x .traced) w ∙ ap (λ (q : Player). q .traced) n
+
+-- a line of the trace has room
+pub formed-room : (traced : Bool) (out : List ℕ) (st : State) → formedCheck traced (roomy out) st ≡ 0 → traced ≡ true → 65536 ≤ length out
+unfolding formedCheck roomy check
+formed-room traced out st e z = go (stateFormed st) traced z (leb 65536 (length out)) refl e
+  where
+    go : (f t : Bool) → t ≡ true → (b : Bool) → leb 65536 (length out) ≡ b → _≡_ {A = ℕ} (cond f (cond (not t || b) 0 3) 1) 0 → 65536 ≤ length out
+    go true true z true k h = leb-true 65536 (length out) k
+    go true true z false k h = absurd (omega (arith, h))
+    go true false z b k h = absurd (false≢true z)
+    go false t z b k h = absurd (omega (arith, h))
 
 -- ---- lines and ticks
 
@@ -525,13 +537,13 @@ module _ (p : Player) (table line out : List ℕ) (used : ℕ) (r : Told) where
 
   module _ (read : Read) (m : meant read line ≡ eventOf line) (h : isSetting (p .lines) line ≡ false) where
     abbrev asked : ℕ
-    asked = eventChecked (roomy out) (p .state) (length table) (meant read line)
+    asked = eventChecked (p .traced) (roomy out) (p .state) (length table) (meant read line)
 
     event-as : taken ≡ given p table asked (withUsed used (eventStep p table (meant read line)))
     unfolding lineStep lineChecked
     event-as =
         line-as asked (eventStep p table (meant read line))
-        (on-false (isSetting (p .lines) line) _ _ h ∙ ap (eventChecked (roomy out) (p .state) (length table)) (sym m))
+        (on-false (isSetting (p .lines) line) _ _ h ∙ ap (eventChecked (p .traced) (roomy out) (p .state) (length table)) (sym m))
         (on-false (isSetting (p .lines) line) _ _ h ∙ ap (eventStep p table) (sym m))
 
     pub line-refused : (refusal : ℕ) → refusal ≡ asked → (refusal ≡ 0 → ⊥) → r ≡ toldOf (silentStep p table refusal) → Made taken r table out out
@@ -550,14 +562,16 @@ module _ (p : Player) (table out : List ℕ) (r : Told) (refusal : ℕ) (e : ref
   tick-refused n f =
       made-as out (ap (λ (k : ℕ). given p table k (tickStep p table)) (sym e) ∙ given-refused p table refusal _ n) (silent-made p table refusal r out f)
 
-  pub tick-made : refusal ≡ 0 → (q : Player) → q ≡ due p (p .address) (p .ticks - 1)
-      → (k : Called) (after new : List ℕ) → k ≡ calledOf (M.tick (p .address) lent) (on (p .state) table) → r ≡ carriedTurn q k
-      → after ≡ tableLeft (M.tick (p .address) lent) (on (p .state) table) → new ≡ over (callText (M.tick (p .address) lent) (on (p .state) table)) out
+  pub tick-made : refusal ≡ 0 → (q : Player) → q ≡ due p (p .address) (p .ticks - 1) → (t : Telling) → t ≡ tellingOf p (p .passed) (eqb (p .ticks) 1)
+      → (k : Called) (after new : List ℕ) → k ≡ calledOf t (M.tick (p .address) lent) (on (p .state) table) → r ≡ carriedTurn q k
+      → after ≡ tableLeft (M.tick (p .address) lent) (on (p .state) table) → new ≡ over (callText t (M.tick (p .address) lent) (on (p .state) table)) out
       → Made ticked r after out new
-  unfolding tickStep callStep carriedTurn calledOf toldOf due
-  tick-made z q d k after new c f a t =
-      made-as out (given-whole p table _ (tickStep p table) (sym e ∙ z))
-      (f ∙ ap (λ (x : Player). carriedTurn x k) d ∙ ap (carriedTurn (due p (p .address) (p .ticks - 1))) c, (a, t))
+  unfolding tickStep callStep carriedTurn calledOf calledFor callText happenedBy happenedIn toldOf due
+  tick-made z q d t w k after new c f a u =
+      made-as out (given-whole p table _ (tickStep p table) (sym e ∙ z)) (
+        f ∙ ap (λ (x : Player). carriedTurn x k) d ∙ ap (carriedTurn (due p (p .address) (p .ticks - 1))) (c ∙ ap (λ (x : Telling). calledOf x (M.tick (p .address) lent) (on (p .state) table)) w),
+        (a, u ∙ ap (λ (x : Telling). over (callText x (M.tick (p .address) lent) (on (p .state) table)) out) w),
+      )
 
 -- ---- the turn
 

@@ -1,6 +1,5 @@
 -- The player: it is handed a recording in pieces, and each turn makes at most one call. 02: "Playing a recording must
--- equal
--- making the calls of its good lines one by one"; that it does is stated in the crate `recording_theorem`.
+-- equal making the calls of its good lines one by one"; that it does is stated in the crate `recording_theorem`.
 use Prim.Native.Nat.{ℕ, _-_}
 use mathlib.Core.Bool.{Bool, true, false, cond, not, _&&_, _||_}
 use mathlib.Core.List.{List, []}
@@ -20,15 +19,27 @@ use Rattle.recording_gather.specs.Gathering.{gathered, lineAfter, lineHeld}
 use Rattle.recording_bad_line.specs.BadLine.{badText, oneMore}
 use Rattle.model.specs.Model as M
 use Rattle.model.specs.Theorem.{Gateway, outcomeOf, tableLeft, seenOf}
-use Rattle.recording_call.specs.Told.{lent, callText, on}
+use Rattle.recording_trace.specs.declared.Telling.{Telling}
+use Rattle.recording_call.specs.Told.{lent, passedAfter, happenedBy, callText, on}
 use Rattle.recording_player.specs.declared.Player.{Player}
 use Rattle.recording_player.specs.declared.Told.{Told}
 
 -- ---- the player's record
 
--- before the first line
-unfoldable pub beginning : Player
-beginning = record { lines = 0; held = 0; broken = false; address = 0; ticks = 0; settings = noSettings; state = zeroState }
+-- before the first line; calls are told of by a trace, or not
+unfoldable pub beginning : Bool → Player
+beginning traced =
+    record {
+      lines = 0;
+      held = 0;
+      broken = false;
+      address = 0;
+      ticks = 0;
+      settings = noSettings;
+      state = zeroState;
+      traced = traced;
+      passed = 0;
+    }
 
 -- one line more was taken, and none of the next is held
 unfoldable pub nextLine : Player → Player
@@ -41,6 +52,8 @@ nextLine p =
       ticks = p .ticks;
       settings = p .settings;
       state = p .state;
+      traced = p .traced;
+      passed = p .passed;
     }
 
 -- so many octets of a line are held
@@ -54,6 +67,8 @@ holding p held =
       ticks = p .ticks;
       settings = p .settings;
       state = p .state;
+      traced = p .traced;
+      passed = p .passed;
     }
 
 -- nothing more is played or listed
@@ -67,9 +82,11 @@ breaking p =
       ticks = p .ticks;
       settings = p .settings;
       state = p .state;
+      traced = p .traced;
+      passed = p .passed;
     }
 
--- so many ticks are due for the neighbour at this address
+-- so many ticks are due for the neighbour at this address, and none was passed over
 unfoldable pub due : Player → ℕ → ℕ → Player
 due p a count =
     record {
@@ -80,6 +97,8 @@ due p a count =
       ticks = count;
       settings = p .settings;
       state = p .state;
+      traced = p .traced;
+      passed = 0;
     }
 
 unfoldable pub settled : Player → Settings → Player
@@ -92,6 +111,8 @@ settled p g =
       ticks = p .ticks;
       settings = g;
       state = p .state;
+      traced = p .traced;
+      passed = p .passed;
     }
 
 unfoldable pub having : Player → State → Player
@@ -104,7 +125,28 @@ having p st =
       ticks = p .ticks;
       settings = p .settings;
       state = st;
+      traced = p .traced;
+      passed = p .passed;
     }
+
+-- so many ticks were passed over since the last that was told of
+unfoldable pub passing : Player → ℕ → Player
+passing p passed =
+    record {
+      lines = p .lines;
+      held = p .held;
+      broken = p .broken;
+      address = p .address;
+      ticks = p .ticks;
+      settings = p .settings;
+      state = p .state;
+      traced = p .traced;
+      passed = passed;
+    }
+
+-- how a call of the line just taken is told of
+unfoldable pub tellingOf : Player → ℕ → Bool → Telling
+tellingOf p passed last = record { traced = p .traced; line = p .lines; passed = passed; last = last }
 
 -- ---- what one turn leaves
 
@@ -144,9 +186,9 @@ lineFits line = leb 4118 (length line)
 abbrev pub callChecks : Bool → State → ℕ → ℕ
 callChecks room st numbers = lentChecks st (eqb numbers 3072) room 0
 
--- 01: "fresh, add and remove take no table or buffer"
-unfoldable pub formedCheck : State → ℕ
-formedCheck st = check (stateFormed st) 1 0
+-- 01: "fresh, add and remove take no table or buffer"; where a line of the trace tells of them it needs room
+unfoldable pub formedCheck : Bool → Bool → State → ℕ
+formedCheck traced room st = check (stateFormed st) 1 (check (not traced || room) 3 0)
 
 -- a line's report needs room; without, its number is still the answer: 02: "19, bad line, before all others"
 unfoldable pub reportCheck : Bool → ℕ → ℕ
@@ -226,37 +268,41 @@ isSetting lines line = ltb lines 4 || (eqb lines 4 && whenNumber (quietOf line) 
 
 -- ---- the events
 
--- one call: the state that it leaves is this player's from then on
-unfoldable pub callStep : Player → List ℕ → M.Call → Step
-callStep p table call =
+-- one call, so told of: the state that it leaves is this player's from then on
+unfoldable pub callStep : Player → List ℕ → Telling → M.Call → Step
+callStep p table t call =
     record {
-      player = having p ((outcomeOf call (on (p .state) table)) .state);
+      player = passing (having p ((outcomeOf call (on (p .state) table)) .state)) (passedAfter t (happenedBy call (on (p .state) table)));
       table = tableLeft call (on (p .state) table);
       answer = (outcomeOf call (on (p .state) table)) .answer;
       used = 0;
-      text = callText call (on (p .state) table);
+      text = callText t call (on (p .state) table);
     }
+
+-- the only call of the line just taken
+unfoldable pub onlyStep : Player → List ℕ → M.Call → Step
+onlyStep p table call = callStep p table (tellingOf p 0 true) call
 
 -- an event; ticks are made one a turn, from the next on
 unfoldable pub eventStep : Player → List ℕ → Event → Step
 eventStep p table bad = badStep p table
-eventStep p table (add a asn) = callStep (nextLine p) table (M.add a asn)
-eventStep p table (remove a) = callStep (nextLine p) table (M.remove a)
-eventStep p table (start a) = callStep (nextLine p) table (M.start a lent)
-eventStep p table (stop a) = callStep (nextLine p) table (M.stop a lent)
+eventStep p table (add a asn) = onlyStep (nextLine p) table (M.add a asn)
+eventStep p table (remove a) = onlyStep (nextLine p) table (M.remove a)
+eventStep p table (start a) = onlyStep (nextLine p) table (M.start a lent)
+eventStep p table (stop a) = onlyStep (nextLine p) table (M.stop a lent)
 eventStep p table (tick a count) = silentStep (due (nextLine p) a count) table 0
-eventStep p table (rx a octets) = callStep (nextLine p) table (M.receive a octets [] lent)
+eventStep p table (rx a octets) = onlyStep (nextLine p) table (M.receive a octets [] lent)
 
--- what it asks for: a report or a call with replies needs room, add and remove do not, and a tick line writes nothing
--- itself
-unfoldable pub eventChecked : Bool → State → ℕ → Event → ℕ
-eventChecked room st numbers bad = reportCheck room 19
-eventChecked room st numbers (add a asn) = formedCheck st
-eventChecked room st numbers (remove a) = formedCheck st
-eventChecked room st numbers (start a) = callChecks room st numbers
-eventChecked room st numbers (stop a) = callChecks room st numbers
-eventChecked room st numbers (tick a count) = 0
-eventChecked room st numbers (rx a octets) = callChecks room st numbers
+-- what it asks for: a report or a call with replies needs room, add and remove only for a trace, and a tick line writes
+-- nothing itself
+unfoldable pub eventChecked : Bool → Bool → State → ℕ → Event → ℕ
+eventChecked traced room st numbers bad = reportCheck room 19
+eventChecked traced room st numbers (add a asn) = formedCheck traced room st
+eventChecked traced room st numbers (remove a) = formedCheck traced room st
+eventChecked traced room st numbers (start a) = callChecks room st numbers
+eventChecked traced room st numbers (stop a) = callChecks room st numbers
+eventChecked traced room st numbers (tick a count) = 0
+eventChecked traced room st numbers (rx a octets) = callChecks room st numbers
 
 -- an ended line
 unfoldable pub lineStep : Player → List ℕ → List ℕ → Step
@@ -265,11 +311,12 @@ lineStep p table line = cond (isSetting (p .lines) line) (headStep p table line)
 unfoldable pub lineChecked : Bool → Player → List ℕ → List ℕ → ℕ
 lineChecked room p table line =
     cond (isSetting (p .lines) line) (reportCheck room ((headStep p table line) .answer))
-    (eventChecked room (p .state) (length table) (eventOf line))
+    (eventChecked (p .traced) room (p .state) (length table) (eventOf line))
 
 -- one of the ticks that are due
 unfoldable pub tickStep : Player → List ℕ → Step
-tickStep p table = callStep (due p (p .address) (p .ticks - 1)) table (M.tick (p .address) lent)
+tickStep p table =
+    callStep (due p (p .address) (p .ticks - 1)) table (tellingOf p (p .passed) (eqb (p .ticks) 1)) (M.tick (p .address) lent)
 
 -- ---- the turn: a tick that is due, or a line if the piece ends one
 

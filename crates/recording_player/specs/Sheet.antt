@@ -26,15 +26,32 @@ startState = (freshOf (record { asn = 9; own = 2148073473; capability = 1; net =
 unfoldable pub settingsWith : ℕ → Settings
 settingsWith capability = record { asn = 9; own = 2148073473; capability = capability; net = 0; quiet = 0 }
 
--- behind so many lines, with so many octets held and ticks due for 128.9.0.5
+-- a player that plays, as far as it is said: behind so many lines, with so many octets held and ticks due for 128.9.0.5
+unfoldable pub playing : ℕ → ℕ → ℕ → Settings → State → Player
+playing lines held ticks g st =
+    record { lines = lines; held = held; broken = false; address = 2148073477; ticks = ticks; settings = g; state = st; traced = false; passed = 0 }
+
 unfoldable pub playerAt : ℕ → ℕ → ℕ → Player
-playerAt lines held ticks =
-    record { lines = lines; held = held; broken = false; address = 2148073477; ticks = ticks; settings = settingsWith 3; state = startState }
+playerAt lines held ticks = playing lines held ticks (settingsWith 3) startState
+
+-- the same, with a trace, and so many ticks passed over
+unfoldable pub tracing : ℕ → Player → Player
+tracing passed p =
+    record {
+      lines = p .lines;
+      held = p .held;
+      broken = p .broken;
+      address = p .address;
+      ticks = p .ticks;
+      settings = p .settings;
+      state = p .state;
+      traced = true;
+      passed = passed;
+    }
 
 -- behind so many lines, with settings that fresh took
 unfoldable pub playerSet : ℕ → Player
-playerSet lines =
-    record { lines = lines; held = 0; broken = false; address = 0; ticks = 0; settings = startState .settings; state = startState }
+playerSet lines = playing lines 0 0 (startState .settings) startState
 
 -- what is left of `quiet` in the player's settings and in its state
 unfoldable pub quietAfter : Player → List ℕ → List ℕ
@@ -44,28 +61,20 @@ quietAfter p input =
 
 -- the same, its state not well formed
 unfoldable pub playerUnformed : Player
-playerUnformed = record { lines = 4; held = 0; broken = false; address = 0; ticks = 0; settings = settingsWith 3; state = zeroState }
+playerUnformed = playing 4 0 0 (settingsWith 3) zeroState
 
 -- behind five lines, 128.9.0.5 Idle in slot 0 for so many seconds, with so many ticks due
 unfoldable pub playerLate : ℕ → ℕ → Player
 playerLate seconds ticks =
-    record {
-      lines = 5;
-      held = 0;
-      broken = false;
+    playing 5 0 ticks (startState .settings)
+    (withSlot startState 0
+    (record {
       address = 2148073477;
-      ticks = ticks;
-      settings = startState .settings;
-      state =
-          withSlot startState 0
-          (record {
-            address = 2148073477;
-            asn = 7;
-            neighbour = idle;
-            rows = 0;
-            seconds = record { idle = seconds; acquisition = 0; down = 0; up = 0; cease = 0 };
-          });
-    }
+      asn = 7;
+      neighbour = idle;
+      rows = 0;
+      seconds = record { idle = seconds; acquisition = 0; down = 0; up = 0; cease = 0 };
+    }))
 
 -- the seconds in Idle and the ticks still due after so many turns
 unfoldable pub throughTurns : ℕ → Player → List ℕ
@@ -122,6 +131,17 @@ pub record Sheet : Type 0 where
   pub quiet-sixth : onTurn true (playerSet 5) 4118 3072 (text "quiet=1\n") ≡ 19 ∷ 8 ∷ 6 ∷ 6 ∷ 0 ∷ 0 ∷ []
   pub quiet-sixth-state : quietAfter (playerSet 5) (text "quiet=1\n") ≡ 0 ∷ 0 ∷ []
   pub quiet-fourth : onTurn true (playerSet 3) 4118 3072 (text "quiet=1\n") ≡ 19 ∷ 8 ∷ 6 ∷ 4 ∷ 0 ∷ 0 ∷ []
+  -- with a trace: add and remove need room too, after 1; a call has its line, of 235 octets here
+  pub traced-add : onTurn true (tracing 0 (playerAt 4 0 0)) 4118 0 (text "add=128.9.0.5/7\n") ≡ 0 ∷ 16 ∷ 235 ∷ 5 ∷ 0 ∷ 0 ∷ []
+  pub traced-add-short : onTurn false (tracing 0 (playerAt 4 0 0)) 4118 0 (text "add=128.9.0.5/7\n") ≡ 3 ∷ 0 ∷ 0 ∷ 4 ∷ 0 ∷ 0 ∷ []
+  pub traced-remove-short : onTurn false (tracing 0 (playerAt 4 0 0)) 4118 0 (text "remove=128.9.0.5\n") ≡ 3 ∷ 0 ∷ 0 ∷ 4 ∷ 0 ∷ 0 ∷ []
+  pub traced-add-not-formed : onTurn false (tracing 0 playerUnformed) 4118 0 (text "add=128.9.0.5/7\n") ≡ 1 ∷ 0 ∷ 0 ∷ 4 ∷ 0 ∷ 0 ∷ []
+  -- a quiet tick is passed over and counted; the line's last has its line, and the count begins again
+  pub traced-tick : onTurn true (tracing 4 (playerAt 5 0 3)) 0 3072 (text "stop") ≡ 5 ∷ 0 ∷ 0 ∷ 5 ∷ 0 ∷ 2 ∷ []
+  pub traced-tick-passed : ((turnStep true (tracing 4 (playerAt 5 0 3)) [] (zeros 3072) []) .player) .passed ≡ 5
+  pub traced-last : onTurn true (tracing 4 (playerAt 5 0 1)) 0 3072 (text "stop") ≡ 5 ∷ 0 ∷ 236 ∷ 5 ∷ 0 ∷ 0 ∷ []
+  pub traced-last-passed : ((turnStep true (tracing 4 (playerAt 5 0 1)) [] (zeros 3072) []) .player) .passed ≡ 0
+  pub plain-passed : ((turnStep true (playerAt 5 0 3) [] (zeros 3072) []) .player) .passed ≡ 0
   -- the end: a missing line, an unended one
   pub missing : summary (closeStep true (playerAt 2 0 0) []) ≡ 19 ∷ 0 ∷ 6 ∷ 3 ∷ 0 ∷ 0 ∷ []
   pub missing-short : summary (closeStep false (playerAt 2 0 0) []) ≡ 19 ∷ 0 ∷ 0 ∷ 2 ∷ 0 ∷ 0 ∷ []

@@ -12,7 +12,7 @@ use Rattle.recording_player.specs.declared.Player.{Player}
 use Rattle.recording_player.specs.declared.Told.{Told}
 use Rattle.recording_player.specs.declared.Heard.{Heard}
 use Rattle.recording_player.specs.declared.Heard.the-variants as H
-use Rattle.recording_player.specs.Player.{having, withAs, withOwn, withCapability, withNet}
+use Rattle.recording_player.specs.Player.{having, passing, withAs, withOwn, withCapability, withNet}
 
 -- the settings with that of the line behind so many
 unfoldable pub heardOf : Settings → ℕ → List ℕ → Heard
@@ -25,7 +25,7 @@ heardOf g lines line =
 
 -- after a call
 unfoldable pub carriedTurn : Player → Called → Told
-carriedTurn p c = record { player = having p (c .state); answer = c .answer; used = 0; written = c .written }
+carriedTurn p c = record { player = passing (having p (c .state)) (c .passed); answer = c .answer; used = 0; written = c .written }
 
 -- the same turn, with so many octets used
 unfoldable pub usingOf : Told → ℕ → Told

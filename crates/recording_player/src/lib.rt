@@ -4,6 +4,7 @@ use gateway_state::State;
 use neighbour::Settings;
 use recording_call::Called;
 use recording_lines::Read;
+use recording_trace::Telling;
 use text_values::Number;
 ghost use mathlib.Core.Path.{_≡_};
 ghost use mathlib.Core.Bool.{true};
@@ -14,7 +15,7 @@ ghost use lib.ListN.{length};
 ghost use Rattle.octets.specs.Buffer.{over};
 ghost use Rattle.recording_lines.specs.Meant.{meant};
 ghost use Rattle.recording_lines.specs.Steps.{standsOn};
-ghost use Rattle.recording_player.specs.Player.{beginning, nextLine, holding, breaking, due, settled, having, roomy, callChecks, formedCheck, reportCheck, reported, given, withUsed, badStep, brokenStep, silentStep, freshStep, headStep, isSetting, eventStep, eventChecked, lineStep, lineChecked, tickStep, turnStep, heldOf, toldOf, closeStep, finishStep};
+ghost use Rattle.recording_player.specs.Player.{beginning, nextLine, holding, breaking, due, settled, having, passing, tellingOf, roomy, callChecks, formedCheck, reportCheck, reported, given, withUsed, badStep, brokenStep, silentStep, freshStep, headStep, isSetting, eventStep, eventChecked, lineStep, lineChecked, tickStep, turnStep, heldOf, toldOf, closeStep, finishStep};
 ghost use Rattle.recording_player.specs.Steps.{heardOf, carriedTurn, usingOf};
 
 // The least output buffer, as for a listing.
@@ -34,6 +35,9 @@ pub struct Player {
     // The settings as far as they are read.
     pub settings: Settings,
     pub state: State,
+    // Whether calls are told of by a trace, and how many ticks were passed over since the last one told of.
+    pub traced: bool,
+    pub passed: u64,
 }
 
 // What a turn leaves: how many octets of the piece it used and how many it wrote, and the number of 01 or 19 for a bad
@@ -58,6 +62,8 @@ fn next_line(p: Player) -> Player
         ticks: p.ticks,
         settings,
         state,
+        traced: p.traced,
+        passed: p.passed,
     }
 }
 
@@ -83,6 +89,7 @@ fn owe_ticks(p: Player, address: u32, count: u32) -> Player
     let mut next = p;
     next.address = address;
     next.ticks = count;
+    next.passed = 0;
     next
 }
 
@@ -100,6 +107,26 @@ fn have(p: Player, st: State) -> Player
     let mut next = p;
     next.state = st;
     next
+}
+
+fn pass_over(p: Player, passed: u64) -> Player
+    ensures { λ r. ⌜ r ≡ passing p passed ⌝ }
+{
+    let mut next = p;
+    next.passed = passed;
+    next
+}
+
+// How the player's next call is told of.
+fn telling(p: Player, passed: u64, last: bool) -> Telling
+    ensures { λ r. ⌜ r ≡ tellingOf p passed last ⌝ }
+{
+    Telling {
+        traced: p.traced,
+        line: p.lines,
+        passed,
+        last,
+    }
 }
 
 // A turn that uses and writes nothing: all is as given.
@@ -148,12 +175,17 @@ fn report_answer(answer: u8, room: usize) -> u8
     0
 }
 
-// Add and remove ask for a state only.
-fn formed_answer(st: State) -> u8
-    ensures { λ r. ⌜ r ≡ formedCheck st ⌝ }
+// Add and remove ask for a state only, and for room where a line tells of them.
+fn formed_answer(traced: bool, st: State, room: usize) -> u8
+    ensures { λ r. ⌜ r ≡ formedCheck traced (leb 65536 room) st ⌝ }
 {
     if !gateway_state::well_formed(st) {
         return 1;
+    }
+    if traced {
+        if room < ROOM {
+            return 3;
+        }
     }
     0
 }
@@ -294,7 +326,7 @@ fn carry(p: Player, c: Called) -> Told
 {
     let st = c.state;
     Told {
-        player: have(p, st),
+        player: pass_over(have(p, st), c.passed),
         answer: c.answer,
         used: 0,
         written: c.written,
@@ -302,13 +334,13 @@ fn carry(p: Player, c: Called) -> Told
 }
 
 // What an event asks of the host: the number that refuses it, 0 if nothing is wanting.
-fn event_answer(st: State, read: Read, numbers: usize, room: usize) -> u8
-    ensures { λ r. ⌜ ((line : List ℕ) → r ≡ eventChecked (leb 65536 room) st numbers (meant read line)) ⌝ }
+fn event_answer(traced: bool, st: State, read: Read, numbers: usize, room: usize) -> u8
+    ensures { λ r. ⌜ ((line : List ℕ) → r ≡ eventChecked traced (leb 65536 room) st numbers (meant read line)) ⌝ }
 {
     match read {
         Read::Bad => report_answer(19, room),
-        Read::Add(_, _) => formed_answer(st),
-        Read::Remove(_) => formed_answer(st),
+        Read::Add(_, _) => formed_answer(traced, st, room),
+        Read::Remove(_) => formed_answer(traced, st, room),
         Read::Tick(_, _) => 0,
         _ => lent_answer(st, numbers, room),
     }
@@ -316,23 +348,24 @@ fn event_answer(st: State, read: Read, numbers: usize, room: usize) -> u8
 
 // An event that has what it asks for.
 fn play_event(p: Player, read: Read, line: &[u8], table: &mut [u32], out: &mut [u8]) -> Told
-    requires { ⌜ (standsOn read (now line) ≡ true) × (eventChecked (roomy (now out)) (p .state) (length (now table)) (meant read (now line)) ≡ 0) ⌝ }
+    requires { ⌜ (standsOn read (now line) ≡ true) × (eventChecked (p .traced) (roomy (now out)) (p .state) (length (now table)) (meant read (now line)) ≡ 0) ⌝ }
     ensures { λ r. ⌜ r ≡ toldOf (eventStep p (now (table .entry)) (meant read (now (line .entry)))) ⌝ }
     ensures { λ _. ⌜ now (table .exit) ≡ (eventStep p (now (table .entry)) (meant read (now (line .entry)))) .table ⌝ }
     ensures { λ _. ⌜ now (out .exit) ≡ over ((eventStep p (now (table .entry)) (meant read (now (line .entry)))) .text) (now (out .entry)) ⌝ }
 {
     let next = next_line(p);
     let st = p.state;
+    let t = telling(next, 0, true);
     match read {
         Read::Bad => skip_line(p, out),
-        Read::Add(a, asn) => carry(next, recording_call::add_neighbour(st, a, asn)),
-        Read::Remove(a) => carry(next, recording_call::remove_neighbour(st, a)),
-        Read::Start(a) => carry(next, recording_call::start_neighbour(st, table, out, a)),
-        Read::Stop(a) => carry(next, recording_call::stop_neighbour(st, table, out, a)),
+        Read::Add(a, asn) => carry(next, recording_call::add_neighbour(st, out, t, a, asn)),
+        Read::Remove(a) => carry(next, recording_call::remove_neighbour(st, out, t, a)),
+        Read::Start(a) => carry(next, recording_call::start_neighbour(st, table, out, t, a)),
+        Read::Stop(a) => carry(next, recording_call::stop_neighbour(st, table, out, t, a)),
         Read::Tick(a, count) => silent(owe_ticks(next, a, count), 0),
         Read::Receive(a, at) => carry(
             next,
-            recording_call::hear_neighbour(st, table, out, a, &line[at..]),
+            recording_call::hear_neighbour(st, table, out, t, a, &line[at..]),
         ),
     }
 }
@@ -348,7 +381,7 @@ fn take_line(p: Player, line: &[u8], used: usize, table: &mut [u32], out: &mut [
     }
     let read = recording_lines::event(line);
     let st = p.state;
-    let refusal = event_answer(st, read, table.len(), out.len());
+    let refusal = event_answer(p.traced, st, read, table.len(), out.len());
     if refusal != 0 {
         return silent(p, refusal);
     }
@@ -368,15 +401,16 @@ fn make_tick(p: Player, table: &mut [u32], out: &mut [u8]) -> Told
         return silent(p, refusal);
     }
     let next = owe_ticks(p, p.address, p.ticks - 1);
+    let t = telling(p, p.passed, p.ticks == 1);
     carry(
         next,
-        recording_call::tick_neighbour(st, table, out, p.address),
+        recording_call::tick_neighbour(st, table, out, t, p.address),
     )
 }
 
 // Before the first line.
-pub fn begin() -> Player
-    ensures { λ r. ⌜ r ≡ beginning ⌝ }
+pub fn begin(traced: bool) -> Player
+    ensures { λ r. ⌜ r ≡ beginning traced ⌝ }
 {
     let settings = Settings {
         asn: 0,
@@ -395,12 +429,13 @@ pub fn begin() -> Player
         ticks: 0,
         settings,
         state,
+        traced,
+        passed: 0,
     }
 }
 
 // One turn: a tick if any is due, else the line that the piece of the recording ends, if it does. Where the host has
-// not lent what it needs, it is refused, and
-// the host comes back with all as it was.
+// not lent what it needs, it is refused, and the host comes back with all as it was.
 pub fn turn(p: Player, line: &mut [u8], table: &mut [u32], input: &[u8], out: &mut [u8]) -> Told
     ensures { λ r. ⌜ r ≡ toldOf (turnStep (roomy (now (out .entry))) p (now (line .entry)) (now (table .entry)) (now (input .entry))) ⌝ }
     ensures { λ _. ⌜ now (line .exit) ≡ heldOf p (now (line .entry)) (now (input .entry)) ⌝ }

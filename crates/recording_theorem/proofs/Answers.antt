@@ -24,7 +24,7 @@ use Rattle.model.specs.Theorem.{outcomeOf}
 use Rattle.recording_call.specs.Told.{on}
 use Rattle.gateway_rules.specs.Calls.{lentChecks}
 use Rattle.recording_player.specs.declared.Player.{Player}
-use Rattle.recording_player.specs.Player.{nextLine, Step, lineFits, callChecks, reportCheck, given, withUsed, silentStep, badStep, brokenStep, withNet, freshStep, netStep, quietLineStep, headStep, isSetting, callStep, eventStep, eventChecked, lineStep, lineChecked, endedLine, freeStep, turnChecked, turnStep}
+use Rattle.recording_player.specs.Player.{nextLine, Step, lineFits, callChecks, reportCheck, given, withUsed, silentStep, badStep, brokenStep, withNet, freshStep, netStep, quietLineStep, headStep, isSetting, callStep, onlyStep, eventStep, eventChecked, lineStep, lineChecked, endedLine, freeStep, turnChecked, turnStep}
 use Rattle.recording_player.proofs.Laws.{head-net, head-quiet, setting-early, setting-late, setting-none, setting-quiet}
 use Rattle.recording_theorem.specs.Output.{callsOf}
 use Rattle.recording_theorem.specs.Answers.{TakesLine, checksRoom, Answers, EveryAnswer}
@@ -65,11 +65,11 @@ module _ (p : Player) (line table input : List ℕ) (t : TakesLine p line input)
 
   -- an event
   module _ (no : isSetting (p .lines) whole ≡ false) (e : Event) (k : eventOf whole ≡ e) where
-    event-is : (room : Bool) → turnStep room p line table input ≡ given p table (eventChecked room (p .state) (length table) e) (withUsed used (eventStep p table e))
+    event-is : (room : Bool) → turnStep room p line table input ≡ given p table (eventChecked (p .traced) room (p .state) (length table) e) (withUsed used (eventStep p table e))
     unfolding lineChecked lineStep
     event-is room =
-        turn-is room (eventChecked room (p .state) (length table) e) (eventStep p table e)
-        (on-false (isSetting (p .lines) whole) _ _ no ∙ ap (eventChecked room (p .state) (length table)) k)
+        turn-is room (eventChecked (p .traced) room (p .state) (length table) e) (eventStep p table e)
+        (on-false (isSetting (p .lines) whole) _ _ no ∙ ap (eventChecked (p .traced) room (p .state) (length table)) k)
         (on-false (isSetting (p .lines) whole) _ _ no ∙ ap (eventStep p table) k)
 
   -- an event that asks for room is no setting
@@ -88,7 +88,7 @@ module _ (p : Player) (line table input : List ℕ) (t : TakesLine p line input)
       go true f = sym (setting-none (p .lines) whole late (eqb-true (p .lines) 4 f) (no-quiet e k h))
       go false f = sym (setting-late (p .lines) whole late (eqb-false (p .lines) 4 f))
 
-  bad-19 : (room : Bool) → (given p table (eventChecked room (p .state) (length table) bad) (withUsed used (eventStep p table bad))) .answer ≡ 19
+  bad-19 : (room : Bool) → (given p table (eventChecked (p .traced) room (p .state) (length table) bad) (withUsed used (eventStep p table bad))) .answer ≡ 19
   unfolding given ifOk eventChecked reportCheck check withUsed eventStep badStep silentStep
   bad-19 true = refl
   bad-19 false = refl
@@ -98,7 +98,7 @@ module _ (p : Player) (line table input : List ℕ) (t : TakesLine p line input)
     unfolding lentChecks check
     lent-is room = rw (formed, eq-eqb (length table) 3072 long)
 
-    reply-asks : (room : Bool) (e : Event) → checksRoom e ≡ true → eventChecked room (p .state) (length table) e ≡ check room 3 0
+    reply-asks : (room : Bool) (e : Event) → checksRoom e ≡ true → eventChecked (p .traced) room (p .state) (length table) e ≡ check room 3 0
     unfolding eventChecked checksRoom
     reply-asks room bad h = absurd (false≢true h)
     reply-asks room (add a asn) h = absurd (false≢true h)
@@ -108,7 +108,7 @@ module _ (p : Player) (line table input : List ℕ) (t : TakesLine p line input)
     reply-asks room (tick a count) h = absurd (false≢true h)
     reply-asks room (rx a octets) h = lent-is room
 
-    short-3 : (e : Event) → checksRoom e ≡ true → (given p table (eventChecked false (p .state) (length table) e) (withUsed used (eventStep p table e))) .answer ≡ 3
+    short-3 : (e : Event) → checksRoom e ≡ true → (given p table (eventChecked (p .traced) false (p .state) (length table) e) (withUsed used (eventStep p table e))) .answer ≡ 3
     unfolding given ifOk silentStep check
     short-3 e h = ap (λ (n : ℕ). (given p table n (withUsed used (eventStep p table e))) .answer) (reply-asks false e h)
 
@@ -117,7 +117,7 @@ module _ (p : Player) (line table input : List ℕ) (t : TakesLine p line input)
     headCall none (call ∷ rest) = call
 
     event-own : (e : Event) (call : M.Call) → checksRoom e ≡ true → callsOf e ≡ call ∷ [] → (eventStep p table e) .answer ≡ (outcomeOf call (on (p .state) table)) .answer
-    unfolding eventStep callStep nextLine callsOf checksRoom headCall
+    unfolding eventStep onlyStep callStep nextLine callsOf checksRoom headCall
     event-own bad call h c = absurd (false≢true h)
     event-own (add a asn) call h c = absurd (false≢true h)
     event-own (remove a) call h c = absurd (false≢true h)
@@ -127,7 +127,7 @@ module _ (p : Player) (line table input : List ℕ) (t : TakesLine p line input)
     event-own (rx a octets) call h c = ap (λ (l : List M.Call). (outcomeOf (headCall call l) (on (p .state) table)) .answer) c
 
     made-own : (e : Event) (call : M.Call) → checksRoom e ≡ true → callsOf e ≡ call ∷ []
-        → (given p table (eventChecked true (p .state) (length table) e) (withUsed used (eventStep p table e))) .answer ≡ (outcomeOf call (on (p .state) table)) .answer
+        → (given p table (eventChecked (p .traced) true (p .state) (length table) e) (withUsed used (eventStep p table e))) .answer ≡ (outcomeOf call (on (p .state) table)) .answer
     unfolding given ifOk check withUsed
     made-own e call h c =
         ap (λ (n : ℕ). (given p table n (withUsed used (eventStep p table e))) .answer) (reply-asks true e h) ∙ event-own e call h c

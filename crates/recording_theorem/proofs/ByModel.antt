@@ -26,11 +26,13 @@ use Rattle.recording_lines.specs.Lines.{Event, bad, add, remove, start, stop, t
 use Rattle.recording_lines.proofs.Events.{settings}
 use Rattle.recording_bad_line.specs.BadLine.{badText, oneMore}
 use Rattle.model.specs.Model as M
-use Rattle.model.specs.Theorem.{Gateway, Seen, seenOf, seenFrom, gatewayStep, gatewayFrom, begun, run, seenBy, shownIn, shown, bufferOf, carriesOctets}
+use Rattle.model.specs.Theorem.{Gateway, Seen, seenOf, seenFrom, gatewayStep, gatewayFrom, outcomeOf, begun, run, seenBy, stateOf, shownIn, shown, bufferOf, carriesOctets}
 use Rattle.model.proofs.Theorem.{list-of-calls}
-use Rattle.recording_call.specs.Told.{txText, repliesText, addressedTo}
+use Rattle.recording_trace.specs.Trace.{Happened}
+use Rattle.recording_trace.specs.Steps.{happenedIn}
+use Rattle.recording_call.specs.Told.{addressedTo, deedOf, messageIn, tellText, passedAfter, happenedBy}
 use Rattle.recording_player.specs.Player.{listedIn}
-use Rattle.recording_theorem.specs.Output.{RecordedLine, ended, unended, linesFrom, linesOf, eventIn, valueIn, Opening, broken, opened, fromQuiet, takenBy, fromNet, fromCapability, fromOwn, openingOf, callsOf, goodCalls, badLine, called, callsTold, eventTold, toldFrom, toldText, eventsText, openingText}
+use Rattle.recording_theorem.specs.Output.{RecordedLine, ended, unended, linesFrom, linesOf, eventIn, valueIn, Opening, broken, opened, fromQuiet, takenBy, fromNet, fromCapability, fromOwn, openingOf, callsOf, goodCalls, happened, badLine, called, telling, callsTold, eventTold, toldFrom, toldText, eventsText, openingText}
 use Rattle.recording_theorem.proofs.ByCalls as C
 use Rattle.recording_theorem.proofs.Laws.{join-append, quiet-taken}
 use Rattle.recording_theorem.proofs.OneByOne.{in-octets, from-octets}
@@ -38,8 +40,9 @@ use Rattle.recording_theorem.proofs.OneByOne.{in-octets, from-octets}
 -- ---- what is seen of a call is what the model says of it
 
 -- from this gateway and this model on, whatever the calls
-abbrev Agrees : Gateway → M.Model → Type 0
-Agrees b m = (calls : List M.Call) → every carriesOctets calls ≡ true → seenFrom b calls ≡ shown calls (M.saidFrom m calls)
+record Agrees (b : Gateway) (m : M.Model) : Type 0 where
+  seen : (calls : List M.Call) → every carriesOctets calls ≡ true → seenFrom b calls ≡ shown calls (M.saidFrom m calls)
+  state : (calls : List M.Call) → (gatewayFrom b calls) .state ≡ stateOf (M.modelFrom m calls)
 
 tailOf : List Seen → List Seen
 tailOf [] = []
@@ -52,11 +55,24 @@ headOf none (seen ∷ rest) = seen
 module _ (b : Gateway) (m : M.Model) (h : Agrees b m) (call : M.Call) (o : carriesOctets call ≡ true) where
   agrees-now : seenOf call b ≡ shownIn (bufferOf call) ((M.step call m) .said)
   unfolding seenFrom shown M.saidFrom every headOf
-  agrees-now = ap (headOf (seenOf call b)) (h (call ∷ []) (and-both (carriesOctets call) true o refl))
+  agrees-now = ap (headOf (seenOf call b)) (h .seen (call ∷ []) (and-both (carriesOctets call) true o refl))
 
   agrees-next : Agrees (gatewayStep call b) ((M.step call m) .model)
-  unfolding seenFrom shown M.saidFrom every tailOf
-  agrees-next calls e = ap tailOf (h (call ∷ calls) (and-both (carriesOctets call) (every carriesOctets calls) o e))
+  unfolding seenFrom shown M.saidFrom every tailOf gatewayFrom M.modelFrom
+  agrees-next =
+      record {
+        seen = λ calls e. ap tailOf (h .seen (call ∷ calls) (and-both (carriesOctets call) (every carriesOctets calls) o e));
+        state = λ calls. h .state (call ∷ calls);
+      }
+
+  -- the state before it, and after it
+  before-is : b .state ≡ stateOf m
+  unfolding gatewayFrom M.modelFrom
+  before-is = h .state []
+
+  after-is : (outcomeOf call b) .state ≡ stateOf ((M.step call m) .model)
+  unfolding gatewayFrom M.modelFrom gatewayStep
+  after-is = h .state (call ∷ [])
 
 agrees-calls : (calls : List M.Call) (b : Gateway) (m : M.Model) → Agrees b m → every carriesOctets calls ≡ true → Agrees (gatewayFrom b calls) (M.modelFrom m calls)
 unfolding gatewayFrom M.modelFrom every
@@ -68,57 +84,83 @@ agrees-calls (call ∷ calls) b m h e =
 -- ---- as text
 
 -- a buffer that the two messages were laid over
-shown-text : (a : ℕ) (buffer : List ℕ) (said : M.Said) → repliesText a (shownIn buffer said) ≡ txText a (said .first) ++ txText a (said .second)
-unfolding repliesText shownIn over
-shown-text a buffer said =
+first-shown : (buffer : List ℕ) (said : M.Said) → take ((shownIn buffer said) .first) ((shownIn buffer said) .buffer) ≡ said .first
+unfolding shownIn over
+first-shown buffer said =
     rw (
       append-assoc (said .first) (said .second) (drop (length (said .first ++ said .second)) buffer),
       take-append-seam (said .first) (said .second ++ drop (length (said .first ++ said .second)) buffer),
+    )
+
+second-shown : (buffer : List ℕ) (said : M.Said)
+    → take ((shownIn buffer said) .second) (drop ((shownIn buffer said) .first) ((shownIn buffer said) .buffer)) ≡ said .second
+unfolding shownIn over
+second-shown buffer said =
+    rw (
+      append-assoc (said .first) (said .second) (drop (length (said .first ++ said .second)) buffer),
       drop-append-seam (said .first) (said .second ++ drop (length (said .first ++ said .second)) buffer),
       take-append-seam (said .second) (drop (length (said .first ++ said .second)) buffer),
     )
 
-calls-text : (calls : List M.Call) (b : Gateway) (m : M.Model) → Agrees b m → every carriesOctets calls ≡ true
-    → join (map C.toldText (C.callsTold b calls)) ≡ join (map toldText (callsTold m calls))
-unfolding C.toldText C.callsTold toldText callsTold join every
-calls-text [] b m h e = refl
-calls-text (call ∷ calls) b m h e =
-    let o = and-left (carriesOctets call) (every carriesOctets calls) e in
-    let one = ap (repliesText (addressedTo call)) (agrees-now b m h call o) ∙ shown-text (addressedTo call) (bufferOf call) ((M.step call m) .said) in
-    let more = calls-text calls (gatewayStep call b) ((M.step call m) .model) (agrees-next b m h call o) (and-right (carriesOctets call) (every carriesOctets calls) e) in
-    ap (λ (l : List ℕ). l ++ join (map C.toldText (C.callsTold (gatewayStep call b) calls))) one
-    ∙ ap (λ (l : List ℕ). (txText (addressedTo call) ((M.step call m) .said .first) ++ txText (addressedTo call) ((M.step call m) .said .second)) ++ l) more
+-- what happened by the call's own definitions is what happened as the model says
+same-happening : (b : Gateway) (m : M.Model) → Agrees b m → (call : M.Call) → carriesOctets call ≡ true → happenedBy call b ≡ happened call m
+unfolding happenedBy happenedIn happened seenOf shownIn
+same-happening b m h call o =
+    let said = (M.step call m) .said in
+    let now = agrees-now b m h call o in
+    λ i. record {
+      deed = deedOf call;
+      address = addressedTo call;
+      received = messageIn call;
+      before = before-is b m h call o i;
+      after = after-is b m h call o i;
+      answer = (now i) .answer;
+      first = (ap (λ (s : Seen). take (s .first) (s .buffer)) now ∙ first-shown (bufferOf call) said) i;
+      second = (ap (λ (s : Seen). take (s .second) (drop (s .first) (s .buffer))) now ∙ second-shown (bufferOf call) said) i;
+    }
 
-event-text : (number : ℕ) (b : Gateway) (m : M.Model) → Agrees b m → (e : Event) → every carriesOctets (callsOf e) ≡ true
-    → join (map C.toldText (C.eventTold number b e)) ≡ join (map toldText (eventTold number m e))
+calls-text : (traced : Bool) (number passed : ℕ) (calls : List M.Call) (b : Gateway) (m : M.Model) → Agrees b m → every carriesOctets calls ≡ true
+    → join (map C.toldText (C.callsTold traced number passed b calls)) ≡ join (map toldText (callsTold traced number passed m calls))
+unfolding C.toldText C.callsTold toldText callsTold join every
+calls-text traced number passed [] b m h e = refl
+calls-text traced number passed (call ∷ calls) b m h e =
+    let o = and-left (carriesOctets call) (every carriesOctets calls) e in
+    let t = telling traced number passed calls in
+    ap (λ (x : Happened). tellText t x ++ join (map C.toldText (C.callsTold traced number (passedAfter t x) (gatewayStep call b) calls))) (same-happening b m h call o)
+    ∙ ap (λ (l : List ℕ). tellText t (happened call m) ++ l)
+    (calls-text traced number (passedAfter t (happened call m)) calls (gatewayStep call b) ((M.step call m) .model) (agrees-next b m h call o)
+    (and-right (carriesOctets call) (every carriesOctets calls) e))
+
+event-text : (traced : Bool) (number : ℕ) (b : Gateway) (m : M.Model) → Agrees b m → (e : Event) → every carriesOctets (callsOf e) ≡ true
+    → join (map C.toldText (C.eventTold traced number b e)) ≡ join (map toldText (eventTold traced number m e))
 unfolding C.eventTold C.toldText eventTold toldText join
-event-text number b m h bad o = refl
-event-text number b m h (add a asn) o = calls-text (callsOf (add a asn)) b m h o
-event-text number b m h (remove a) o = calls-text (callsOf (remove a)) b m h o
-event-text number b m h (start a) o = calls-text (callsOf (start a)) b m h o
-event-text number b m h (stop a) o = calls-text (callsOf (stop a)) b m h o
-event-text number b m h (tick a count) o = calls-text (callsOf (tick a count)) b m h o
-event-text number b m h (rx a octets) o = calls-text (callsOf (rx a octets)) b m h o
+event-text traced number b m h bad o = refl
+event-text traced number b m h (add a asn) o = calls-text traced number 0 (callsOf (add a asn)) b m h o
+event-text traced number b m h (remove a) o = calls-text traced number 0 (callsOf (remove a)) b m h o
+event-text traced number b m h (start a) o = calls-text traced number 0 (callsOf (start a)) b m h o
+event-text traced number b m h (stop a) o = calls-text traced number 0 (callsOf (stop a)) b m h o
+event-text traced number b m h (tick a count) o = calls-text traced number 0 (callsOf (tick a count)) b m h o
+event-text traced number b m h (rx a octets) o = calls-text traced number 0 (callsOf (rx a octets)) b m h o
 
 -- the code counts these lines as they are
 counted : (lines : ℕ) → lines < 18446744073709551615 → oneMore lines ≡ suc lines
 unfolding oneMore
 counted lines k = rw (lt-ltb lines 18446744073709551615 k)
 
-events-text : (l : List RecordedLine) (lines : ℕ) (b : Gateway) (m : M.Model) → Agrees b m → lines + length l ≤ 18446744073709551615
-    → C.eventsText lines b l ≡ eventsText lines m l
+events-text : (traced : Bool) (l : List RecordedLine) (lines : ℕ) (b : Gateway) (m : M.Model) → Agrees b m → lines + length l ≤ 18446744073709551615
+    → C.eventsText traced lines b l ≡ eventsText traced lines m l
 unfolding C.eventsText eventsText C.toldFrom toldFrom
-events-text [] lines b m h k = refl
-events-text (line ∷ l) lines b m h k =
+events-text traced [] lines b m h k = refl
+events-text traced (line ∷ l) lines b m h k =
     let e = eventIn line in
     let b′ = gatewayFrom b (callsOf e) in
     let m′ = M.modelFrom m (callsOf e) in
     rw (counted lines (omega (arith, k)))
-    (join-append C.toldText (C.eventTold (suc lines) b e) (C.toldFrom (suc lines) b′ l)
-    ∙ ap (λ (t : List ℕ). t ++ join (map C.toldText (C.toldFrom (suc lines) b′ l))) (event-text (suc lines) b m h e (in-octets line))
-    ∙ ap (λ (t : List ℕ). join (map toldText (eventTold (suc lines) m e)) ++ t)
-    (events-text l (suc lines) b′ m′ (agrees-calls (callsOf e) b m h (in-octets line)) (omega (arith, k)))
-    ∙ sym (join-append toldText (eventTold (suc lines) m e) (toldFrom (suc lines) m′ l)))
+    (join-append C.toldText (C.eventTold traced (suc lines) b e) (C.toldFrom traced (suc lines) b′ l)
+    ∙ ap (λ (t : List ℕ). t ++ join (map C.toldText (C.toldFrom traced (suc lines) b′ l))) (event-text traced (suc lines) b m h e (in-octets line))
+    ∙ ap (λ (t : List ℕ). join (map toldText (eventTold traced (suc lines) m e)) ++ t)
+    (events-text traced l (suc lines) b′ m′ (agrees-calls (callsOf e) b m h (in-octets line)) (omega (arith, k)))
+    ∙ sym (join-append toldText (eventTold traced (suc lines) m e) (toldFrom traced (suc lines) m′ l)))
 
 -- the listing, in a buffer of the least size
 listing-said : (m : M.Model) → (M.step (M.listing (zeros 65536)) m) .said ≡ M.listingSaid m
@@ -196,19 +238,19 @@ lines-few begun (octet ∷ rest) =
 
 -- ---- the whole
 
-opening-text : (lines : ℕ) (o : Opening) → Opens lines o → lines ≤ 18446744073709551615 → C.openingText o ≡ openingText o
+opening-text : (traced : Bool) (lines : ℕ) (o : Opening) → Opens lines o → lines ≤ 18446744073709551615 → C.openingText traced o ≡ openingText traced o
 unfolding C.openingText openingText Opens run begun M.model seenBy
-opening-text lines (broken number) h k = refl
-opening-text lines (opened g before events) h k =
-    let agrees : Agrees (begun g) (M.empty g) = λ calls o. list-of-calls g (h .0) calls .seen o in
-    ap (λ (t : List ℕ). t ++ C.listed (run g (goodCalls events))) (events-text events before (begun g) (M.empty g) agrees (omega (arith, h .1, k)))
-    ∙ ap (λ (t : List ℕ). eventsText before (M.empty g) events ++ t)
+opening-text traced lines (broken number) h k = refl
+opening-text traced lines (opened g before events) h k =
+    let agrees : Agrees (begun g) (M.empty g) = record { seen = λ calls o. list-of-calls g (h .0) calls .seen o; state = λ calls. list-of-calls g (h .0) calls .state } in
+    ap (λ (t : List ℕ). t ++ C.listed (run g (goodCalls events))) (events-text traced events before (begun g) (M.empty g) agrees (omega (arith, h .1, k)))
+    ∙ ap (λ (t : List ℕ). eventsText traced before (M.empty g) events ++ t)
     (listing-text (run g (goodCalls events)) (M.model g (goodCalls events)) (agrees-calls (goodCalls events) (begun g) (M.empty g) agrees (from-octets events)))
 
-pub recording-text : (recording : List ℕ) → length recording < 18446744073709551616 → C.openingText (openingOf (linesOf recording)) ≡ openingText (openingOf (linesOf recording))
+pub recording-text : (traced : Bool) (recording : List ℕ) → length recording < 18446744073709551616 → C.openingText traced (openingOf (linesOf recording)) ≡ openingText traced (openingOf (linesOf recording))
 unfolding linesOf
-recording-text recording k =
-    opening-text (length (linesFrom [] recording)) (openingOf (linesFrom [] recording)) (opening-opens (linesFrom [] recording)) (omega (arith, k, lines-few [] recording))
+recording-text traced recording k =
+    opening-text traced (length (linesFrom [] recording)) (openingOf (linesFrom [] recording)) (opening-opens (linesFrom [] recording)) (omega (arith, k, lines-few [] recording))
 
 -- fresh took the settings of a recording that is played
 pub fresh-took : (recording : List ℕ) (g : Settings) (lines : ℕ) (events : List RecordedLine) → openingOf (linesOf recording) ≡ opened g lines events

@@ -35,3 +35,7 @@ cases =
       refused-quiet = refl;
       refused-bad = refl;
     }
+
+pub traced-cases : Cases.TracedCases
+unfolding opened
+traced-cases = record { seconds = refl; started = refl; one-by-one = refl; broken = refl }

@@ -21,7 +21,7 @@ use Rattle.model.proofs.Simulation.{represent}
 use Rattle.recording_call.specs.Told.{on}
 use Rattle.gateway_rules.specs.Calls.{lentChecks}
 use Rattle.recording_player.specs.declared.Player.{Player}
-use Rattle.recording_player.specs.Player.{beginning, due, having, holding, Step, roomy, lineFits, callChecks, formedCheck, reportCheck, given, withUsed, silentStep, callStep, isSetting, eventChecked, lineChecked, tickStep, endedLine, freeStep, turnChecked, turnStep, heldOf}
+use Rattle.recording_player.specs.Player.{beginning, due, having, passing, holding, Step, roomy, lineFits, callChecks, formedCheck, reportCheck, given, withUsed, silentStep, callStep, isSetting, eventChecked, lineChecked, tickStep, endedLine, freeStep, turnChecked, turnStep, heldOf}
 use Rattle.recording_theorem.specs.Theorem as T
 use Rattle.recording_theorem.specs.Theorem.{Deck, Lent, stepOn, afterTurn, writing, drive, isDone, isPlenty, plenty, EveryRecordingEnds}
 use Rattle.recording_theorem.proofs.Held.{used-most, used-some}
@@ -39,27 +39,28 @@ lent-passes st table h =
       eq-eqb (length table) 3072 (ap (λ (b : Gateway). length (b .table)) (h .is) ∙ table-length (h .model) (h .good)),
     )
 
-formed-passes : (st : State) (table : List ℕ) → Stands (on st table) → formedCheck st ≡ 0
+formed-passes : (traced : Bool) (st : State) (table : List ℕ) → Stands (on st table) → formedCheck traced true st ≡ 0
 unfolding formedCheck check on represent
-formed-passes st table h = rw (ap (λ (b : Gateway). stateFormed (b .state)) (h .is) ∙ h .good .formed)
+formed-passes true st table h = rw (ap (λ (b : Gateway). stateFormed (b .state)) (h .is) ∙ h .good .formed)
+formed-passes false st table h = rw (ap (λ (b : Gateway). stateFormed (b .state)) (h .is) ∙ h .good .formed)
 
-event-passes : (st : State) (table : List ℕ) → Stands (on st table) → (e : Event) → eventChecked true st (length table) e ≡ 0
+event-passes : (traced : Bool) (st : State) (table : List ℕ) → Stands (on st table) → (e : Event) → eventChecked traced true st (length table) e ≡ 0
 unfolding eventChecked reportCheck check
-event-passes st table h bad = refl
-event-passes st table h (add a asn) = formed-passes st table h
-event-passes st table h (remove a) = formed-passes st table h
-event-passes st table h (start a) = lent-passes st table h
-event-passes st table h (stop a) = lent-passes st table h
-event-passes st table h (tick a count) = refl
-event-passes st table h (rx a octets) = lent-passes st table h
+event-passes traced st table h bad = refl
+event-passes traced st table h (add a asn) = formed-passes traced st table h
+event-passes traced st table h (remove a) = formed-passes traced st table h
+event-passes traced st table h (start a) = lent-passes st table h
+event-passes traced st table h (stop a) = lent-passes st table h
+event-passes traced st table h (tick a count) = refl
+event-passes traced st table h (rx a octets) = lent-passes st table h
 
 line-passes : (p : Player) (table line : List ℕ) → p .broken ≡ false → Kept p table → lineChecked true p table line ≡ 0
 unfolding lineChecked reportCheck check
 line-passes p table line f k = go (isSetting (p .lines) line) refl
   where
-    go : (b : Bool) → isSetting (p .lines) line ≡ b → cond b 0 (eventChecked true (p .state) (length table) (eventOf line)) ≡ 0
+    go : (b : Bool) → isSetting (p .lines) line ≡ b → cond b 0 (eventChecked (p .traced) true (p .state) (length table) (eventOf line)) ≡ 0
     go true e = refl
-    go false e = event-passes (p .state) table (k .stands f (no-setting (p .lines) line e)) (eventOf line)
+    go false e = event-passes (p .traced) (p .state) table (k .stands f (no-setting (p .lines) line e)) (eventOf line)
 
 -- ---- what is left to do
 
@@ -133,7 +134,7 @@ module _ (d : Deck) (held : List ℕ) (ok : Sound d held) (room : Bool) (size : 
 
   module _ (f : p .broken ≡ false) where
     tick-works : (count : ℕ) → p .ticks ≡ suc count → Working (tickStep p (d .table))
-    unfolding tickStep callStep due having
+    unfolding tickStep callStep due having passing
     tick-works count e =
         let a = work-playing p input f in
         let b = work-playing ((tickStep p (d .table)) .player) input f in
@@ -255,8 +256,8 @@ ends (lent ∷ lents) d held input ok h =
 
 pub every-recording-ends : EveryRecordingEnds
 unfolding work T.freshDeck beginning
-every-recording-ends line recording lents fits h =
-    ends lents (T.freshDeck line) [] recording (start-sound line fits) (omega (arith, begun line, h))
+every-recording-ends traced line recording lents fits h =
+    ends lents (T.freshDeck traced line) [] recording (start-sound traced line fits) (omega (arith, begun line, h))
   where
-    begun : (line : List ℕ) → work ((T.freshDeck line) .player) recording ≡ 86401 * length recording
+    begun : (line : List ℕ) → work ((T.freshDeck traced line) .player) recording ≡ 86401 * length recording
     begun line = omega arith

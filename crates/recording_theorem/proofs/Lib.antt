@@ -7,6 +7,7 @@ pub mod Short
 pub mod Due
 pub mod LineEnds
 pub mod Turns
+pub mod Trace
 pub mod Listed
 pub mod ByModel
 pub mod Playing

@@ -28,8 +28,8 @@ use Rattle.model.proofs.Simulation.{represent, good-step}
 use Rattle.model.proofs.Theorem.{step-is, begun-is, empty-good}
 use Rattle.recording_call.specs.Told.{lent, callText, on}
 use Rattle.recording_player.specs.declared.Player.{Player}
-use Rattle.recording_player.specs.Player.{nextLine, breaking, due, settled, having, Step, badStep, brokenStep, silentStep, withAs, withOwn, withCapability, withNet, settingStep, freshStep, netStep, headStep, isSetting, callStep, eventStep, lineStep}
-use Rattle.recording_theorem.specs.Output.{RecordedLine, ended, eventIn, valueIn, Opening, broken, opened, fromQuiet, takenBy, fromNet, fromCapability, fromOwn, openingOf, ticks, callsOf}
+use Rattle.recording_player.specs.Player.{nextLine, breaking, due, settled, having, passing, tellingOf, Step, badStep, brokenStep, silentStep, withAs, withOwn, withCapability, withNet, settingStep, freshStep, netStep, headStep, isSetting, callStep, onlyStep, eventStep, lineStep}
+use Rattle.recording_theorem.specs.Output.{RecordedLine, ended, eventIn, valueIn, Opening, broken, opened, fromQuiet, takenBy, fromNet, fromCapability, fromOwn, openingOf, ticks, callsOf, telling}
 use Rattle.recording_theorem.proofs.ByCalls.{badLine, callsTold, eventTold, toldText, openingText}
 use Rattle.recording_player.proofs.Laws.{head-quiet, setting-late, setting-none, setting-quiet}
 use Rattle.recording_theorem.proofs.Laws.{quiet-taken}
@@ -91,7 +91,7 @@ pub record Follows (s : Step) (d : Due) (l : List RecordedLine) : Type 0 where
 -- ---- one of the first four lines
 
 module _ (p : Player) (l : List RecordedLine) (z : p .ticks ≡ 0) where
-  broken-follows : (answer : ℕ) → Follows (brokenStep p emptyTable answer) (openingDue (broken (oneMore (p .lines)))) l
+  broken-follows : (answer : ℕ) → Follows (brokenStep p emptyTable answer) (openingDue (p .traced) (broken (oneMore (p .lines)))) l
   unfolding brokenStep breaking nextLine openingDue openingText finalOf remaining saying silence
   broken-follows answer =
       record {
@@ -103,21 +103,21 @@ module _ (p : Player) (l : List RecordedLine) (z : p .ticks ≡ 0) where
   module _ (f : p .broken ≡ false) where
     setting-follows : (set : Settings → ℕ → Settings) (next : ℕ → Opening) → oneMore (p .lines) < 4
         → ((n : ℕ) → next n ≡ openingFrom (oneMore (p .lines)) (set (p .settings) n) l)
-        → (value : Number) → Follows (settingStep p emptyTable value set) (openingDue (whenNumber value (broken (oneMore (p .lines))) next)) l
+        → (value : Number) → Follows (settingStep p emptyTable value set) (openingDue (p .traced) (whenNumber value (broken (oneMore (p .lines))) next)) l
     unfolding settingStep whenNumber silentStep settled nextLine saying
     setting-follows set next k h Bad = broken-follows 19
     setting-follows set next k h (Is n) =
         record {
           kept = kept-early (settled (nextLine p) (set (p .settings) n)) z (λ e g. absurd (omega (arith, k, g))) (λ e g. absurd (omega (arith, k, g)));
           none = refl;
-          same = ap openingDue (h n) ∙ sym (remaining-early (settled (nextLine p) (set (p .settings) n)) emptyTable l f (omega (arith, k)));
+          same = ap (openingDue (p .traced)) (h n) ∙ sym (remaining-early (settled (nextLine p) (set (p .settings) n)) emptyTable l f (omega (arith, k)));
         }
 
 -- fresh starts the gateway, and the events follow
-opened-due : (g : Settings) (lines : ℕ) (l : List RecordedLine)
-    → openingDue (opened g lines l) ≡ eventsDue lines (on ((freshOf g) .state) emptyTable) l
+opened-due : (traced : Bool) (g : Settings) (lines : ℕ) (l : List RecordedLine)
+    → openingDue traced (opened g lines l) ≡ eventsDue traced lines (on ((freshOf g) .state) emptyTable) l
 unfolding openingDue openingText finalOf run begun on eventsDue
-opened-due g lines l = refl
+opened-due traced g lines l = refl
 
 -- what it starts with is that of the empty model
 stands-fresh : (g : Settings) → (freshOf g) .answer ≡ 0
@@ -127,7 +127,7 @@ stands-fresh g e = record { model = M.empty g; good = empty-good g e; is = begun
 
 -- no tick is due: what is due are the events
 late-events : (p : Player) (table : List ℕ) (l : List RecordedLine) → p .broken ≡ false → 5 ≤ p .lines → p .ticks ≡ 0
-    → remaining p table l ≡ eventsDue (p .lines) (on (p .state) table) l
+    → remaining p table l ≡ eventsDue (p .traced) (p .lines) (on (p .state) table) l
 unfolding callsDue callsTold gatewayFrom ticks join saying
 late-events p table l f late z = remaining-late p table l f late ∙ rw z
 
@@ -141,10 +141,10 @@ module _ (p : Player) (l : List RecordedLine) (z : p .ticks ≡ 0) (f : p .broke
   fresh-kept e = kept-early begins z (λ _ _. record { took = e; state = refl }) (λ _ _. stands-fresh g e)
 
 module _ (p : Player) (l : List RecordedLine) (z : p .ticks ≡ 0) (f : p .broken ≡ false) (four : oneMore (p .lines) ≡ 4) where
-  net-broken : (answer : ℕ) → Follows (brokenStep p emptyTable answer) (openingDue (broken 4)) l
-  net-broken answer = subst (λ (number : ℕ). Follows (brokenStep p emptyTable answer) (openingDue (broken number)) l) four (broken-follows p l z answer)
+  net-broken : (answer : ℕ) → Follows (brokenStep p emptyTable answer) (openingDue (p .traced) (broken 4)) l
+  net-broken answer = subst (λ (number : ℕ). Follows (brokenStep p emptyTable answer) (openingDue (p .traced) (broken number)) l) four (broken-follows p l z answer)
 
-  fresh-follows : (g : Settings) → Follows (freshStep p emptyTable g) (openingDue (takenBy g l)) l
+  fresh-follows : (g : Settings) → Follows (freshStep p emptyTable g) (openingDue (p .traced) (takenBy g l)) l
   unfolding freshStep takenBy silentStep settled having nextLine saying openingFrom
   fresh-follows g = go (eqb (fresh .answer) 0) refl
     where
@@ -153,17 +153,17 @@ module _ (p : Player) (l : List RecordedLine) (z : p .ticks ≡ 0) (f : p .broke
 
       go : (b : Bool) → eqb (fresh .answer) 0 ≡ b
           → Follows (cond b (silentStep (having (settled (nextLine p) g) (fresh .state)) emptyTable 0) (brokenStep p emptyTable (fresh .answer)))
-          (openingDue (cond b (fromQuiet g l) (broken 4))) l
+          (openingDue (p .traced) (cond b (fromQuiet g l) (broken 4))) l
       go true e =
           record {
             kept = fresh-kept p l z f g (eqb-true (fresh .answer) 0 e);
             none = refl;
-            same = sym (remaining-early (begins p l z f g) emptyTable l f (omega (arith, four)) ∙ ap (λ (n : ℕ). openingDue (openingFrom n g l)) four);
+            same = sym (remaining-early (begins p l z f g) emptyTable l f (omega (arith, four)) ∙ ap (λ (n : ℕ). openingDue (p .traced) (openingFrom n g l)) four);
           }
       go false e = net-broken (fresh .answer)
 
   net-follows : (value : Number) → Follows (netStep p emptyTable value)
-      (openingDue (whenNumber value (broken 4) (λ net. takenBy (withNet (p .settings) net) l))) l
+      (openingDue (p .traced) (whenNumber value (broken 4) (λ net. takenBy (withNet (p .settings) net) l))) l
   unfolding netStep whenNumber
   net-follows Bad = net-broken 19
   net-follows (Is net) = fresh-follows (withNet (p .settings) net)
@@ -171,7 +171,7 @@ module _ (p : Player) (l : List RecordedLine) (z : p .ticks ≡ 0) (f : p .broke
 -- the fifth: fresh takes the settings with `quiet` too
 module _ (p : Player) (line : List ℕ) (l : List RecordedLine) (z : p .ticks ≡ 0) (f : p .broken ≡ false) (four : p .lines ≡ 4) (b : Started p) where
   quiet-follows : (n : ℕ) → quietOf line ≡ Is n
-      → Follows (freshStep p emptyTable (withQuiet (p .settings) n)) (openingDue (fromQuiet (p .settings) (ended line ∷ l))) l
+      → Follows (freshStep p emptyTable (withQuiet (p .settings) n)) (openingDue (p .traced) (fromQuiet (p .settings) (ended line ∷ l))) l
   unfolding freshStep fromQuiet valueIn whenNumber silentStep settled having nextLine oneMore saying
   quiet-follows n q =
       let g = withQuiet (p .settings) n in
@@ -181,42 +181,42 @@ module _ (p : Player) (line : List ℕ) (l : List RecordedLine) (z : p .ticks �
       (record {
         kept = fresh-kept p l z f g took;
         none = refl;
-        same = opened-due g 5 l ∙ sym (late-events (begins p l z f g) emptyTable l f (omega (arith, five)) z ∙ ap (λ (n : ℕ). eventsDue n (on ((freshOf g) .state) emptyTable) l) five);
+        same = opened-due (p .traced) g 5 l ∙ sym (late-events (begins p l z f g) emptyTable l f (omega (arith, five)) z ∙ ap (λ (n : ℕ). eventsDue (p .traced) n (on ((freshOf g) .state) emptyTable) l) five);
       })
 
 -- which of the four it is
 module _ (p : Player) (f : p .broken ≡ false) (z : p .ticks ≡ 0) (line : List ℕ) (l : List RecordedLine) where
   abbrev behindLines : ℕ → Player
   behindLines lines =
-      record { lines = lines; held = p .held; broken = p .broken; address = p .address; ticks = p .ticks; settings = p .settings; state = p .state }
+      record { lines = lines; held = p .held; broken = p .broken; address = p .address; ticks = p .ticks; settings = p .settings; state = p .state; traced = p .traced; passed = p .passed }
 
-  first-follows : Follows (lineStep (behindLines 0) emptyTable (take 4118 line)) (openingDue (openingFrom 0 (p .settings) (ended line ∷ l))) l
+  first-follows : Follows (lineStep (behindLines 0) emptyTable (take 4118 line)) (openingDue (p .traced) (openingFrom 0 (p .settings) (ended line ∷ l))) l
   unfolding lineStep isSetting headStep oneMore openingFrom openingOf valueIn withAs
   first-follows =
       rw (number-short ownAsOf (text "ownas=") decimal 65535 (settings .own-as) line)
       (setting-follows (behindLines 0) l z f withAs (λ asn. fromOwn asn l) (omega arith) (λ n. refl) (ownAsOf line))
 
-  second-follows : Follows (lineStep (behindLines 1) emptyTable (take 4118 line)) (openingDue (openingFrom 1 (p .settings) (ended line ∷ l))) l
+  second-follows : Follows (lineStep (behindLines 1) emptyTable (take 4118 line)) (openingDue (p .traced) (openingFrom 1 (p .settings) (ended line ∷ l))) l
   unfolding lineStep isSetting headStep oneMore openingFrom fromOwn valueIn withOwn
   second-follows =
       rw (number-short ownOf (text "own=") dotted 4294967295 (settings .own) line)
       (setting-follows (behindLines 1) l z f withOwn (λ own. fromCapability (p .settings .asn) own l) (omega arith) (λ n. refl) (ownOf line))
 
-  third-follows : Follows (lineStep (behindLines 2) emptyTable (take 4118 line)) (openingDue (openingFrom 2 (p .settings) (ended line ∷ l))) l
+  third-follows : Follows (lineStep (behindLines 2) emptyTable (take 4118 line)) (openingDue (p .traced) (openingFrom 2 (p .settings) (ended line ∷ l))) l
   unfolding lineStep isSetting headStep oneMore openingFrom fromCapability valueIn withCapability
   third-follows =
       rw (number-short capabilityOf (text "cap=") decimal 255 (settings .capability) line)
       (setting-follows (behindLines 2) l z f withCapability (λ capability. fromNet (p .settings .asn) (p .settings .own) capability l) (omega arith)
       (λ n. refl) (capabilityOf line))
 
-  fourth-follows : Follows (lineStep (behindLines 3) emptyTable (take 4118 line)) (openingDue (openingFrom 3 (p .settings) (ended line ∷ l))) l
+  fourth-follows : Follows (lineStep (behindLines 3) emptyTable (take 4118 line)) (openingDue (p .traced) (openingFrom 3 (p .settings) (ended line ∷ l))) l
   unfolding lineStep isSetting headStep oneMore openingFrom fromNet valueIn withNet
   fourth-follows =
       rw (number-short netOf (text "net=") dotted 4294967295 (settings .net) line)
       (net-follows (behindLines 3) l z f refl (netOf line))
 
   one-of-four : (lines : ℕ) → lines < 4
-      → Follows (lineStep (behindLines lines) emptyTable (take 4118 line)) (openingDue (openingFrom lines (p .settings) (ended line ∷ l))) l
+      → Follows (lineStep (behindLines lines) emptyTable (take 4118 line)) (openingDue (p .traced) (openingFrom lines (p .settings) (ended line ∷ l))) l
   one-of-four zero k = first-follows
   one-of-four (suc zero) k = second-follows
   one-of-four (suc (suc zero)) k = third-follows
@@ -231,18 +231,18 @@ module _ (p : Player) (f : p .broken ≡ false) (z : p .ticks ≡ 0) (line : Lis
 -- no tick is due: what is due are the events, if the first is no `quiet` line right after `net`
 pub then-events : (p : Player) (table : List ℕ) (l : List RecordedLine) → p .broken ≡ false → 4 ≤ p .lines → p .ticks ≡ 0 → Kept p table
     → (p .lines ≡ 4 → fromQuiet (p .settings) l ≡ opened (p .settings) 4 l)
-    → remaining p table l ≡ eventsDue (p .lines) (on (p .state) table) l
+    → remaining p table l ≡ eventsDue (p .traced) (p .lines) (on (p .state) table) l
 unfolding openingFrom on
 then-events p table l f late z k event = go (eqb (p .lines) 4) refl
   where
-    first : p .lines ≡ 4 → remaining p table l ≡ eventsDue (p .lines) (on (p .state) table) l
+    first : p .lines ≡ 4 → remaining p table l ≡ eventsDue (p .traced) (p .lines) (on (p .state) table) l
     first four =
         let start = k .started f four in
-        remaining-early p table l f (omega (arith, four)) ∙ ap (λ (n : ℕ). openingDue (openingFrom n (p .settings) l)) four
-        ∙ ap openingDue (event four) ∙ opened-due (p .settings) 4 l
-        ∙ (λ i. eventsDue (sym four i) (record { state = start .state i; table = sym (k .early (omega (arith, four))) i }) l)
+        remaining-early p table l f (omega (arith, four)) ∙ ap (λ (n : ℕ). openingDue (p .traced) (openingFrom n (p .settings) l)) four
+        ∙ ap (openingDue (p .traced)) (event four) ∙ opened-due (p .traced) (p .settings) 4 l
+        ∙ (λ i. eventsDue (p .traced) (sym four i) (record { state = start .state i; table = sym (k .early (omega (arith, four))) i }) l)
 
-    go : (b : Bool) → eqb (p .lines) 4 ≡ b → remaining p table l ≡ eventsDue (p .lines) (on (p .state) table) l
+    go : (b : Bool) → eqb (p .lines) 4 ≡ b → remaining p table l ≡ eventsDue (p .traced) (p .lines) (on (p .state) table) l
     go true e = first (eqb-true (p .lines) 4 e)
     go false e = late-events p table l f (let n : (p .lines ≡ 4) → ⊥ = eqb-false (p .lines) 4 e in omega (arith, late, n)) z
 
@@ -253,7 +253,7 @@ module _ (p : Player) (table : List ℕ) (l : List RecordedLine) (f : p .broken 
   abbrev lines : ℕ
   lines = oneMore (p .lines)
 
-  bad-follows : Follows (badStep p table) (saying (join (map toldText (badLine lines ∷ []))) (eventsDue lines here l)) l
+  bad-follows : Follows (badStep p table) (saying (join (map toldText (badLine lines ∷ []))) (eventsDue (p .traced) lines here l)) l
   unfolding badStep nextLine join toldText
   bad-follows =
       record {
@@ -263,20 +263,20 @@ module _ (p : Player) (table : List ℕ) (l : List RecordedLine) (f : p .broken 
       }
 
   call-follows : (call : M.Call)
-      → Follows (callStep (nextLine p) table call)
-      (saying (join (map toldText (callsTold here (call ∷ [])))) (eventsDue lines (gatewayFrom here (call ∷ [])) l)) l
-  unfolding callStep nextLine having join toldText callsTold callText gatewayFrom gatewayStep on
+      → Follows (onlyStep (nextLine p) table call)
+      (saying (join (map toldText (callsTold (p .traced) lines 0 here (call ∷ [])))) (eventsDue (p .traced) lines (gatewayFrom here (call ∷ [])) l)) l
+  unfolding onlyStep callStep nextLine having passing tellingOf telling join toldText callsTold callText gatewayFrom gatewayStep on
   call-follows call =
-      let s = callStep (nextLine p) table call in
+      let s = onlyStep (nextLine p) table call in
       record {
         kept = kept-late (s .player) (s .table) late f (omega (arith, z)) (stands-call here call stand);
         none = refl;
-        same = rw (append-nil (callText call here), late-events (s .player) (s .table) l f late z);
+        same = rw (append-nil (callText (tellingOf (nextLine p) 0 true) call here), late-events (s .player) (s .table) l f late z);
       }
 
   tick-follows : (a count : ℕ) → count ≤ 86400
       → Follows (silentStep (due (nextLine p) a count) table 0)
-      (saying (join (map toldText (callsTold here (ticks a count)))) (eventsDue lines (gatewayFrom here (ticks a count)) l)) l
+      (saying (join (map toldText (callsTold (p .traced) lines 0 here (ticks a count)))) (eventsDue (p .traced) lines (gatewayFrom here (ticks a count)) l)) l
   unfolding silentStep due nextLine saying callsDue
   tick-follows a count few =
       record {
@@ -287,7 +287,7 @@ module _ (p : Player) (table : List ℕ) (l : List RecordedLine) (f : p .broken 
 
   event-follows : (e : Event) → (isGood e ≡ true → inRange e ≡ true)
       → Follows (eventStep p table e)
-      (saying (join (map toldText (eventTold lines here e))) (eventsDue lines (gatewayFrom here (callsOf e)) l)) l
+      (saying (join (map toldText (eventTold (p .traced) lines here e))) (eventsDue (p .traced) lines (gatewayFrom here (callsOf e)) l)) l
   unfolding eventStep eventTold callsOf gatewayFrom isGood inRange
   event-follows bad r = bad-follows
   event-follows (add a asn) r = call-follows (M.add a asn)
@@ -323,7 +323,7 @@ module _ (p : Player) (table line : List ℕ) (l : List RecordedLine) (f : p .br
         event,
         event-short line,
         then-events p table (ended line ∷ l) f late z k (λ four. rw (unset four)),
-        line-due (p .lines) (on (p .state) table) (ended line) l,
+        line-due (p .traced) (p .lines) (on (p .state) table) (ended line) l,
       )
       (event-follows p table l f (more-lines (p .lines) late) z (k .stands f late) (eventOf line) (events .range line))
 
@@ -343,8 +343,8 @@ module _ (p : Player) (table line : List ℕ) (l : List RecordedLine) (f : p .br
     fifth-follows Bad q =
         events-follow (omega (arith, four)) (sym (setting-none (p .lines) (take 4118 line) (omega (arith, four)) four (short ∙ q))) (λ _. q)
     fifth-follows (Is n) q =
-        let due : remaining p table (ended line ∷ l) ≡ openingDue (fromQuiet (p .settings) (ended line ∷ l)) =
-        remaining-early p table (ended line ∷ l) f (omega (arith, four)) ∙ ap (λ (n : ℕ). openingDue (openingFrom n (p .settings) (ended line ∷ l))) four in
+        let due : remaining p table (ended line ∷ l) ≡ openingDue (p .traced) (fromQuiet (p .settings) (ended line ∷ l)) =
+        remaining-early p table (ended line ∷ l) f (omega (arith, four)) ∙ ap (λ (n : ℕ). openingDue (p .traced) (openingFrom n (p .settings) (ended line ∷ l))) four in
         rw (fresh-again n q, due, k .early (omega (arith, four))) (quiet-follows p line l z f four (k .started f four) n q)
 
   -- any line that has ended

@@ -1,7 +1,7 @@
 -- Playing the events is making their calls one by one. Assumes nothing.
 use Prim.Native.Nat.{ℕ, zero, suc}
 use mathlib.Core.Path.{_≡_, refl, ap, _∙_}
-use mathlib.Core.Bool.{true, _&&_}
+use mathlib.Core.Bool.{Bool, true, _&&_}
 use mathlib.Core.List.{List, [], _∷_, _++_}
 use lib.Dec.{ltb, leb}
 use lib.ListN.{length}
@@ -14,7 +14,8 @@ use Rattle.recording_lines.proofs.Events.{events}
 use Rattle.model.specs.Model as M
 use Rattle.model.specs.Theorem.{carriesOctets}
 use Rattle.model.proofs.Theorem.{list-of-calls}
-use Rattle.recording_theorem.specs.Output.{RecordedLine, ended, unended, eventIn, ticks, callsOf, goodCalls, Told, badLine, called, callsTold, eventTold, toldFrom}
+use Rattle.recording_call.specs.Told.{passedAfter}
+use Rattle.recording_theorem.specs.Output.{RecordedLine, ended, unended, eventIn, ticks, callsOf, goodCalls, happened, Told, badLine, called, telling, callsTold, eventTold, toldFrom}
 use Rattle.recording_theorem.specs.Theorem.{callsIn, saidIn, OneByOne}
 use Rattle.recording_theorem.proofs.Laws.{every-append, said-append}
 
@@ -24,30 +25,31 @@ calls-append : (l m : List Told) → callsIn (l ++ m) ≡ callsIn l ++ callsIn m
 unfolding callsIn
 calls-append [] m = refl
 calls-append (badLine number ∷ l) m = calls-append l m
-calls-append (called call said ∷ l) m = ap (λ (r : List M.Call). call ∷ r) (calls-append l m)
+calls-append (called t call h ∷ l) m = ap (λ (r : List M.Call). call ∷ r) (calls-append l m)
 
-calls-told : (m : M.Model) (calls : List M.Call) → callsIn (callsTold m calls) ≡ calls
+calls-told : (traced : Bool) (number passed : ℕ) (m : M.Model) (calls : List M.Call) → callsIn (callsTold traced number passed m calls) ≡ calls
 unfolding callsIn callsTold
-calls-told m [] = refl
-calls-told m (call ∷ calls) = ap (λ (r : List M.Call). call ∷ r) (calls-told ((M.step call m) .model) calls)
+calls-told traced number passed m [] = refl
+calls-told traced number passed m (call ∷ calls) =
+    ap (λ (r : List M.Call). call ∷ r) (calls-told traced number (passedAfter (telling traced number passed calls) (happened call m)) ((M.step call m) .model) calls)
 
-event-calls : (number : ℕ) (m : M.Model) (e : Event) → callsIn (eventTold number m e) ≡ callsOf e
+event-calls : (traced : Bool) (number : ℕ) (m : M.Model) (e : Event) → callsIn (eventTold traced number m e) ≡ callsOf e
 unfolding eventTold callsIn callsOf
-event-calls number m bad = refl
-event-calls number m (add a asn) = calls-told m (callsOf (add a asn))
-event-calls number m (remove a) = calls-told m (callsOf (remove a))
-event-calls number m (start a) = calls-told m (callsOf (start a))
-event-calls number m (stop a) = calls-told m (callsOf (stop a))
-event-calls number m (tick a count) = calls-told m (callsOf (tick a count))
-event-calls number m (rx a octets) = calls-told m (callsOf (rx a octets))
+event-calls traced number m bad = refl
+event-calls traced number m (add a asn) = calls-told traced number 0 m (callsOf (add a asn))
+event-calls traced number m (remove a) = calls-told traced number 0 m (callsOf (remove a))
+event-calls traced number m (start a) = calls-told traced number 0 m (callsOf (start a))
+event-calls traced number m (stop a) = calls-told traced number 0 m (callsOf (stop a))
+event-calls traced number m (tick a count) = calls-told traced number 0 m (callsOf (tick a count))
+event-calls traced number m (rx a octets) = calls-told traced number 0 m (callsOf (rx a octets))
 
-from-calls : (count : ℕ) (m : M.Model) (l : List RecordedLine) → callsIn (toldFrom count m l) ≡ goodCalls l
+from-calls : (traced : Bool) (count : ℕ) (m : M.Model) (l : List RecordedLine) → callsIn (toldFrom traced count m l) ≡ goodCalls l
 unfolding toldFrom goodCalls callsIn
-from-calls count m [] = refl
-from-calls count m (line ∷ l) =
-    calls-append (eventTold (suc count) m (eventIn line)) (toldFrom (suc count) (M.modelFrom m (callsOf (eventIn line))) l)
-    ∙ rw (event-calls (suc count) m (eventIn line))
-    (ap (λ (r : List M.Call). callsOf (eventIn line) ++ r) (from-calls (suc count) (M.modelFrom m (callsOf (eventIn line))) l))
+from-calls traced count m [] = refl
+from-calls traced count m (line ∷ l) =
+    calls-append (eventTold traced (suc count) m (eventIn line)) (toldFrom traced (suc count) (M.modelFrom m (callsOf (eventIn line))) l)
+    ∙ rw (event-calls traced (suc count) m (eventIn line))
+    (ap (λ (r : List M.Call). callsOf (eventIn line) ++ r) (from-calls traced (suc count) (M.modelFrom m (callsOf (eventIn line))) l))
 
 -- ---- what is seen of them
 
@@ -55,30 +57,32 @@ seen-told-append : (l m : List Told) → saidIn (l ++ m) ≡ saidIn l ++ saidIn 
 unfolding saidIn
 seen-told-append [] m = refl
 seen-told-append (badLine number ∷ l) m = seen-told-append l m
-seen-told-append (called call said ∷ l) m = ap (λ (r : List M.Said). said ∷ r) (seen-told-append l m)
+seen-told-append (called t call h ∷ l) m = ap (λ (r : List M.Said). record { answer = h .answer; first = h .first; second = h .second } ∷ r) (seen-told-append l m)
 
-seen-told : (m : M.Model) (calls : List M.Call) → saidIn (callsTold m calls) ≡ M.saidFrom m calls
-unfolding saidIn callsTold M.saidFrom
-seen-told m [] = refl
-seen-told m (call ∷ calls) = ap (λ (r : List M.Said). (M.step call m) .said ∷ r) (seen-told ((M.step call m) .model) calls)
+seen-told : (traced : Bool) (number passed : ℕ) (m : M.Model) (calls : List M.Call) → saidIn (callsTold traced number passed m calls) ≡ M.saidFrom m calls
+unfolding saidIn callsTold happened M.saidFrom
+seen-told traced number passed m [] = refl
+seen-told traced number passed m (call ∷ calls) =
+    ap (λ (r : List M.Said). (M.step call m) .said ∷ r)
+    (seen-told traced number (passedAfter (telling traced number passed calls) (happened call m)) ((M.step call m) .model) calls)
 
-event-seen : (number : ℕ) (m : M.Model) (e : Event) → saidIn (eventTold number m e) ≡ M.saidFrom m (callsOf e)
+event-seen : (traced : Bool) (number : ℕ) (m : M.Model) (e : Event) → saidIn (eventTold traced number m e) ≡ M.saidFrom m (callsOf e)
 unfolding eventTold saidIn callsOf M.saidFrom
-event-seen number m bad = refl
-event-seen number m (add a asn) = seen-told m (callsOf (add a asn))
-event-seen number m (remove a) = seen-told m (callsOf (remove a))
-event-seen number m (start a) = seen-told m (callsOf (start a))
-event-seen number m (stop a) = seen-told m (callsOf (stop a))
-event-seen number m (tick a count) = seen-told m (callsOf (tick a count))
-event-seen number m (rx a octets) = seen-told m (callsOf (rx a octets))
+event-seen traced number m bad = refl
+event-seen traced number m (add a asn) = seen-told traced number 0 m (callsOf (add a asn))
+event-seen traced number m (remove a) = seen-told traced number 0 m (callsOf (remove a))
+event-seen traced number m (start a) = seen-told traced number 0 m (callsOf (start a))
+event-seen traced number m (stop a) = seen-told traced number 0 m (callsOf (stop a))
+event-seen traced number m (tick a count) = seen-told traced number 0 m (callsOf (tick a count))
+event-seen traced number m (rx a octets) = seen-told traced number 0 m (callsOf (rx a octets))
 
-from-seen : (count : ℕ) (m : M.Model) (l : List RecordedLine) → saidIn (toldFrom count m l) ≡ M.saidFrom m (goodCalls l)
+from-seen : (traced : Bool) (count : ℕ) (m : M.Model) (l : List RecordedLine) → saidIn (toldFrom traced count m l) ≡ M.saidFrom m (goodCalls l)
 unfolding toldFrom goodCalls saidIn M.saidFrom
-from-seen count m [] = refl
-from-seen count m (line ∷ l) =
-    seen-told-append (eventTold (suc count) m (eventIn line)) (toldFrom (suc count) (M.modelFrom m (callsOf (eventIn line))) l)
-    ∙ rw (event-seen (suc count) m (eventIn line), said-append m (callsOf (eventIn line)) (goodCalls l))
-    (ap (λ (r : List M.Said). M.saidFrom m (callsOf (eventIn line)) ++ r) (from-seen (suc count) (M.modelFrom m (callsOf (eventIn line))) l))
+from-seen traced count m [] = refl
+from-seen traced count m (line ∷ l) =
+    seen-told-append (eventTold traced (suc count) m (eventIn line)) (toldFrom traced (suc count) (M.modelFrom m (callsOf (eventIn line))) l)
+    ∙ rw (event-seen traced (suc count) m (eventIn line), said-append m (callsOf (eventIn line)) (goodCalls l))
+    (ap (λ (r : List M.Said). M.saidFrom m (callsOf (eventIn line)) ++ r) (from-seen traced (suc count) (M.modelFrom m (callsOf (eventIn line))) l))
 
 -- ---- their messages are of octets
 
@@ -115,11 +119,11 @@ from-octets (line ∷ l) = every-append carriesOctets (callsOf (eventIn line)) (
 
 -- ---- the whole
 
-pub one-by-one : (g : Settings) (lines : ℕ) (l : List RecordedLine) → OneByOne g lines l
-one-by-one g lines l =
+pub one-by-one : (traced : Bool) (g : Settings) (lines : ℕ) (l : List RecordedLine) → OneByOne traced g lines l
+one-by-one traced g lines l =
     record {
-      calls = from-calls lines (M.empty g) l;
-      said = from-seen lines (M.empty g) l;
+      calls = from-calls traced lines (M.empty g) l;
+      said = from-seen traced lines (M.empty g) l;
       octets = from-octets l;
       agreement = λ z. list-of-calls g z (goodCalls l);
     }

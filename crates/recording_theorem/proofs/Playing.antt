@@ -72,19 +72,19 @@ module _ (d : Deck) (held : List ℕ) (f : d .player .broken ≡ false) where
   early-end : p .lines < 4 → remaining p (d .table) (linesFrom held []) ≡ endDue d
   unfolding linesFrom openingDue openingText finalOf endDue closed finished closeStep finishStep finalIn brokenStep reported reportCheck check given ifOk withUsed breaking nextLine silentStep
   early-end k =
-      remaining-early p (d .table) (linesFrom held []) f (omega (arith, k)) ∙ ap openingDue (early-missing (p .lines) k (p .settings) held (eqb (length held) 0))
+      remaining-early p (d .table) (linesFrom held []) f (omega (arith, k)) ∙ ap (openingDue (p .traced)) (early-missing (p .lines) k (p .settings) held (eqb (length held) 0))
       ∙ rw (f, lt-ltb (p .lines) 4 k) (λ i. record { text = sym (append-nil (badText (oneMore (p .lines)))) i; final = unplayed })
 
   module _ (late : 4 ≤ p .lines) (z : p .ticks ≡ 0) (counted : p .held ≡ min (length held) 4118) (kept : Kept p (d .table)) where
     -- an unended line is bad
-    unended-end : eqb (length held) 0 ≡ false → eventsDue (p .lines) (on (p .state) (d .table)) (linesFrom held []) ≡ endDue d
+    unended-end : eqb (length held) 0 ≡ false → eventsDue (p .traced) (p .lines) (on (p .state) (d .table)) (linesFrom held []) ≡ endDue d
     unfolding linesFrom endDue closed finished closeStep finishStep finalIn badStep reported reportCheck check given ifOk withUsed nextLine eventsDue eventsText toldFrom eventTold eventIn callsOf goodCalls gatewayFrom join toldText listed
     unended-end e =
         let some : (length held ≡ 0) → ⊥ = eqb-false (length held) 0 e in
         let k : 0 < p .held = omega (arith, counted, some) in
         rw (e, f, le-ltb (p .lines) 4 late, lt-ltb 0 (p .held) k, le-ltb (oneMore (p .lines)) 4 (omega (arith, more-lines (p .lines) late)), append-nil (badText (oneMore (p .lines))))
 
-    ended-end : eqb (length held) 0 ≡ true → eventsDue (p .lines) (on (p .state) (d .table)) (linesFrom held []) ≡ endDue d
+    ended-end : eqb (length held) 0 ≡ true → eventsDue (p .traced) (p .lines) (on (p .state) (d .table)) (linesFrom held []) ≡ endDue d
     unfolding linesFrom endDue closed finished closeStep finishStep finalIn silentStep eventsDue eventsText toldFrom goodCalls gatewayFrom join listed
     ended-end e =
         let k : p .held ≡ 0 = omega (arith, counted, eqb-true (length held) 0 e) in
@@ -94,7 +94,7 @@ module _ (d : Deck) (held : List ℕ) (f : d .player .broken ≡ false) where
     late-end : remaining p (d .table) (linesFrom held []) ≡ endDue d
     late-end = then-events p (d .table) (linesFrom held []) f late z kept (λ _. no-quiet (p .settings) held) ∙ go (eqb (length held) 0) refl
       where
-        go : (b : Bool) → eqb (length held) 0 ≡ b → eventsDue (p .lines) (on (p .state) (d .table)) (linesFrom held []) ≡ endDue d
+        go : (b : Bool) → eqb (length held) 0 ≡ b → eventsDue (p .traced) (p .lines) (on (p .state) (d .table)) (linesFrom held []) ≡ endDue d
         go true e = ended-end e
         go false e = unended-end e
 
@@ -146,13 +146,13 @@ finishes (lent ∷ lents) d held input ok done =
           ∙ saying-twice (s .text) ((drive lents next (drop (s .used) input)) .text) (endDue ((drive lents next (drop (s .used) input)) .deck));
     }
 
-pub start-sound : (line : List ℕ) → lineFits line ≡ true → Sound (freshDeck line) []
+pub start-sound : (traced : Bool) (line : List ℕ) → lineFits line ≡ true → Sound (freshDeck traced line) []
 unfolding freshDeck beginning lineFits
-start-sound line h = record { holds = holds-none line (leb-true 4118 (length line) h); kept = kept-early beginning refl (λ e k. absurd (omega (arith, k))) (λ e k. absurd (omega (arith, k))) }
+start-sound traced line h = record { holds = holds-none line (leb-true 4118 (length line) h); kept = kept-early (beginning traced) refl (λ e k. absurd (omega (arith, k))) (λ e k. absurd (omega (arith, k))) }
 
-start-due : (line recording : List ℕ) → dueOf (freshDeck line) [] recording ≡ openingDue (openingOf (linesOf recording))
+start-due : (traced : Bool) (line recording : List ℕ) → dueOf (freshDeck traced line) [] recording ≡ openingDue traced (openingOf (linesOf recording))
 unfolding dueOf freshDeck beginning remaining openingFrom linesOf
-start-due line recording = refl
+start-due traced line recording = refl
 
 -- ---- the end, told from what was due
 
@@ -187,21 +187,21 @@ unplayed-final d k e = go (d .player .broken) refl (ltb (d .player .lines) 4) re
 
 -- ---- the theorem
 
-module _ (line recording : List ℕ) (lents : List Lent) (fits : lineFits line ≡ true) (done : isDone (drive lents (freshDeck line) recording) ≡ true) where
+module _ (traced : Bool) (line recording : List ℕ) (lents : List Lent) (fits : lineFits line ≡ true) (done : isDone (drive lents (freshDeck traced line) recording) ≡ true) where
   abbrev r : Driven
-  r = drive lents (freshDeck line) recording
+  r = drive lents (freshDeck traced line) recording
 
-  finished-so : Finishes (freshDeck line) [] recording r
-  finished-so = finishes lents (freshDeck line) [] recording (start-sound line fits) done
+  finished-so : Finishes (freshDeck traced line) [] recording r
+  finished-so = finishes lents (freshDeck traced line) [] recording (start-sound traced line fits) done
 
-  whole-due : openingDue (openingOf (linesOf recording)) ≡ saying (r .text) (endDue (r .deck))
-  whole-due = sym (start-due line recording) ∙ finished-so .same
+  whole-due : openingDue traced (openingOf (linesOf recording)) ≡ saying (r .text) (endDue (r .deck))
+  whole-due = sym (start-due traced line recording) ∙ finished-so .same
 
-  same-output : length recording < 18446744073709551616 → (out : List ℕ) → roomy out ≡ true → allText out r ≡ outputOf recording
+  same-output : length recording < 18446744073709551616 → (out : List ℕ) → roomy out ≡ true → allText out r ≡ outputOf traced recording
   unfolding allText finished outputOf openingDue saying endDue
   same-output few out h =
       ap (λ (l : List ℕ). r .text ++ ((closed (r .deck)) .text ++ l)) (finish-in out ((closed (r .deck)) .player) (r .deck .table) h)
-      ∙ sym (ap (λ (d : Due). d .text) whole-due) ∙ recording-text recording few
+      ∙ sym (ap (λ (d : Due). d .text) whole-due) ∙ recording-text traced recording few
 
   same-final : finalOf (openingOf (linesOf recording)) ≡ finalIn (r .deck)
   unfolding openingDue saying endDue
@@ -218,7 +218,7 @@ module _ (line recording : List ℕ) (lents : List Lent) (fits : lineFits line �
   unfolding finalOf
   left-alone number e = unplayed-final (r .deck) (finished-so .kept) (sym (ap finalOf e) ∙ same-final)
 
-  pub as-played : Played line recording lents
+  pub as-played : Played traced line recording lents
   as-played = record { output = same-output; ends = ends-as; untouched = left-alone }
 
 pub recordings : Recordings

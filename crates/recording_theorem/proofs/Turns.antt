@@ -8,17 +8,18 @@ use mathlib.Core.Bool.{Bool, true, false, cond, not, _&&_}
 use mathlib.Core.List.{List, [], _∷_, _++_}
 use lib.Dec.{leb, ltb, eqb}
 use lib.ListN.{length, take, drop}
-use borrow.Author.Tests.{ltb-true, ltb-false, lt-ltb, le-leb, eqb-false}
+use borrow.Author.Tests.{ltb-true, ltb-false, lt-ltb, le-leb, eqb-false, ne-eqb}
 use Rattle.checks.specs.Checks.{check, ifOk}
 use Rattle.checks.proofs.Laws.{cond-elim}
 use Rattle.model.specs.Model as M
 use Rattle.model.specs.Theorem.{gatewayStep}
-use Rattle.recording_call.specs.Told.{lent, callText, on}
+use Rattle.recording_trace.specs.declared.Telling.{Telling}
+use Rattle.recording_call.specs.Told.{lent, passedAfter, happenedBy, callText, on}
 use Rattle.recording_gather.specs.declared.Gathered.{Gathered}
 use Rattle.recording_gather.specs.Gathering.{gathered, lineAfter, lineHeld}
 use Rattle.recording_player.specs.declared.Player.{Player}
-use Rattle.recording_player.specs.Player.{holding, due, having, Step, lineFits, given, withUsed, silentStep, callStep, lineStep, tickStep, endedLine, freeStep, callChecks, lineChecked, turnChecked, turnStep, onlyHolds, heldOf}
-use Rattle.recording_theorem.specs.Output.{RecordedLine, ended, linesFrom, ticks}
+use Rattle.recording_player.specs.Player.{holding, due, having, passing, tellingOf, Step, lineFits, given, withUsed, silentStep, callStep, lineStep, tickStep, endedLine, freeStep, callChecks, lineChecked, turnChecked, turnStep, onlyHolds, heldOf}
+use Rattle.recording_theorem.specs.Output.{RecordedLine, ended, linesFrom, ticks, telling}
 use Rattle.recording_theorem.specs.Theorem.{Deck}
 use Rattle.recording_theorem.proofs.Held.{used-most, lineIn, linesAfter, lines-after, Holds, holds-none, holds-piece, holds-line, holds-front}
 use Rattle.recording_theorem.proofs.Due.{Due, saying, callsDue, remaining, remaining-broken, remaining-late, call-due}
@@ -37,6 +38,13 @@ refused-holds room p line table piece n =
     go false false false e x y h = refl
     go false false true true x y h = refl
     go false false true false x y h = absurd (h refl)
+
+-- the last of these ticks is the only one
+last-of : (a count : ℕ) → eqb (suc count) 1 ≡ eqb (length (ticks a count)) 0
+unfolding ticks
+last-of a zero = refl
+last-of a (suc count) =
+    ne-eqb (suc (suc count)) 1 (λ e. absurd (omega (arith, e))) ∙ sym (ne-eqb (length (ticks a (suc count))) 0 (λ e. absurd (omega (arith, e))))
 
 -- a deck between two turns, and all octets of the line that is coming in
 pub record Sound (d : Deck) (held : List ℕ) : Type 0 where
@@ -96,22 +104,32 @@ module _ (d : Deck) (held piece left : List ℕ) (ok : Sound d held) where
       abbrev ticked : Step
       ticked = tickStep p (d .table)
 
+      -- the last of the line's ticks is told of as that
+      same-telling : tellingOf p (p .passed) (eqb (p .ticks) 1) ≡ telling (p .traced) (p .lines) (p .passed) (ticks (p .address) count)
+      unfolding tellingOf telling
+      same-telling = λ i. record { traced = p .traced; line = p .lines; passed = p .passed; last = (ap (λ (n : ℕ). eqb n 1) e ∙ last-of (p .address) count) i }
+
       tick-same : (l : List RecordedLine) → remaining p (d .table) l ≡ saying (ticked .text) (remaining (ticked .player) (ticked .table) l)
-      unfolding tickStep callStep due having gatewayStep on ticks
+      unfolding tickStep callStep due having passing gatewayStep on ticks
       tick-same l =
           let b = on (p .state) (d .table) in
-          let due-of : (n : ℕ) → n ≡ count → callsDue (p .lines) (gatewayStep call b) (ticks (p .address) n) l ≡ callsDue (p .lines) (gatewayStep call b) (ticks (p .address) count) l =
-          λ n k. ap (λ (m : ℕ). callsDue (p .lines) (gatewayStep call b) (ticks (p .address) m) l) k in
-          remaining-late p (d .table) l f late ∙ ap (λ (n : ℕ). callsDue (p .lines) b (ticks (p .address) n) l) e
-          ∙ call-due (p .lines) b call (ticks (p .address) count) l
-          ∙ ap (saying (callText call b)) (sym (remaining-late (ticked .player) (ticked .table) l f late ∙ due-of (p .ticks - 1) (omega (arith, e))))
+          let rest = ticks (p .address) count in
+          let so = same-telling in
+          let due-of : (n : ℕ) → n ≡ count
+          → callsDue (p .traced) (p .lines) (ticked .player .passed) (gatewayStep call b) (ticks (p .address) n) l
+          ≡ callsDue (p .traced) (p .lines) (ticked .player .passed) (gatewayStep call b) rest l =
+          λ n k. ap (λ (m : ℕ). callsDue (p .traced) (p .lines) (ticked .player .passed) (gatewayStep call b) (ticks (p .address) m) l) k in
+          remaining-late p (d .table) l f late ∙ ap (λ (n : ℕ). callsDue (p .traced) (p .lines) (p .passed) b (ticks (p .address) n) l) e
+          ∙ call-due (p .traced) (p .lines) (p .passed) b call rest l
+          ∙ ap (λ (t : Telling). saying (callText t call b) (callsDue (p .traced) (p .lines) (passedAfter t (happenedBy call b)) (gatewayStep call b) rest l)) (sym so)
+          ∙ ap (saying (ticked .text)) (sym (remaining-late (ticked .player) (ticked .table) l f late ∙ due-of (p .ticks - 1) (omega (arith, e))))
 
       tick-kept : Kept (ticked .player) (ticked .table)
-      unfolding tickStep callStep due having gatewayStep on
+      unfolding tickStep callStep due having passing gatewayStep on
       tick-kept = kept-late (ticked .player) (ticked .table) late f (omega (arith, ok .kept .few)) (stands-call (on (p .state) (d .table)) call (ok .kept .stands f (omega (arith, late))))
 
       tick-turn : Turned d held piece left free after
-      unfolding freeStep heldOf onlyHolds tickStep callStep due having
+      unfolding freeStep heldOf onlyHolds tickStep callStep due having passing
       tick-turn =
           let t = lt-ltb 0 (p .ticks) (omega (arith, e)) in
           by-step ticked (d .line) (rw (f, t)) (rw (f, t)) held

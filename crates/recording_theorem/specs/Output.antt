@@ -1,7 +1,7 @@
 -- What playing a recording writes, told of the whole recording at once: its lines, the calls of its good lines, and
 -- what the model says of each.
 use Prim.Native.Nat.{ℕ, zero, suc}
-use mathlib.Core.Bool.{cond}
+use mathlib.Core.Bool.{Bool, cond}
 use mathlib.Core.List.{List, [], _∷_, _++_, map}
 use lib.Dec.{eqb}
 use lib.ListN.{length}
@@ -16,7 +16,10 @@ use Rattle.text_values.specs.Numbers.{whenNumber}
 use Rattle.recording_lines.specs.Lines.{Event, bad, add, remove, start, stop, tick, rx, eventOf, ownAsOf, ownOf, capabilityOf, netOf, quietOf}
 use Rattle.recording_bad_line.specs.BadLine.{badText}
 use Rattle.model.specs.Model as M
-use Rattle.recording_call.specs.Told.{lent, txText, addressedTo}
+use Rattle.model.specs.Theorem.{stateOf}
+use Rattle.recording_trace.specs.declared.Telling.{Telling}
+use Rattle.recording_trace.specs.Trace.{Happened}
+use Rattle.recording_call.specs.Told.{lent, addressedTo, deedOf, messageIn, tellText, passedAfter}
 
 -- ---- lines
 
@@ -99,45 +102,67 @@ goodCalls (line ∷ rest) = callsOf (eventIn line) ++ goodCalls rest
 
 -- ---- what is told, in order
 
--- a bad line, or a call and what the model says of it
+-- what happened, as the model says
+unfoldable pub happened : M.Call → M.Model → Happened
+happened call m =
+    record {
+      deed = deedOf call;
+      address = addressedTo call;
+      received = messageIn call;
+      before = stateOf m;
+      after = stateOf ((M.step call m) .model);
+      answer = (M.step call m) .said .answer;
+      first = (M.step call m) .said .first;
+      second = (M.step call m) .said .second;
+    }
+
+-- a bad line, or a call: how it is told of, and what happened
 pub data Told : Type 0 where
   badLine : ℕ → Told
-  called : M.Call → M.Said → Told
+  called : Telling → M.Call → Happened → Told
 
-unfoldable pub callsTold : M.Model → List M.Call → List Told
-callsTold m [] = []
-callsTold m (call ∷ rest) = called call ((M.step call m) .said) ∷ callsTold ((M.step call m) .model) rest
+-- of a line with this number, where so many ticks were passed over and these calls of it are left
+unfoldable pub telling : Bool → ℕ → ℕ → List M.Call → Telling
+telling traced number passed rest = record { traced = traced; line = number; passed = passed; last = eqb (length rest) 0 }
+
+-- the calls of a line
+unfoldable pub callsTold : Bool → ℕ → ℕ → M.Model → List M.Call → List Told
+callsTold traced number passed m [] = []
+callsTold traced number passed m (call ∷ rest) =
+    called (telling traced number passed rest) call (happened call m)
+    ∷ callsTold traced number (passedAfter (telling traced number passed rest) (happened call m)) ((M.step call m) .model) rest
 
 -- "A bad event line is reported in its place as `bad=` and its line number, from 1"
-unfoldable pub eventTold : ℕ → M.Model → Event → List Told
-eventTold number m bad = badLine number ∷ []
-eventTold number m (add a asn) = callsTold m (callsOf (add a asn))
-eventTold number m (remove a) = callsTold m (callsOf (remove a))
-eventTold number m (start a) = callsTold m (callsOf (start a))
-eventTold number m (stop a) = callsTold m (callsOf (stop a))
-eventTold number m (tick a count) = callsTold m (callsOf (tick a count))
-eventTold number m (rx a octets) = callsTold m (callsOf (rx a octets))
+unfoldable pub eventTold : Bool → ℕ → M.Model → Event → List Told
+eventTold traced number m bad = badLine number ∷ []
+eventTold traced number m (add a asn) = callsTold traced number 0 m (callsOf (add a asn))
+eventTold traced number m (remove a) = callsTold traced number 0 m (callsOf (remove a))
+eventTold traced number m (start a) = callsTold traced number 0 m (callsOf (start a))
+eventTold traced number m (stop a) = callsTold traced number 0 m (callsOf (stop a))
+eventTold traced number m (tick a count) = callsTold traced number 0 m (callsOf (tick a count))
+eventTold traced number m (rx a octets) = callsTold traced number 0 m (callsOf (rx a octets))
 
 -- these lines, behind so many
-unfoldable pub toldFrom : ℕ → M.Model → List RecordedLine → List Told
-toldFrom lines m [] = []
-toldFrom lines m (line ∷ rest) =
-    eventTold (suc lines) m (eventIn line) ++ toldFrom (suc lines) (M.modelFrom m (callsOf (eventIn line))) rest
+unfoldable pub toldFrom : Bool → ℕ → M.Model → List RecordedLine → List Told
+toldFrom traced lines m [] = []
+toldFrom traced lines m (line ∷ rest) =
+    eventTold traced (suc lines) m (eventIn line) ++ toldFrom traced (suc lines) (M.modelFrom m (callsOf (eventIn line))) rest
 
--- as text: "each reply message as a `tx` line"
+-- as text: "each reply message as a `tx` line", or a line of the trace
 unfoldable pub toldText : Told → List ℕ
 toldText (badLine number) = badText number
-toldText (called call said) = txText (addressedTo call) (said .first) ++ txText (addressedTo call) (said .second)
+toldText (called t call h) = tellText t h
 
-unfoldable pub eventsText : ℕ → M.Model → List RecordedLine → List ℕ
-eventsText lines m events = join (map toldText (toldFrom lines m events))
+unfoldable pub eventsText : Bool → ℕ → M.Model → List RecordedLine → List ℕ
+eventsText traced lines m events = join (map toldText (toldFrom traced lines m events))
 
 -- ---- the whole, from the model alone
 
 -- "the listing at the end", and "nothing is played or listed" where one of the first four lines is not good
-unfoldable pub openingText : Opening → List ℕ
-openingText (broken number) = badText number
-openingText (opened g lines events) = eventsText lines (M.empty g) events ++ listingText (M.listed (M.model g (goodCalls events)))
+unfoldable pub openingText : Bool → Opening → List ℕ
+openingText traced (broken number) = badText number
+openingText traced (opened g lines events) = eventsText traced lines (M.empty g) events ++ listingText (M.listed (M.model g (goodCalls events)))
 
-unfoldable pub outputOf : List ℕ → List ℕ
-outputOf recording = openingText (openingOf (linesOf recording))
+-- what is written, with a trace or without
+unfoldable pub outputOf : Bool → List ℕ → List ℕ
+outputOf traced recording = openingText traced (openingOf (linesOf recording))

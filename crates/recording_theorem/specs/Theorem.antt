@@ -1,6 +1,5 @@
 -- The theorem about recordings: the player's turns, on pieces of any size and whatever room they are lent, write what
--- the model says of the
--- whole recording's lines and calls. For every list of octets.
+-- the model says of the whole recording's lines and calls, with a trace or without. For every list of octets.
 use Prim.Native.Nat.{ℕ, suc, _*_, _≤_, _<_}
 use mathlib.Core.Path.{_≡_}
 use mathlib.Core.Bool.{Bool, true, cond, not, _||_, _&&_}
@@ -38,18 +37,18 @@ pub record Lines : Type 0 where
 unfoldable pub callsIn : List Told → List M.Call
 callsIn [] = []
 callsIn (badLine number ∷ rest) = callsIn rest
-callsIn (called call said ∷ rest) = call ∷ callsIn rest
+callsIn (called t call h ∷ rest) = call ∷ callsIn rest
 
 unfoldable pub saidIn : List Told → List M.Said
 saidIn [] = []
 saidIn (badLine number ∷ rest) = saidIn rest
-saidIn (called call said ∷ rest) = said ∷ saidIn rest
+saidIn (called t call h ∷ rest) = record { answer = h .answer; first = h .first; second = h .second } ∷ saidIn rest
 
 -- "Playing a recording must equal making the calls of its good lines one by one, from a zeroed table and with an empty
 -- home list."
-pub record OneByOne (g : Settings) (lines : ℕ) (events : List RecordedLine) : Type 0 where
-  pub calls : callsIn (toldFrom lines (M.empty g) events) ≡ goodCalls events
-  pub said : saidIn (toldFrom lines (M.empty g) events) ≡ M.saidFrom (M.empty g) (goodCalls events)
+pub record OneByOne (traced : Bool) (g : Settings) (lines : ℕ) (events : List RecordedLine) : Type 0 where
+  pub calls : callsIn (toldFrom traced lines (M.empty g) events) ≡ goodCalls events
+  pub said : saidIn (toldFrom traced lines (M.empty g) events) ≡ M.saidFrom (M.empty g) (goodCalls events)
   -- hex says octets only, so what the theorem about lists of calls says of listings holds too
   pub octets : every carriesOctets (goodCalls events) ≡ true
   -- the state, the table and every row at the end, told from the settings and the calls alone
@@ -64,8 +63,8 @@ pub record Deck : Type 0 where
   pub table : List ℕ
 
 -- with any line buffer, whatever it holds
-unfoldable pub freshDeck : List ℕ → Deck
-freshDeck line = record { player = beginning; line = line; table = emptyTable }
+unfoldable pub freshDeck : Bool → List ℕ → Deck
+freshDeck traced line = record { player = beginning traced; line = line; table = emptyTable }
 
 -- what is lent for one turn: so many of the octets that are left, and any output buffer
 pub record Lent : Type 0 where
@@ -120,22 +119,22 @@ pub record EndsAs (d : Deck) (g : Settings) (events : List RecordedLine) : Type 
   pub table : d .table ≡ tableOf (M.model g (goodCalls events))
 
 -- however the recording was cut into pieces, and however little room was lent on the way
-pub record Played (line recording : List ℕ) (lents : List Lent) : Type 0 where
+pub record Played (traced : Bool) (line recording : List ℕ) (lents : List Lent) : Type 0 where
   -- lines are counted in 64 bits: no more fit a recording that is shorter than this
   pub output :
-      length recording < 18446744073709551616 → (out : List ℕ) → roomy out ≡ true → allText out (drive lents (freshDeck line) recording) ≡ outputOf recording
+      length recording < 18446744073709551616 → (out : List ℕ) → roomy out ≡ true → allText out (drive lents (freshDeck traced line) recording) ≡ outputOf traced recording
   pub ends :
-      (g : Settings) (lines : ℕ) (events : List RecordedLine) → openingOf (linesOf recording) ≡ opened g lines events → EndsAs ((drive lents (freshDeck line) recording) .deck) g events
+      (g : Settings) (lines : ℕ) (events : List RecordedLine) → openingOf (linesOf recording) ≡ opened g lines events → EndsAs ((drive lents (freshDeck traced line) recording) .deck) g events
   -- nothing is played: the table is still all zero
   pub untouched :
-      (number : ℕ) → openingOf (linesOf recording) ≡ broken number → (drive lents (freshDeck line) recording) .deck .table ≡ emptyTable
+      (number : ℕ) → openingOf (linesOf recording) ≡ broken number → (drive lents (freshDeck traced line) recording) .deck .table ≡ emptyTable
 
 -- every list of octets is a recording
 pub record Recordings : Type 0 where
-  pub one-by-one : (g : Settings) (lines : ℕ) (events : List RecordedLine) → OneByOne g lines events
+  pub one-by-one : (traced : Bool) (g : Settings) (lines : ℕ) (events : List RecordedLine) → OneByOne traced g lines events
   pub played :
-      (line recording : List ℕ) (lents : List Lent) → lineFits line ≡ true → isDone (drive lents (freshDeck line) recording) ≡ true
-      → Played line recording lents
+      (traced : Bool) (line recording : List ℕ) (lents : List Lent) → lineFits line ≡ true → isDone (drive lents (freshDeck traced line) recording) ≡ true
+      → Played traced line recording lents
 
 -- ---- a refusal changes nothing
 
@@ -166,5 +165,5 @@ plenty (lent ∷ lents) = cond (isPlenty lent) (suc (plenty lents)) (plenty lent
 -- 86,401 such turns for each octet are always enough, whatever their sizes and whatever is lent between them
 abbrev pub EveryRecordingEnds : Type 0
 EveryRecordingEnds =
-    (line recording : List ℕ) (lents : List Lent) → lineFits line ≡ true → 86401 * length recording ≤ plenty lents
-    → isDone (drive lents (freshDeck line) recording) ≡ true
+    (traced : Bool) (line recording : List ℕ) (lents : List Lent) → lineFits line ≡ true → 86401 * length recording ≤ plenty lents
+    → isDone (drive lents (freshDeck traced line) recording) ≡ true

@@ -9,7 +9,7 @@ use crate::neighbour::{
 };
 use crate::net::{self, Class};
 use crate::random::Random;
-use crate::update::{Row, EXTERNAL, MOST_ROWS};
+use crate::update::{self, Row, EXTERNAL, MOST_ROWS};
 
 /// Own settings that fresh takes.
 #[derive(Clone, Copy, Debug)]
@@ -258,6 +258,40 @@ pub fn blocks(random: &mut Random, common_net: u32, limit: usize) -> Blocks {
         }
     }
     blocks
+}
+
+/// Blocks that make an Update of 2,048 octets, of 127 rows or 128: behind the rows come gateways with
+/// groups of no nets.
+pub fn longest_blocks(random: &mut Random, common_net: u32) -> Blocks {
+    let class = Class::of(common_net).expect("blocks are made on a good net");
+    let externals = random.thousandths(500);
+    let rows = rows(random, common_net, MOST_ROWS - 1, externals);
+    let (internal, external, mut octets) = update::write_blocks(common_net, &rows);
+    let room = LONGEST - 16 - octets.len();
+    let bare = class.host_octets() + 1;
+    let gateways = room / (bare + 2 * 255) + 1;
+    let mut left = room - gateways * bare;
+    let odd = left % 2;
+    for _ in 0..gateways {
+        let gateway = address_on(random, common_net);
+        octets.extend(&gateway.to_be_bytes()[class.net_octets()..]);
+        let groups = (left / 2).min(255);
+        octets.push(groups as u8);
+        for _ in 0..groups {
+            // One net of an octet makes the length even.
+            let nets = left % 2;
+            octets.extend([distance(random) as u8, nets as u8]);
+            octets.extend(&[10][..nets]);
+            left -= 2 + nets;
+        }
+    }
+    Blocks {
+        internal,
+        external: external + gateways as u8,
+        net: common_net,
+        octets,
+        rows: rows.len() + odd,
+    }
 }
 
 /// One gateway block of at most `most` rows.

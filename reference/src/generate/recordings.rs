@@ -4,9 +4,9 @@
 //! come up and really hold rows.
 
 use super::line_faults::{self, Sound, LINE_FAULTS};
-use super::{faults, Generator, Temper};
+use super::{faults, material, Generator, Temper};
 use crate::call::Call;
-use crate::message::LONGEST;
+use crate::message::{Kind, LONGEST, SHORTEST};
 use crate::neighbour::{Neighbour, NeighbourState};
 use crate::playback;
 use crate::random::Random;
@@ -116,7 +116,7 @@ impl Recorder {
                 let sender = self.life.sender(slot);
                 return Sound {
                     line,
-                    address: address_of(&call),
+                    address: call.about().unwrap_or_default(),
                     message: faults::good(&mut self.life.random, sender),
                 };
             }
@@ -138,9 +138,11 @@ impl Recorder {
             }
             80..=109 => self.membership(),
             110..=129 => self.call_about_unknown(),
-            130..=139 => self.long_message(),
+            130..=139 => self.long_or_short_message(),
             140..=159 => self.stray(),
             160..=259 if is_early => self.stray(),
+            260..=264 => self.removal(),
+            265..=269 => self.longest_update(),
             _ => self.life.live().0,
         }
     }
@@ -153,11 +155,26 @@ impl Recorder {
             }
         }
         let (call, _) = self.life.membership();
-        if let Call::Remove { address } = call {
-            let as_number = self.neighbour(address).as_number;
-            self.add_again = Some(Call::Add { address, as_number });
+        match call {
+            Call::Remove { address } => self.remove(address),
+            _ => call,
         }
-        call
+    }
+
+    fn remove(&mut self, address: u32) -> Call {
+        let as_number = self.neighbour(address).as_number;
+        self.add_again = Some(Call::Add { address, as_number });
+        Call::Remove { address }
+    }
+
+    /// Removes a neighbour in Idle for which seconds have gone by, if there is one; else one that is
+    /// in any state.
+    fn removal(&mut self) -> Call {
+        let neighbours = &self.life.bench.state.neighbours;
+        let is_old = |n: &&Neighbour| n.state == NeighbourState::Idle && n.seconds.sum() > 0;
+        let old = neighbours.iter().find(is_old).map(|n| n.address);
+        let slot = self.life.used_slot();
+        self.remove(old.unwrap_or(self.life.bench.state.neighbours[slot].address))
     }
 
     fn call_about_unknown(&mut self) -> Call {
@@ -165,11 +182,15 @@ impl Recorder {
         let slot = self.life.used_slot();
         let sender = self.life.sender(slot);
         let random = &mut self.life.random;
-        match random.below(4) {
+        match random.below(5) {
             0 => recording::start(address),
             1 => recording::stop(address),
             2 => recording::tick(address),
-            _ => recording::received(address, faults::good(random, sender)),
+            3 => recording::received(address, faults::good(random, sender)),
+            _ => {
+                let fault = random.weighted(&faults::MESSAGE_FAULTS);
+                recording::received(address, faults::message(random, sender, fault))
+            }
         }
     }
 
@@ -183,14 +204,34 @@ impl Recorder {
         self.life.stray(slot).0
     }
 
-    /// As many octets as a message or a line may have.
-    fn long_message(&mut self) -> Call {
+    /// As many octets as a message or a line may have, or fewer than a message must have.
+    fn long_or_short_message(&mut self) -> Call {
         let slot = self.life.used_slot();
         let sender = self.life.sender(slot);
         let random = &mut self.life.random;
         let mut octets = faults::good(random, sender);
-        octets.resize(random.pick(&[LONGEST, MOST_OCTETS]), random.octet());
-        crate::checksum::seal(&mut octets);
+        let short = random.below(SHORTEST);
+        let length = random.weighted(&[(1, LONGEST), (1, MOST_OCTETS), (1, short)]);
+        octets.resize(length, random.octet());
+        if length >= SHORTEST {
+            crate::checksum::seal(&mut octets);
+        }
+        recording::received(self.life.bench.state.neighbours[slot].address, octets)
+    }
+
+    /// A good Update of as many octets as may be, whatever state finds it.
+    fn longest_update(&mut self) -> Call {
+        let slot = self.life.used_slot();
+        let sender = self.life.sender(slot);
+        let random = &mut self.life.random;
+        let rest = material::longest_blocks(random, sender.net).rest();
+        let octets = material::frame(
+            Kind::Update.type_and_code(),
+            material::status(random, Kind::Update),
+            sender.as_number,
+            sender.sequence,
+            &rest,
+        );
         recording::received(self.life.bench.state.neighbours[slot].address, octets)
     }
 
@@ -302,14 +343,6 @@ fn unusual_setting(random: &mut Random, place: usize) -> Vec<u8> {
 fn end(mut line: Vec<u8>) -> Vec<u8> {
     line.push(LINE_END);
     line
-}
-
-/// The address in the event line of a call.
-fn address_of(call: &Call) -> u32 {
-    match call {
-        Call::Add { address, .. } | Call::Remove { address } => *address,
-        _ => call.event_address().unwrap_or_default(),
-    }
 }
 
 /// Few seconds more often than many, and often up to a timer's end. A neighbour that has not been

@@ -1,9 +1,5 @@
--- `recording_call::add_neighbour` meets its contract: no lines. Assumes nothing.
-use Rattle.recording_call.proofs.Laws.{untold}
-use Rattle.recording_call.specs.Told.{on}
-use Rattle.model.specs.Model.{add}
-use Rattle.model.specs.Theorem.{outcomeOf, bufferLeft}
-use mathlib.Core.Path.{refl}
+-- `recording_call::add_neighbour` meets its contract. Assumes nothing.
+use Rattle.recording_call.proofs.Laws.{add-silent, add-done}
 use borrow.Author.Needs.{needs}
 use Rattle.recording_call.proofs.add_neighbour.Statement.{statement}
 use Rattle.recording_call.proofs.add_neighbour.Tie as tie
@@ -11,12 +7,14 @@ use Rattle.recording_call.proofs.add_neighbour.Tie as tie
 add-requires : tie.Need-add-requires
 add-requires c κs = search needs
 
-told-requires : tie.Need-told-requires
-told-requires c κs = search needs
+tell-silent-requires : tie.Need-tell-silent-requires
+tell-silent-requires c κs = (add-silent (c .before .before .before .args .st) (c .before .before .before .args .address) (c .before .before .before .args .asn) (c .before .add .ensures), c .before .before .before .pre)
+
+same-length : tie.Need-same-length
+same-length c = search needs
 
 returns : tie.Need-returns
-unfolding outcomeOf bufferLeft on
-returns c = λ table. untold (add (c .before .before .args .address) (c .before .before .args .asn)) (on (c .before .before .args .st) table) refl (c .before .add .ensures) (c .told .ensures)
+returns c = add-done (c .before .before .before .before .before .before .args .t) (c .before .before .before .before .before .before .args .st) (c .before .before .before .before .before .before .args .address) (c .before .before .before .before .before .before .args .out .now) (c .before .before .before .before .before .before .args .asn) (c .before .before .before .before .add .ensures) (c .before .before .tell-silent .ensures)
 
 pub add-neighbour-spec : {M : Type 1} → statement M
-add-neighbour-spec = tie.close (tie.spec add-requires told-requires returns)
+add-neighbour-spec = tie.close (tie.spec add-requires tell-silent-requires same-length returns)

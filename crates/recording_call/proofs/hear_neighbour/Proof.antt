@@ -1,6 +1,7 @@
--- `recording_call::hear_neighbour` meets its contract: the octets read, the call, and its replies as lines. Assumes nothing.
-use Rattle.recording_call.proofs.Laws.{message-room, message-is, message-within, message-long, lent-is, receive-made, made-done}
-use Rattle.recording_call.specs.Told.{addressedTo}
+-- `recording_call::hear_neighbour` meets its contract: the octets read, the call, and what is told of it. Assumes nothing.
+use Rattle.recording_call.proofs.Laws.{message-room, message-is, message-within, message-long, message-few, lent-is, receive-made, telt-as, made-done}
+use Rattle.recording_trace.specs.declared.Deed.the-variants as D
+use Rattle.recording_call.specs.Told.{addressedTo, deedOf, messageIn, on}
 use borrow.Author.Needs.{needs}
 use Rattle.recording_call.proofs.hear_neighbour.Statement.{statement}
 use Rattle.recording_call.proofs.hear_neighbour.Tie as tie
@@ -26,16 +27,17 @@ slice-aggregate-receive-3 c = message-long (c .before .before .before .before .b
 receive-requires : tie.Need-receive-requires
 receive-requires c κs = search needs
 
-slice-aggregate-put-replies : tie.Need-slice-aggregate-put-replies
-slice-aggregate-put-replies c = search needs
+array-share-prefix-octets-2 : tie.Need-array-share-prefix-octets-2
+array-share-prefix-octets-2 c = message-within (c .before .before .before .before .before .before .before .before .before .before .before .before .before .before .before .args .digits .now) _ (c .before .before .before .before .before .before .before .before .before .before .read-hex .ensures .0) (c .before .before .before .before .before .before .before .before .before .before .read-hex .ensures .1)
 
-put-replies-requires : tie.Need-put-replies-requires
-put-replies-requires c κs =
-    let m = receive-made (c .before .before .before .before .before .before .before .before .before .before .before .before .before .before .before .before .args .st) (c .before .before .before .before .before .before .before .before .before .before .before .before .before .before .before .before .args .table .now) (c .before .before .before .before .before .before .before .before .before .before .before .before .before .before .before .before .args .address) lent-is (message-is (c .before .before .before .before .before .before .before .before .before .before .before .before .before .before .before .before .args .digits .now) _ (c .before .before .before .before .before .before .before .before .before .before .before .read-hex .ensures .0) (c .before .before .before .before .before .before .before .before .before .before .before .read-hex .ensures .1)) (c .before .before .before .before .before .receive .ensures .0) (c .before .before .before .before .before .receive .ensures .1 .0) (c .before .before .before .before .before .receive .ensures .1 .1) in
-    (m .few, m .long, c .before .before .before .before .before .before .before .before .before .before .before .before .before .before .before .before .pre .2)
+slice-aggregate-tell : tie.Need-slice-aggregate-tell
+slice-aggregate-tell c = message-long (c .before .before .before .before .before .before .before .before .before .before .before .before .before .before .before .before .args .digits .now) _ (c .before .before .before .before .before .before .before .before .before .before .before .read-hex .ensures .0) (c .before .before .before .before .before .before .before .before .before .before .before .read-hex .ensures .1)
 
-told-requires : tie.Need-told-requires
-told-requires c κs = search needs
+slice-aggregate-tell-2 : tie.Need-slice-aggregate-tell-2
+slice-aggregate-tell-2 c = search needs
+
+tell-requires : tie.Need-tell-requires
+tell-requires c κs = let m = receive-made (c .before .before .before .before .before .before .before .before .before .before .before .before .before .before .before .before .before .args .st) (c .before .before .before .before .before .before .before .before .before .before .before .before .before .before .before .before .before .args .table .now) (c .before .before .before .before .before .before .before .before .before .before .before .before .before .before .before .before .before .args .address) lent-is (message-is (c .before .before .before .before .before .before .before .before .before .before .before .before .before .before .before .before .before .args .digits .now) _ (c .before .before .before .before .before .before .before .before .before .before .before .before .read-hex .ensures .0) (c .before .before .before .before .before .before .before .before .before .before .before .before .read-hex .ensures .1)) (c .before .before .before .before .before .before .receive .ensures .0) (c .before .before .before .before .before .before .receive .ensures .1 .0) (c .before .before .before .before .before .before .receive .ensures .1 .1) in ((message-few (c .before .before .before .before .before .before .before .before .before .before .before .before .before .before .before .before .before .args .digits .now) _ (c .before .before .before .before .before .before .before .before .before .before .before .before .read-hex .ensures .0) (c .before .before .before .before .before .before .before .before .before .before .before .before .read-hex .ensures .1) (c .before .before .before .before .before .before .before .before .before .before .before .before .before .before .before .before .before .pre .0) (c .before .before .before .before .before .before .before .before .before .before .before .before .before .before .before .before .before .pre .1), m .few, m .long), c .before .before .before .before .before .before .before .before .before .before .before .before .before .before .before .before .before .pre .2)
 
 same-length : tie.Need-same-length
 same-length c = search needs
@@ -44,8 +46,8 @@ same-length-2 : tie.Need-same-length-2
 same-length-2 c = search needs
 
 returns : tie.Need-returns
-unfolding addressedTo
-returns c = made-done (receive-made (c .before .before .before .before .before .before .before .before .before .before .before .before .before .before .before .before .before .before .before .before .args .st) (c .before .before .before .before .before .before .before .before .before .before .before .before .before .before .before .before .before .before .before .before .args .table .now) (c .before .before .before .before .before .before .before .before .before .before .before .before .before .before .before .before .before .before .before .before .args .address) lent-is (message-is (c .before .before .before .before .before .before .before .before .before .before .before .before .before .before .before .before .before .before .before .before .args .digits .now) _ (c .before .before .before .before .before .before .before .before .before .before .before .before .before .before .before .read-hex .ensures .0) (c .before .before .before .before .before .before .before .before .before .before .before .before .before .before .before .read-hex .ensures .1)) (c .before .before .before .before .before .before .before .before .before .receive .ensures .0) (c .before .before .before .before .before .before .before .before .before .receive .ensures .1 .0) (c .before .before .before .before .before .before .before .before .before .receive .ensures .1 .1)) (c .before .before .before .before .before .before .before .before .before .before .before .before .before .before .before .before .before .before .before .before .args .out .now) (c .before .before .before .put-replies .ensures .0) (c .before .before .before .put-replies .ensures .1) (c .told .ensures)
+unfolding addressedTo deedOf messageIn on
+returns c = made-done (receive-made (c .before .before .before .before .before .before .before .before .before .before .before .before .before .before .before .before .before .before .before .before .args .st) (c .before .before .before .before .before .before .before .before .before .before .before .before .before .before .before .before .before .before .before .before .args .table .now) (c .before .before .before .before .before .before .before .before .before .before .before .before .before .before .before .before .before .before .before .before .args .address) lent-is (message-is (c .before .before .before .before .before .before .before .before .before .before .before .before .before .before .before .before .before .before .before .before .args .digits .now) _ (c .before .before .before .before .before .before .before .before .before .before .before .before .before .before .before .read-hex .ensures .0) (c .before .before .before .before .before .before .before .before .before .before .before .before .before .before .before .read-hex .ensures .1)) (c .before .before .before .before .before .before .before .before .before .receive .ensures .0) (c .before .before .before .before .before .before .before .before .before .receive .ensures .1 .0) (c .before .before .before .before .before .before .before .before .before .receive .ensures .1 .1)) (c .before .before .before .before .before .before .before .before .before .before .before .before .before .before .before .before .before .before .before .before .args .t) (c .before .before .before .before .before .before .before .before .before .before .before .before .before .before .before .before .before .before .before .before .args .out .now) (telt-as (c .before .before .before .before .before .before .before .before .before .before .before .before .before .before .before .before .before .before .before .before .args .t) D.Receive (c .before .before .before .before .before .before .before .before .before .before .before .before .before .before .before .before .before .before .before .before .args .address) (c .before .before .before .before .before .before .before .before .before .before .before .before .before .before .before .before .before .before .before .before .args .st) _ _ (c .before .before .before .before .before .before .before .before .before .before .before .before .before .before .before .before .before .before .before .before .args .out .now) (message-is (c .before .before .before .before .before .before .before .before .before .before .before .before .before .before .before .before .before .before .before .before .args .digits .now) _ (c .before .before .before .before .before .before .before .before .before .before .before .before .before .before .before .read-hex .ensures .0) (c .before .before .before .before .before .before .before .before .before .before .before .before .before .before .before .read-hex .ensures .1)) (c .before .before .tell .ensures))
 
 pub hear-neighbour-spec : {M : Type 1} → statement M
 hear-neighbour-spec =
@@ -58,9 +60,10 @@ hear-neighbour-spec =
     array-share-prefix-octets
     slice-aggregate-receive-3
     receive-requires
-    slice-aggregate-put-replies
-    put-replies-requires
-    told-requires
+    array-share-prefix-octets-2
+    slice-aggregate-tell
+    slice-aggregate-tell-2
+    tell-requires
     same-length
     same-length-2
     returns)

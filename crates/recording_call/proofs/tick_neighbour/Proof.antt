@@ -1,7 +1,8 @@
--- `recording_call::tick_neighbour` meets its contract: the call, and its replies as lines. Assumes nothing.
-use Rattle.recording_call.proofs.Laws.{lent-is, event-made, made-done}
+-- `recording_call::tick_neighbour` meets its contract: the call, and what is told of it. Assumes nothing.
+use native.Mathlib.Omega.{arith}
 use Rattle.neighbour_machine.specs.Intrinsics.{Tick}
-use Rattle.recording_call.specs.Told.{addressedTo}
+use Rattle.recording_call.proofs.Laws.{lent-is, event-made, made-done}
+use Rattle.recording_call.specs.Told.{addressedTo, intrinsicDeed, deedOf, messageIn, on}
 use borrow.Author.Needs.{needs}
 use Rattle.recording_call.proofs.tick_neighbour.Statement.{statement}
 use Rattle.recording_call.proofs.tick_neighbour.Tie as tie
@@ -12,16 +13,14 @@ slice-aggregate-tick c = search needs
 tick-requires : tie.Need-tick-requires
 tick-requires c κs = search needs
 
-slice-aggregate-put-replies : tie.Need-slice-aggregate-put-replies
-slice-aggregate-put-replies c = search needs
+slice-aggregate-tell : tie.Need-slice-aggregate-tell
+slice-aggregate-tell c = search needs
 
-put-replies-requires : tie.Need-put-replies-requires
-put-replies-requires c κs =
-    let m = event-made Tick (c .before .before .before .before .before .before .before .before .before .before .args .st) (c .before .before .before .before .before .before .before .before .before .before .args .table .now) (c .before .before .before .before .before .before .before .before .before .before .args .address) lent-is (c .before .before .before .before .before .tick .ensures .0) (c .before .before .before .before .before .tick .ensures .1 .0) (c .before .before .before .before .before .tick .ensures .1 .1) in
-    (m .few, m .long, c .before .before .before .before .before .before .before .before .before .before .pre)
+slice-aggregate-tell-2 : tie.Need-slice-aggregate-tell-2
+slice-aggregate-tell-2 c = search needs
 
-told-requires : tie.Need-told-requires
-told-requires c κs = search needs
+tell-requires : tie.Need-tell-requires
+tell-requires c κs = let m = event-made Tick (c .before .before .before .before .before .before .before .before .before .before .before .args .st) (c .before .before .before .before .before .before .before .before .before .before .before .args .table .now) (c .before .before .before .before .before .before .before .before .before .before .before .args .address) lent-is (c .before .before .before .before .before .before .tick .ensures .0) (c .before .before .before .before .before .before .tick .ensures .1 .0) (c .before .before .before .before .before .before .tick .ensures .1 .1) in ((omega arith, m .few, m .long), c .before .before .before .before .before .before .before .before .before .before .before .pre)
 
 same-length : tie.Need-same-length
 same-length c = search needs
@@ -30,8 +29,8 @@ same-length-2 : tie.Need-same-length-2
 same-length-2 c = search needs
 
 returns : tie.Need-returns
-unfolding addressedTo
-returns c = made-done (event-made Tick (c .before .before .before .before .before .before .before .before .before .before .before .before .before .before .args .st) (c .before .before .before .before .before .before .before .before .before .before .before .before .before .before .args .table .now) (c .before .before .before .before .before .before .before .before .before .before .before .before .before .before .args .address) lent-is (c .before .before .before .before .before .before .before .before .before .tick .ensures .0) (c .before .before .before .before .before .before .before .before .before .tick .ensures .1 .0) (c .before .before .before .before .before .before .before .before .before .tick .ensures .1 .1)) (c .before .before .before .before .before .before .before .before .before .before .before .before .before .before .args .out .now) (c .before .before .before .put-replies .ensures .0) (c .before .before .before .put-replies .ensures .1) (c .told .ensures)
+unfolding addressedTo intrinsicDeed deedOf messageIn on
+returns c = made-done (event-made Tick (c .before .before .before .before .before .before .before .before .before .before .before .before .before .before .args .st) (c .before .before .before .before .before .before .before .before .before .before .before .before .before .before .args .table .now) (c .before .before .before .before .before .before .before .before .before .before .before .before .before .before .args .address) lent-is (c .before .before .before .before .before .before .before .before .before .tick .ensures .0) (c .before .before .before .before .before .before .before .before .before .tick .ensures .1 .0) (c .before .before .before .before .before .before .before .before .before .tick .ensures .1 .1)) (c .before .before .before .before .before .before .before .before .before .before .before .before .before .before .args .t) (c .before .before .before .before .before .before .before .before .before .before .before .before .before .before .args .out .now) (c .before .before .tell .ensures)
 
 pub tick-neighbour-spec : {M : Type 1} → statement M
 tick-neighbour-spec =
@@ -39,9 +38,9 @@ tick-neighbour-spec =
     (tie.spec
     slice-aggregate-tick
     tick-requires
-    slice-aggregate-put-replies
-    put-replies-requires
-    told-requires
+    slice-aggregate-tell
+    slice-aggregate-tell-2
+    tell-requires
     same-length
     same-length-2
     returns)

@@ -16,7 +16,9 @@ fresh-requires c κs = search needs
 
 returns : tie.Need-returns
 unfolding beginning zeroState freshOf silentOf freshAnswer check ifOk goodSettings
-returns c = ap (λ (o : Outcome). record { lines = 0; held = 0; broken = false; address = 0; ticks = 0; settings = noSettings; state = o .state }) (c .before .fresh .ensures)
+returns c =
+    let traced = c .before .before .args .traced in
+    ap (λ (o : Outcome). record { lines = 0; held = 0; broken = false; address = 0; ticks = 0; settings = noSettings; state = o .state; traced = traced; passed = 0 }) (c .before .fresh .ensures)
 
 pub begin-spec : {M : Type 1} → statement M
 begin-spec = tie.close (tie.spec fresh-requires returns)

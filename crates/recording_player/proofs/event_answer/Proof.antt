@@ -31,24 +31,19 @@ lent-answer-requires : tie.Need-lent-answer-requires
 lent-answer-requires c κs = search needs
 
 returns : tie.Need-returns
-returns c =
-    λ line. c .report-answer .ensures ∙ sym (asks-bad (leb 65536 (c .before .before .before .args .room)) (c .before .before .before .args .st) (c .before .before .before .args .numbers) (c .before .before .before .args .read) line (c .before .enum-told .given .1))
+returns c = λ line. c .report-answer .ensures ∙ sym (asks-bad (c .before .before .before .args .traced) (leb 65536 (c .before .before .before .args .room)) (c .before .before .before .args .st) (c .before .before .before .args .numbers) (c .before .before .before .args .read) line (c .before .enum-told .given .1))
 
 returns-2 : tie.Need-returns-2
-returns-2 c =
-    λ line. c .formed-answer .ensures ∙ sym (asks-add (leb 65536 (c .before .before .before .args .room)) (c .before .before .before .args .st) (c .before .before .before .args .numbers) (c .before .before .before .args .read) line (c .before .enum-told2 .given .0 .0) (c .before .enum-told2 .given .0 .1 .0) (c .before .enum-told2 .given .1))
+returns-2 c = λ line. c .formed-answer .ensures ∙ sym (asks-add (c .before .before .before .args .traced) (leb 65536 (c .before .before .before .args .room)) (c .before .before .before .args .st) (c .before .before .before .args .numbers) (c .before .before .before .args .read) line (c .before .enum-told2 .given .0 .0) (c .before .enum-told2 .given .0 .1 .0) (c .before .enum-told2 .given .1))
 
 returns-3 : tie.Need-returns-3
-returns-3 c =
-    λ line. c .formed-answer2 .ensures ∙ sym (asks-remove (leb 65536 (c .before .before .before .args .room)) (c .before .before .before .args .st) (c .before .before .before .args .numbers) (c .before .before .before .args .read) line (c .before .enum-told3 .given .0 .0) (c .before .enum-told3 .given .1))
+returns-3 c = λ line. c .formed-answer2 .ensures ∙ sym (asks-remove (c .before .before .before .args .traced) (leb 65536 (c .before .before .before .args .room)) (c .before .before .before .args .st) (c .before .before .before .args .numbers) (c .before .before .before .args .read) line (c .before .enum-told3 .given .0 .0) (c .before .enum-told3 .given .1))
 
 returns-4 : tie.Need-returns-4
-returns-4 c =
-    λ line. sym (asks-tick (leb 65536 (c .before .before .args .room)) (c .before .before .args .st) (c .before .before .args .numbers) (c .before .before .args .read) line (c .enum-told4 .given .0 .0) (c .enum-told4 .given .0 .1 .0) (c .enum-told4 .given .1))
+returns-4 c = λ line. sym (asks-tick (c .before .before .args .traced) (leb 65536 (c .before .before .args .room)) (c .before .before .args .st) (c .before .before .args .numbers) (c .before .before .args .read) line (c .enum-told4 .given .0 .0) (c .enum-told4 .given .0 .1 .0) (c .enum-told4 .given .1))
 
 returns-5 : tie.Need-returns-5
-returns-5 c =
-    λ line. c .lent-answer .ensures ∙ sym (asks-call (leb 65536 (c .before .before .args .room)) (c .before .before .args .st) (c .before .before .args .numbers) (c .before .before .args .read) line (c .before .match .keys5))
+returns-5 c = λ line. c .lent-answer .ensures ∙ sym (asks-call (c .before .before .args .traced) (leb 65536 (c .before .before .args .room)) (c .before .before .args .st) (c .before .before .args .numbers) (c .before .before .args .read) line (c .before .match .keys5))
 
 pub event-answer-spec : {M : Type 1} → statement M
 event-answer-spec =

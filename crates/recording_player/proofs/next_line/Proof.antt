@@ -13,7 +13,7 @@ returns : tie.Need-returns
 unfolding nextLine
 returns c =
     let p = c .before .before .before .args .p in
-    ap (λ (n : ℕ). record { lines = n; held = 0; broken = p .broken; address = p .address; ticks = p .ticks; settings = p .settings; state = p .state }) (c .one-more .ensures)
+    ap (λ (n : ℕ). record { lines = n; held = 0; broken = p .broken; address = p .address; ticks = p .ticks; settings = p .settings; state = p .state; traced = p .traced; passed = p .passed }) (c .one-more .ensures)
 
 pub next-line-spec : {M : Type 1} → statement M
 next-line-spec = tie.close (tie.spec one-more-requires returns)

@@ -1,0 +1,253 @@
+-- A line of the trace: what a call found and left of its neighbour, and every message that was received or sent.
+-- docs/RECORDING.md has the format.
+use Prim.Native.Nat.{ℕ, suc, _*_, _%_}
+use mathlib.Core.Bool.{Bool, true, false, cond, not, _&&_}
+use mathlib.Core.List.{List, [], _∷_, _++_, map}
+use lib.Dec.{leb, ltb, eqb}
+use lib.ListN.{length, getD, take, drop}
+use Rattle.checks.specs.Lists.{join}
+use Rattle.octets.specs.Numbers.{word16}
+use Rattle.octets_checksum.specs.Checksum.{checksumOf}
+use Rattle.nets.specs.Rows.{Row, rowsOf}
+use Rattle.text.specs.Text.{text, decimal, dotted}
+use Rattle.text_values.specs.Places.{indexOf}
+use Rattle.text_values.specs.Hex.{hexText}
+use Rattle.message.specs.declared.Kind.{Kind}
+use Rattle.message.specs.declared.Kind.the-variants as K
+use Rattle.message.specs.declared.Message.{Message}
+use Rattle.message.specs.declared.Message.the-variants.{Request, Confirm, Refuse, Cease, CeaseAck, Hello, IHeardYou, Poll, Update, Error}
+use Rattle.message.specs.Kinds.{kindOf}
+use Rattle.codec.specs.declared.Meaning.{Meaning}
+use Rattle.codec.specs.declared.Meaning.the-variants.{Good, Refused}
+use Rattle.codec.specs.declared.Reading.{Reading}
+use Rattle.codec.specs.Reading.{readNumber, readOf}
+use Rattle.neighbour.specs.declared.Phase.{Phase}
+use Rattle.neighbour.specs.declared.Phase.the-variants as P
+use Rattle.neighbour_seconds.specs.Seconds.{secondsSum}
+use Rattle.gateway_state.specs.declared.Slot.{Slot}
+use Rattle.gateway_state.specs.declared.State.{State}
+use Rattle.gateway_state.specs.declared.Outcome.{Outcome}
+use Rattle.gateway_state.specs.Slots.{slotAt, slotOf}
+use Rattle.listing_lines.specs.Lines.{stateWord, modeWord}
+use Rattle.recording_trace.specs.declared.Deed.{Deed}
+use Rattle.recording_trace.specs.declared.Deed.the-variants as D
+use Rattle.recording_trace.specs.declared.Telling.{Telling}
+
+-- ---- fields
+
+-- the keys of a line stand one after the other: the first ends in its `=`
+unfoldable pub keySize : List ℕ → ℕ
+keySize keys = cond (ltb (indexOf 61 keys) (length keys)) (suc (indexOf 61 keys)) (length keys)
+
+-- numbers, each behind its key
+unfoldable pub fields : List ℕ → List ℕ → List ℕ
+fields keys [] = []
+fields keys (value ∷ rest) = take (keySize keys) keys ++ (decimal value ++ fields (drop (keySize keys) keys) rest)
+
+unfoldable pub addressField : List ℕ → ℕ → List ℕ
+addressField key a = key ++ dotted a
+
+-- ---- a message
+
+unfoldable pub kindWord : Kind → List ℕ
+kindWord K.Request = text "request"
+kindWord K.Confirm = text "confirm"
+kindWord K.Refuse = text "refuse"
+kindWord K.Cease = text "cease"
+kindWord K.CeaseAck = text "cease-ack"
+kindWord K.Hello = text "hello"
+kindWord K.IHeardYou = text "i-h-u"
+kindWord K.Poll = text "poll"
+kindWord K.Update = text "update"
+kindWord K.Error = text "error"
+
+-- what reading alone makes of it
+unfoldable pub meaningWord : Meaning → List ℕ
+meaningWord (Good m) = kindWord (kindOf m)
+meaningWord (Refused number) = text "refused"
+
+abbrev pub headKeys : List ℕ
+headKeys = text " reading= octets= status= checksum= right= as= sequence= rows="
+
+-- what stands in its octets, whatever reading makes of them; 01: "Header: version 2, type, code, status, checksum (2), AS (2),
+-- sequence (2)"
+unfoldable pub headNumbers : ℕ → ℕ → List ℕ → List ℕ
+headNumbers number count o =
+    number ∷ length o ∷ getD o 3 0 ∷ word16 o 4 ∷ checksumOf o ∷ word16 o 6 ∷ word16 o 8 ∷ count ∷ []
+
+unfoldable pub intervalFields : ℕ → ℕ → List ℕ
+intervalFields hello poll = fields (text " hello= poll=") (hello ∷ poll ∷ [])
+
+unfoldable pub errorFields : ℕ → ℕ → ℕ → ℕ → List ℕ
+errorFields reason first second third = fields (text " reason= word1= word2= word3=") (reason ∷ first ∷ second ∷ third ∷ [])
+
+-- 01: "ten kinds, each carrying its own fields"
+unfoldable pub ownFields : Message → List ℕ
+ownFields (Request a q s hello poll) = intervalFields hello poll
+ownFields (Confirm a q s hello poll) = intervalFields hello poll
+ownFields (Refuse a q s) = []
+ownFields (Cease a q s) = []
+ownFields (CeaseAck a q s) = []
+ownFields (Hello a q s) = []
+ownFields (IHeardYou a q s) = []
+ownFields (Poll a q s net) = addressField (text " net=") net
+ownFields (Update a q s net) = addressField (text " net=") net
+ownFields (Error a q s reason first second third) = errorFields reason first second third
+
+unfoldable pub bodyFields : Meaning → List ℕ
+bodyFields (Good m) = ownFields m
+bodyFields (Refused number) = []
+
+-- 01: "distance plus 256 if external"
+unfoldable pub sideField : ℕ → List ℕ
+sideField third = cond (leb 256 third) (text " side=ext") (text " side=int")
+
+unfoldable pub rowFields : Row → List ℕ
+rowFields row =
+    addressField (text " row=") (row .net)
+    ++ (addressField (text " gw=") (row .gateway) ++ (fields (text " dist=") (row .third % 256 ∷ []) ++ sideField (row .third)))
+
+unfoldable pub rowsFields : List Row → List ℕ
+rowsFields rows = join (map rowFields rows)
+
+unfoldable pub readingText : List ℕ → Reading → List ℕ → List ℕ
+readingText key r o =
+    key
+    ++ (meaningWord (r .meaning)
+    ++ (fields headKeys (headNumbers (readNumber (r .meaning)) (r .count) o)
+    ++ (bodyFields (r .meaning) ++ (rowsFields (rowsOf (take (r .count * 3) (r .rows))) ++ (text " hex=" ++ hexText o)))))
+
+-- its reading, given the common net, and its octets beside it
+unfoldable pub messageText : List ℕ → ℕ → List ℕ → List ℕ
+messageText key net o = readingText key (readOf net o) o
+
+-- ---- a call
+
+-- what is told of: the event, the address, the message received, the state before and after, the answer, the messages sent
+pub record Happened : Type 0 where
+  pub deed : Deed
+  pub address : ℕ
+  pub received : List ℕ
+  pub before : State
+  pub after : State
+  pub answer : ℕ
+  pub first : List ℕ
+  pub second : List ℕ
+
+-- a recording's own keys
+unfoldable pub deedWord : Deed → List ℕ
+deedWord D.Add = text "add"
+deedWord D.Remove = text "remove"
+deedWord D.Start = text "start"
+deedWord D.Stop = text "stop"
+deedWord D.Tick = text "tick"
+deedWord D.Receive = text "rx"
+
+-- the slot with this address; a free one where there is none
+unfoldable pub slotFor : State → ℕ → Slot
+slotFor st a = slotAt st (slotOf st a)
+
+-- what the call leaves of it, or, where it leaves nothing, what it found
+unfoldable pub toldSlot : Slot → Slot → Slot
+toldSlot found left = cond (eqb (left .address) 0) found left
+
+-- 01: "States: idle, acquisition, down, up, cease."
+unfoldable pub slotWord : Slot → List ℕ
+slotWord slot = cond (eqb (slot .address) 0) (text "none") (stateWord (slot .neighbour .phase))
+
+abbrev pub recordKeys : List ℕ
+recordKeys = text " quiet= rowsbefore= rowsafter= registerbefore= registerafter= peer= S= R= T1= T2= t1= t2= t3= heard= cause= sincehello= sincepoll="
+
+unfoldable pub recordNumbers : ℕ → Slot → Slot → Slot → List ℕ
+recordNumbers passed found left told =
+    passed
+    ∷ found .rows
+    ∷ left .rows
+    ∷ found .neighbour .register
+    ∷ left .neighbour .register
+    ∷ told .asn
+    ∷ told .neighbour .s
+    ∷ told .neighbour .r
+    ∷ told .neighbour .period1
+    ∷ told .neighbour .period2
+    ∷ told .neighbour .t1
+    ∷ told .neighbour .t2
+    ∷ told .neighbour .t3
+    ∷ told .neighbour .heard
+    ∷ told .neighbour .cause
+    ∷ told .neighbour .sincehello
+    ∷ told .neighbour .sincepoll
+    ∷ []
+
+-- the line's number, the neighbour, the event, how many seconds the neighbour has been there, and the answer
+unfoldable pub frontText : ℕ → Deed → ℕ → ℕ → ℕ → List ℕ
+frontText line deed a second answer =
+    fields (text "line=") (line ∷ [])
+    ++ (addressField (text " neighbour=") a
+    ++ (text " event=" ++ (deedWord deed ++ fields (text " second= answer=") (second ∷ answer ∷ []))))
+
+unfoldable pub recordText : ℕ → Slot → Slot → List ℕ
+recordText passed found left =
+    text " before="
+    ++ (slotWord found
+    ++ (text " after="
+    ++ (slotWord left
+    ++ (text " mode=" ++ (modeWord ((toldSlot found left) .neighbour .mode) ++ fields recordKeys (recordNumbers passed found left (toldSlot found left)))))))
+
+-- a message that was received, where the call is one, if only of no octets
+unfoldable pub receivedText : Deed → ℕ → List ℕ → List ℕ
+receivedText D.Add net o = []
+receivedText D.Remove net o = []
+receivedText D.Start net o = []
+receivedText D.Stop net o = []
+receivedText D.Tick net o = []
+receivedText D.Receive net o = messageText (text " received=") net o
+
+-- a message that was sent, where there is one
+unfoldable pub sentText : ℕ → List ℕ → List ℕ
+sentText net [] = []
+sentText net (octet ∷ rest) = messageText (text " sent=") net (octet ∷ rest)
+
+unfoldable pub messagesText : Deed → ℕ → List ℕ → List ℕ → List ℕ → List ℕ
+messagesText deed net received first second = receivedText deed net received ++ (sentText net first ++ sentText net second)
+
+-- the line of a call whose neighbour's slot was this and is that
+unfoldable pub slotsText : Telling → Happened → Slot → Slot → List ℕ
+slotsText t h found left =
+    frontText (t .line) (h .deed) (h .address) (secondsSum ((toldSlot found left) .seconds)) (h .answer)
+    ++ (recordText (t .passed) found left
+    ++ (messagesText (h .deed) (h .before .settings .net) (h .received) (h .first) (h .second) ++ text "\n"))
+
+unfoldable pub traceText : Telling → Happened → List ℕ
+traceText t h = slotsText t h (slotFor (h .before) (h .address)) (slotFor (h .after) (h .address))
+
+-- ---- quiet ticks
+
+unfoldable pub isTick : Deed → Bool
+isTick D.Add = false
+isTick D.Remove = false
+isTick D.Start = false
+isTick D.Stop = false
+isTick D.Tick = true
+isTick D.Receive = false
+
+unfoldable pub phaseNumber : Phase → ℕ
+phaseNumber P.Idle = 0
+phaseNumber P.Acquisition = 1
+phaseNumber P.Down = 2
+phaseNumber P.Up = 3
+phaseNumber P.Cease = 4
+
+-- neither state nor register nor rows changed
+unfoldable pub isUnchanged : Slot → Slot → Bool
+isUnchanged found left =
+    eqb (phaseNumber (found .neighbour .phase)) (phaseNumber (left .neighbour .phase))
+    && (eqb (found .neighbour .register) (left .neighbour .register) && eqb (found .rows) (left .rows))
+
+-- nothing was sent either
+unfoldable pub isQuietTick : Happened → Bool
+isQuietTick h = eqb (length (h .first)) 0 && isUnchanged (slotFor (h .before) (h .address)) (slotFor (h .after) (h .address))
+
+-- no line tells of a quiet tick that is not its line's last
+unfoldable pub isPassedOver : Telling → Happened → Bool
+isPassedOver t h = not (t .last) && (isTick (h .deed) && isQuietTick h)

@@ -9,7 +9,7 @@ use mathlib.Core.Path.{_≡_, refl, sym, ap, _∙_}
 use mathlib.Core.List.{List, [], _∷_, _++_, append-assoc, append-nil}
 use lib.Dec.{ltb}
 use lib.ListN.{length, take, drop, getD, length-drop, drop-of-length-le}
-use lib.Seq.{drop-cons, sets-eq, length-take-le, take-all}
+use lib.Seq.{drop-cons, sets-eq, length-take-le}
 use types.Run.{OneOf, miss}
 use denote.Enum.Declared.{tagOf}
 use Rattle.checks.specs.Lists.{join}
@@ -189,10 +189,6 @@ module _ {rows : List ℕ} {at : ℕ} {old : List ℕ} {o : ℕ} {out : List ℕ
       }
 
 -- ---- a message
-
--- as many rows as there can be
-pub all-numbers : (n : ℕ) (rows : List ℕ) → 384 ≤ n → length rows ≡ 384 → take 384 rows ≡ take n rows
-all-numbers n rows h e = take-all 384 rows (omega arith) ∙ sym (take-all n rows (omega arith))
 
 module _ (key : List ℕ) (meaning : Meaning) (count : ℕ) (rows o : List ℕ) {number : ℕ} {numbers part : List ℕ}
     (e : number ≡ readNumber meaning) (f : numbers ≡ headNumbers number count o) (g : part ≡ take (count * 3) rows) where

@@ -1,3 +1,4 @@
+pub mod Readings
 pub mod Laws
 pub mod Unfolded
 pub mod Cases

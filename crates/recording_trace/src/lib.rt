@@ -10,7 +10,7 @@ use neighbour::Phase;
 ghost use mathlib.Core.Path.{_≡_};
 ghost use mathlib.Core.List.{List};
 ghost use Prim.Native.Nat.{ℕ, _+_, _*_, _≤_};
-ghost use lib.ListN.{length, take};
+ghost use lib.ListN.{length};
 ghost use Rattle.octets.specs.Buffer.{over};
 ghost use Rattle.octets.specs.Written.{Written};
 ghost use Rattle.nets.specs.Rows.{rowsOf};
@@ -303,18 +303,6 @@ fn put_rows(out: &mut [u8], at: usize, rows: &[u32]) -> usize
     end
 }
 
-// How many numbers so many rows have, of the 384 that a reading has.
-fn row_numbers(count: u16) -> usize
-    ensures { λ r. ⌜ r ≤ 384 ⌝ }
-    ensures { λ r. ⌜ ((rows : List ℕ) → length rows ≡ 384 → take r rows ≡ take (count * 3) rows) ⌝ }
-{
-    let numbers = count as usize * 3;
-    if numbers < 384 {
-        return numbers;
-    }
-    384
-}
-
 // Writes a reading of a message, and its octets beside it.
 fn put_reading(
     out: &mut [u8],
@@ -325,7 +313,7 @@ fn put_reading(
     rows: &[u32],
     message: &[u8],
 ) -> usize
-    requires { ⌜ (length (now rows) ≡ 384) × (length (now message) ≤ 2049) ⌝ }
+    requires { ⌜ (length (now rows) ≡ 384) × (count ≤ 128) × (length (now message) ≤ 2049) ⌝ }
     requires { ⌜ at + (length (now key) + 14100) ≤ length (now out) ⌝ }
     ensures { λ r. ⌜ Written (readingText (now (key .entry)) (record { meaning = meaning; count = count; rows = now (rows .entry) }) (now (message .entry))) at (now (out .entry)) (now (out .exit)) r ⌝ }
     ensures { λ r. ⌜ r ≤ at + (length (now (key .entry)) + 14100) ⌝ }
@@ -339,7 +327,7 @@ fn put_reading(
         &head_numbers(reading_number(meaning), count, message),
     );
     let body = put_body(out, head, meaning);
-    let numbers = row_numbers(count);
+    let numbers = count as usize * 3;
     let list = put_rows(out, body, &rows[..numbers]);
     let sign = octets::put(out, list, b" hex=");
     text_values::put_hex(out, sign, message)

@@ -1,4 +1,5 @@
 -- `recording_trace::put_message` meets its contract. Assumes nothing.
+use Rattle.recording_trace.proofs.Readings.{count-few}
 use Rattle.recording_trace.specs.Trace.{messageText}
 use borrow.Author.Needs.{needs}
 use Rattle.recording_trace.proofs.put_message.Statement.{statement}
@@ -11,7 +12,7 @@ slice-aggregate-put-reading : tie.Need-slice-aggregate-put-reading
 slice-aggregate-put-reading c = search needs
 
 put-reading-requires : tie.Need-put-reading-requires
-put-reading-requires c κs = search needs
+put-reading-requires c κs = let f = count-few _ _ (c .before .before .before .read .ensures) in search (needs, f)
 
 same-length : tie.Need-same-length
 same-length c = search needs

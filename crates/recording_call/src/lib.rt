@@ -1,4 +1,4 @@
-// One call, as a recording asks for it: with a zeroed reply buffer and an empty home list, its replies written as lines.
+// One call, as a recording asks for it: with a zeroed reply buffer and an empty home list; and what is told of it.
 use gateway_state::Outcome;
 use gateway_state::State;
 use recording_trace::Deed;
@@ -16,8 +16,8 @@ ghost use Rattle.recording_trace.specs.Steps.{happenedIn};
 ghost use Rattle.recording_call.specs.Told.{lent, tellText, calledFor, callText, calledOf, on};
 ghost use Rattle.recording_call.specs.Steps.{calledWith};
 
-// What a call leaves: the state, its number, how many octets of lines were written, and how many ticks are quiet since the
-// last one told of.
+// What a call leaves: the state, its number, how many octets of lines were written, and how many ticks were passed over
+// since the last one told of.
 pub struct Called {
     pub state: State,
     pub answer: u8,

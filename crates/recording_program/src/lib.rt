@@ -1,5 +1,5 @@
-// A program that plays a site's recording back: standard input, or the file that the only argument names. What is told of
-// its calls, bad lines and the listing go to standard output. docs/RECORDING.md has the format.
+// A program that plays a site's recording back: standard input, or the file that the only argument names. What is told
+// of its calls, bad lines and the listing go to standard output. docs/RECORDING.md has the format.
 use libc::STDERR_FILENO;
 use libc::STDIN_FILENO;
 use libc::STDOUT_FILENO;

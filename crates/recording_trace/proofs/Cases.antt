@@ -7,18 +7,7 @@ pub cases : TraceCases
 unfolding opened
 cases =
     record {
-      size = refl;
-      last-size = refl;
-      two = refl;
-      kinds = refl;
       deeds = refl;
-      request = refl;
-      confirm = refl;
-      poll = refl;
-      quoted = refl;
-      good = refl;
-      wrong = refl;
-      outside = refl;
       both = λ net. refl;
       empty = λ net. refl;
       none = λ net. refl;

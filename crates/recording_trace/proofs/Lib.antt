@@ -1,4 +1,3 @@
-pub mod Readings
 pub mod Laws
 pub mod Unfolded
 pub mod Cases

@@ -1,22 +1,17 @@
 // A line of the trace: what a call found and left of its neighbour, and every message that was received or sent.
-use codec::Meaning;
 use gateway_state::Outcome;
 use gateway_state::Slot;
 use gateway_state::State;
-use message::Kind;
-use message::Message;
 use neighbour::Mode;
 use neighbour::Phase;
 ghost use mathlib.Core.Path.{_≡_};
 ghost use mathlib.Core.List.{List};
-ghost use Prim.Native.Nat.{ℕ, _+_, _*_, _≤_};
+ghost use Prim.Native.Nat.{ℕ, _+_, _≤_};
 ghost use lib.ListN.{length};
 ghost use Rattle.octets.specs.Buffer.{over};
 ghost use Rattle.octets.specs.Written.{Written};
-ghost use Rattle.nets.specs.Rows.{rowsOf};
-ghost use Rattle.codec.specs.Reading.{readNumber};
 ghost use Rattle.listing_lines.specs.Lines.{stateWord, modeWord};
-ghost use Rattle.recording_trace.specs.Trace.{keySize, fields, addressField, deedWord, slotWord, kindWord, meaningWord, headNumbers, intervalFields, errorFields, ownFields, bodyFields, sideField, rowFields, rowsFields, readingText, messageText, receivedText, sentText, slotFor, toldSlot, recordNumbers, frontText, recordText, messagesText, traceText, phaseNumber, isUnchanged, isQuietTick, isTick, isPassedOver};
+ghost use Rattle.recording_trace.specs.Trace.{deedWord, slotWord, receivedText, sentText, slotFor, toldSlot, recordNumbers, frontText, recordText, messagesText, traceText, phaseNumber, isUnchanged, isQuietTick, isTick, isPassedOver};
 ghost use Rattle.recording_trace.specs.Steps.{happenedIn};
 
 // Which event a call is.
@@ -29,53 +24,13 @@ pub enum Deed {
     Receive,
 }
 
-// How a call is told of: as a trace or by its replies alone; the number of its line, how many ticks of that line since the
-// last one told of were quiet, and whether it is the line's last call.
+// How a call is told of: by a line of the trace, or by its replies alone; the number of its line, how many ticks of that
+// line were passed over since the last one told of, and whether it is the line's last call.
 pub struct Telling {
     pub traced: bool,
     pub line: u64,
     pub passed: u64,
     pub last: bool,
-}
-
-// How long the first of these keys is, its sign with it.
-fn key_size(keys: &[u8]) -> usize
-    ensures { λ r. ⌜ r ≡ keySize (now (keys .entry)) ⌝ }
-{
-    let sign = text_values::index_of(keys, 61);
-    if sign < keys.len() {
-        return sign + 1;
-    }
-    keys.len()
-}
-
-// Writes numbers, each behind its key.
-fn put_fields(out: &mut [u8], at: usize, keys: &[u8], values: &[u64]) -> usize
-    requires { ⌜ at + (length (now keys) + 20 * length (now values)) ≤ length (now out) ⌝ }
-    ensures { λ r. ⌜ Written (fields (now (keys .entry)) (now (values .entry))) at (now (out .entry)) (now (out .exit)) r ⌝ }
-    ensures { λ r. ⌜ r ≤ at + (length (now (keys .entry)) + 20 * length (now (values .entry))) ⌝ }
-{
-    let mut end = at;
-    let mut rest = keys;
-    let mut i = 0;
-    while i < values.len() {
-        let size = key_size(rest);
-        let start = octets::put(out, end, &rest[..size]);
-        end = recording_bad_line::put_long(out, start, values[i]);
-        rest = &rest[size..];
-        i += 1;
-    }
-    end
-}
-
-// Writes an address behind its key.
-fn put_address(out: &mut [u8], at: usize, key: &[u8], address: u32) -> usize
-    requires { ⌜ at + (length (now key) + 15) ≤ length (now out) ⌝ }
-    ensures { λ r. ⌜ Written (addressField (now (key .entry)) address) at (now (out .entry)) (now (out .exit)) r ⌝ }
-    ensures { λ r. ⌜ r ≤ at + (length (now (key .entry)) + 15) ⌝ }
-{
-    let start = octets::put(out, at, key);
-    text::put_dotted(out, start, address)
 }
 
 fn put_deed(out: &mut [u8], at: usize, deed: Deed) -> usize
@@ -133,219 +88,6 @@ fn put_mode(out: &mut [u8], at: usize, mode: Mode) -> usize
     }
 }
 
-fn put_kind(out: &mut [u8], at: usize, kind: Kind) -> usize
-    requires { ⌜ at + 9 ≤ length (now out) ⌝ }
-    ensures { λ r. ⌜ Written (kindWord kind) at (now (out .entry)) (now (out .exit)) r ⌝ }
-    ensures { λ r. ⌜ r ≤ at + 9 ⌝ }
-{
-    match kind {
-        Kind::Request => octets::put(out, at, b"request"),
-        Kind::Confirm => octets::put(out, at, b"confirm"),
-        Kind::Refuse => octets::put(out, at, b"refuse"),
-        Kind::Cease => octets::put(out, at, b"cease"),
-        Kind::CeaseAck => octets::put(out, at, b"cease-ack"),
-        Kind::Hello => octets::put(out, at, b"hello"),
-        Kind::IHeardYou => octets::put(out, at, b"i-h-u"),
-        Kind::Poll => octets::put(out, at, b"poll"),
-        Kind::Update => octets::put(out, at, b"update"),
-        Kind::Error => octets::put(out, at, b"error"),
-    }
-}
-
-// What reading alone makes of a message.
-fn put_meaning(out: &mut [u8], at: usize, meaning: Meaning) -> usize
-    requires { ⌜ at + 9 ≤ length (now out) ⌝ }
-    ensures { λ r. ⌜ Written (meaningWord meaning) at (now (out .entry)) (now (out .exit)) r ⌝ }
-    ensures { λ r. ⌜ r ≤ at + 9 ⌝ }
-{
-    match meaning {
-        Meaning::Refused(_) => octets::put(out, at, b"refused"),
-        Meaning::Good(m) => put_kind(out, at, message::kind_of(m)),
-    }
-}
-
-fn reading_number(meaning: Meaning) -> u8
-    ensures { λ r. ⌜ r ≡ readNumber meaning ⌝ }
-{
-    match meaning {
-        Meaning::Refused(number) => number,
-        Meaning::Good(_) => 0,
-    }
-}
-
-// The numbers of a message that any has, whatever reading makes of it.
-fn head_numbers(number: u8, count: u16, message: &[u8]) -> [u64; 8]
-    ensures { λ r. ⌜ r ≡ headNumbers number count (now (message .entry)) ⌝ }
-{
-    [
-        number as u64,
-        message.len() as u64,
-        octets::octet(message, 3) as u64,
-        octets::word16_at(message, 4) as u64,
-        octets_checksum::checksum(message) as u64,
-        octets::word16_at(message, 6) as u64,
-        octets::word16_at(message, 8) as u64,
-        count as u64,
-    ]
-}
-
-fn put_intervals(out: &mut [u8], at: usize, hello: u16, poll: u16) -> usize
-    requires { ⌜ at + 53 ≤ length (now out) ⌝ }
-    ensures { λ r. ⌜ Written (intervalFields hello poll) at (now (out .entry)) (now (out .exit)) r ⌝ }
-    ensures { λ r. ⌜ r ≤ at + 53 ⌝ }
-{
-    put_fields(out, at, b" hello= poll=", &[hello as u64, poll as u64])
-}
-
-fn put_error(out: &mut [u8], at: usize, reason: u16, first: u32, second: u32, third: u32) -> usize
-    requires { ⌜ at + 109 ≤ length (now out) ⌝ }
-    ensures { λ r. ⌜ Written (errorFields reason first second third) at (now (out .entry)) (now (out .exit)) r ⌝ }
-    ensures { λ r. ⌜ r ≤ at + 109 ⌝ }
-{
-    put_fields(
-        out,
-        at,
-        b" reason= word1= word2= word3=",
-        &[reason as u64, first as u64, second as u64, third as u64],
-    )
-}
-
-// The fields that are a kind's own.
-fn put_own(out: &mut [u8], at: usize, m: Message) -> usize
-    requires { ⌜ at + 109 ≤ length (now out) ⌝ }
-    ensures { λ r. ⌜ Written (ownFields m) at (now (out .entry)) (now (out .exit)) r ⌝ }
-    ensures { λ r. ⌜ r ≤ at + 109 ⌝ }
-{
-    match m {
-        Message::Request {
-            asn: _,
-            sequence: _,
-            status: _,
-            hello,
-            poll,
-        } => put_intervals(out, at, hello, poll),
-        Message::Confirm {
-            asn: _,
-            sequence: _,
-            status: _,
-            hello,
-            poll,
-        } => put_intervals(out, at, hello, poll),
-        Message::Poll {
-            asn: _,
-            sequence: _,
-            status: _,
-            net,
-        } => put_address(out, at, b" net=", net),
-        Message::Update {
-            asn: _,
-            sequence: _,
-            status: _,
-            net,
-        } => put_address(out, at, b" net=", net),
-        Message::Error {
-            asn: _,
-            sequence: _,
-            status: _,
-            reason,
-            first,
-            second,
-            third,
-        } => put_error(out, at, reason, first, second, third),
-        _ => at,
-    }
-}
-
-fn put_body(out: &mut [u8], at: usize, meaning: Meaning) -> usize
-    requires { ⌜ at + 109 ≤ length (now out) ⌝ }
-    ensures { λ r. ⌜ Written (bodyFields meaning) at (now (out .entry)) (now (out .exit)) r ⌝ }
-    ensures { λ r. ⌜ r ≤ at + 109 ⌝ }
-{
-    match meaning {
-        Meaning::Refused(_) => at,
-        Meaning::Good(m) => put_own(out, at, m),
-    }
-}
-
-fn put_side(out: &mut [u8], at: usize, third: u32) -> usize
-    requires { ⌜ at + 9 ≤ length (now out) ⌝ }
-    ensures { λ r. ⌜ Written (sideField third) at (now (out .entry)) (now (out .exit)) r ⌝ }
-    ensures { λ r. ⌜ r ≤ at + 9 ⌝ }
-{
-    if 256 <= third {
-        return octets::put(out, at, b" side=ext");
-    }
-    octets::put(out, at, b" side=int")
-}
-
-fn put_row(out: &mut [u8], at: usize, net: u32, gateway: u32, third: u32) -> usize
-    requires { ⌜ at + 75 ≤ length (now out) ⌝ }
-    ensures { λ r. ⌜ Written (rowFields (record { net = net; gateway = gateway; third = third })) at (now (out .entry)) (now (out .exit)) r ⌝ }
-    ensures { λ r. ⌜ r ≤ at + 75 ⌝ }
-{
-    let first = put_address(out, at, b" row=", net);
-    let second = put_address(out, first, b" gw=", gateway);
-    let distance = put_fields(out, second, b" dist=", &[(third % 256) as u64]);
-    put_side(out, distance, third)
-}
-
-fn put_rows(out: &mut [u8], at: usize, rows: &[u32]) -> usize
-    requires { ⌜ at + 25 * length (now rows) ≤ length (now out) ⌝ }
-    ensures { λ r. ⌜ Written (rowsFields (rowsOf (now (rows .entry)))) at (now (out .entry)) (now (out .exit)) r ⌝ }
-    ensures { λ r. ⌜ r ≤ at + 25 * length (now (rows .entry)) ⌝ }
-{
-    let mut end = at;
-    let mut rest = rows;
-    while 2 < rest.len() {
-        end = put_row(out, end, rest[0], rest[1], rest[2]);
-        rest = &rest[3..];
-    }
-    end
-}
-
-// Writes a reading of a message, and its octets beside it.
-fn put_reading(
-    out: &mut [u8],
-    at: usize,
-    key: &[u8],
-    meaning: Meaning,
-    count: u16,
-    rows: &[u32],
-    message: &[u8],
-) -> usize
-    requires { ⌜ (length (now rows) ≡ 384) × (count ≤ 128) × (length (now message) ≤ 2049) ⌝ }
-    requires { ⌜ at + (length (now key) + 14100) ≤ length (now out) ⌝ }
-    ensures { λ r. ⌜ Written (readingText (now (key .entry)) (record { meaning = meaning; count = count; rows = now (rows .entry) }) (now (message .entry))) at (now (out .entry)) (now (out .exit)) r ⌝ }
-    ensures { λ r. ⌜ r ≤ at + (length (now (key .entry)) + 14100) ⌝ }
-{
-    let name = octets::put(out, at, key);
-    let kind = put_meaning(out, name, meaning);
-    let head = put_fields(
-        out,
-        kind,
-        b" reading= octets= status= checksum= right= as= sequence= rows=",
-        &head_numbers(reading_number(meaning), count, message),
-    );
-    let body = put_body(out, head, meaning);
-    let numbers = count as usize * 3;
-    let list = put_rows(out, body, &rows[..numbers]);
-    let sign = octets::put(out, list, b" hex=");
-    text_values::put_hex(out, sign, message)
-}
-
-// Writes what there is to say of a message: reading alone, given the common net, and its octets beside it.
-fn put_message(out: &mut [u8], at: usize, key: &[u8], net: u32, message: &[u8]) -> usize
-    requires { ⌜ length (now message) ≤ 2049 ⌝ }
-    requires { ⌜ at + (length (now key) + 14100) ≤ length (now out) ⌝ }
-    ensures { λ r. ⌜ Written (messageText (now (key .entry)) net (now (message .entry))) at (now (out .entry)) (now (out .exit)) r ⌝ }
-    ensures { λ r. ⌜ r ≤ at + (length (now (key .entry)) + 14100) ⌝ }
-{
-    let reading = codec::read(net, message);
-    let meaning = reading.meaning;
-    let rows = reading.rows;
-    put_reading(out, at, key, meaning, reading.count, &rows, message)
-}
-
 // The message that was received, if the call is one.
 fn put_received(out: &mut [u8], at: usize, deed: Deed, net: u32, message: &[u8]) -> usize
     requires { ⌜ length (now message) ≤ 2049 ⌝ }
@@ -354,7 +96,7 @@ fn put_received(out: &mut [u8], at: usize, deed: Deed, net: u32, message: &[u8])
     ensures { λ r. ⌜ r ≤ at + 14110 ⌝ }
 {
     match deed {
-        Deed::Receive => put_message(out, at, b" received=", net, message),
+        Deed::Receive => recording_message::put_message(out, at, b" received=", net, message),
         _ => at,
     }
 }
@@ -369,7 +111,7 @@ fn put_sent(out: &mut [u8], at: usize, net: u32, message: &[u8]) -> usize
     if message.len() == 0 {
         return at;
     }
-    put_message(out, at, b" sent=", net, message)
+    recording_message::put_message(out, at, b" sent=", net, message)
 }
 
 // The slot of the neighbour with this address, or a free one.
@@ -423,11 +165,11 @@ fn put_front(out: &mut [u8], line: u64, deed: Deed, address: u32, second: u64, a
     ensures { λ r. ⌜ Written (frontText line deed address second answer) 0 (now (out .entry)) (now (out .exit)) r ⌝ }
     ensures { λ r. ⌜ r ≤ 120 ⌝ }
 {
-    let number = put_fields(out, 0, b"line=", &[line]);
-    let neighbour = put_address(out, number, b" neighbour=", address);
+    let number = recording_message::put_fields(out, 0, b"line=", &[line]);
+    let neighbour = recording_message::put_address(out, number, b" neighbour=", address);
     let key = octets::put(out, neighbour, b" event=");
     let event = put_deed(out, key, deed);
-    put_fields(out, event, b" second= answer=", &[second, answer as u64])
+    recording_message::put_fields(out, event, b" second= answer=", &[second, answer as u64])
 }
 
 // The neighbour's record: its state before and after, and the numbers.
@@ -445,7 +187,7 @@ fn put_record(out: &mut [u8], at: usize, passed: u64, found: Slot, left: Slot) -
     let after = put_state(out, second, left);
     let third = octets::put(out, after, b" mode=");
     let kind = put_mode(out, third, mode);
-    put_fields(
+    recording_message::put_fields(
         out,
         kind,
         b" quiet= rowsbefore= rowsafter= registerbefore= registerafter= peer= S= R= T1= T2= t1= t2= t3= heard= cause= sincehello= sincepoll=",

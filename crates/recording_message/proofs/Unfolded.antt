@@ -14,9 +14,10 @@ use Rattle.message_reading.specs.Reading as MessageReadingReading
 use Rattle.update_walk.specs.Body as Body
 use Rattle.update_rows.specs.Storing as Storing
 use Rattle.codec.specs.Reading as CodecReading
+use Rattle.listing_lines.specs.Lines as Lines
 use Rattle.recording_message.specs.Message as Message
 use Rattle.recording_message.specs.Cases as Cases
 
 unfoldable pub opened : ℕ
-unfolding Checks.check Lists.first Lists.join Checksum.onesAdd Checksum.onesSum Checksum.checksumOf Classes.netWidth Classes.hostSpan Classes.goodNet Rows.flat Rows.rowsOf Text.text Text.digit Text.digits Text.decimal Text.dotted Hex.hexDigit Hex.hexText Places.indexOf Kinds.kindAt Kinds.plainStatus Kinds.refusalStatus Kinds.markedStatus MessageReadingReading.headerAnswer MessageReadingReading.meaningOf MessageReadingReading.decodeAs MessageReadingReading.decodeOf MessageReadingReading.decodedNumber Body.extended Body.many Body.leftJustified Body.rowOfWidth Body.netRow Body.groupAt Body.hostWidth Body.gatewayOf Body.blockAt Body.sidesAt Body.groupsHold Body.blocksHold Body.sidesHold Body.readAs Body.bothSides Body.nothingLeft Body.bodyOf Body.further Body.netAt Body.walkedBlocks Body.readWithin Body.updateOf Body.updateNumber Storing.zeros Storing.padded CodecReading.readNumber CodecReading.refusal CodecReading.rowless CodecReading.updateReading CodecReading.meaningReading CodecReading.kindReading CodecReading.readOf Message.keySize Message.fields Message.addressField Message.kindWord Message.meaningWord Message.headNumbers Message.intervalFields Message.errorFields Message.ownFields Message.bodyFields Message.sideField Message.rowFields Message.rowsFields Message.readingText Message.messageText Cases.hello Cases.spoilt Cases.update
+unfolding Checks.check Lists.first Lists.join Checksum.onesAdd Checksum.onesSum Checksum.checksumOf Classes.netWidth Classes.hostSpan Classes.goodNet Rows.flat Rows.rowsOf Text.text Text.digit Text.digits Text.decimal Text.dotted Hex.hexDigit Hex.hexText Places.indexOf Kinds.kindAt Kinds.plainStatus Kinds.refusalStatus Kinds.markedStatus MessageReadingReading.headerAnswer MessageReadingReading.meaningOf MessageReadingReading.decodeAs MessageReadingReading.decodeOf MessageReadingReading.decodedNumber Body.extended Body.many Body.leftJustified Body.rowOfWidth Body.netRow Body.groupAt Body.hostWidth Body.gatewayOf Body.blockAt Body.sidesAt Body.groupsHold Body.blocksHold Body.sidesHold Body.readAs Body.bothSides Body.nothingLeft Body.bodyOf Body.further Body.netAt Body.walkedBlocks Body.readWithin Body.updateOf Body.updateNumber Storing.zeros Storing.padded CodecReading.readNumber CodecReading.refusal CodecReading.rowless CodecReading.updateReading CodecReading.meaningReading CodecReading.kindReading CodecReading.readOf Lines.distanceIn Lines.sideWord Message.keySize Message.fields Message.addressField Message.kindWord Message.meaningWord Message.headNumbers Message.intervalFields Message.errorFields Message.ownFields Message.bodyFields Message.sideField Message.rowFields Message.rowsFields Message.readingText Message.messageText Cases.hello Cases.spoilt Cases.update
 opened = 0

@@ -1,9 +1,9 @@
 -- What the trace says of a message: fields, and what reading alone makes of its octets. docs/RECORDING.md has the
 -- format.
-use Prim.Native.Nat.{ℕ, suc, _*_, _%_}
+use Prim.Native.Nat.{ℕ, suc, _*_}
 use mathlib.Core.Bool.{cond}
 use mathlib.Core.List.{List, [], _∷_, _++_, map}
-use lib.Dec.{leb, ltb}
+use lib.Dec.{ltb}
 use lib.ListN.{length, getD, take, drop}
 use Rattle.checks.specs.Lists.{join}
 use Rattle.octets.specs.Numbers.{word16}
@@ -17,6 +17,7 @@ use Rattle.message.specs.declared.Kind.the-variants as K
 use Rattle.message.specs.declared.Message.{Message}
 use Rattle.message.specs.declared.Message.the-variants.{Request, Confirm, Refuse, Cease, CeaseAck, Hello, IHeardYou, Poll, Update, Error}
 use Rattle.message.specs.Kinds.{kindOf}
+use Rattle.listing_lines.specs.Lines.{distanceIn, sideWord}
 use Rattle.codec.specs.declared.Meaning.{Meaning}
 use Rattle.codec.specs.declared.Meaning.the-variants.{Good, Refused}
 use Rattle.codec.specs.declared.Reading.{Reading}
@@ -87,14 +88,14 @@ unfoldable pub bodyFields : Meaning → List ℕ
 bodyFields (Good m) = ownFields m
 bodyFields (Refused number) = []
 
--- 01: "distance plus 256 if external"
+-- the listing's word
 unfoldable pub sideField : ℕ → List ℕ
-sideField third = cond (leb 256 third) (text " side=ext") (text " side=int")
+sideField third = text " side=" ++ sideWord third
 
 unfoldable pub rowFields : Row → List ℕ
 rowFields row =
     addressField (text " row=") (row .net)
-    ++ (addressField (text " gw=") (row .gateway) ++ (fields (text " dist=") (row .third % 256 ∷ []) ++ sideField (row .third)))
+    ++ (addressField (text " gw=") (row .gateway) ++ (fields (text " dist=") (distanceIn (row .third) ∷ []) ++ sideField (row .third)))
 
 unfoldable pub rowsFields : List Row → List ℕ
 rowsFields rows = join (map rowFields rows)

@@ -42,5 +42,5 @@ use Rattle.recording_player.specs.Player as Player
 use Rattle.recording_player.specs.Sheet as Sheet
 
 unfoldable pub opened : ℕ
-unfolding Checks.check Checks.ifOk Lists.first Lists.every Lists.distinct Lists.join Buffer.over Checksum.onesAdd Checksum.onesSum Checksum.checksumOf Checksum.sealed Classes.netWidth Classes.hostSpan Classes.goodNet Classes.onNet Rows.flat Rows.rowsOf Text.text Text.digit Text.digits Text.decimal Text.dotted Text.line Numbers.whenNumber Numbers.isDigit Numbers.digitsOf Numbers.leadsWithZero Numbers.decimalOf Numbers.dottedFrom Numbers.dottedOf Hex.hexDigit Hex.hexText Hex.nibble Hex.isHex Hex.hexOctets TextValuesPlaces.indexOf TextValuesPlaces.startsWith Storing.zeros Storing.padded Record.under Record.withNumbers Record.withTimers Record.withReach Record.idle Record.leftIdle Record.waiting Record.initialised Record.heardFrom Record.shifted Record.enterUp Record.leaveUp Record.polled Record.oneMore Record.aged Rules.inSequence Rules.commanded Rules.indicates Rules.noted Rules.tooQuick Rules.recounted Rules.period1Of Rules.period2Of Rules.unacceptable Rules.modeOf Rules.offerOf Rules.onesOf Rules.goesUp Rules.goesDown Rules.judged NeighbourWellformedFormed.allZero NeighbourWellformedFormed.idleFormed NeighbourWellformedFormed.timersBelow NeighbourWellformedFormed.timersRun NeighbourWellformedFormed.t2Formed NeighbourWellformedFormed.registerFormed NeighbourWellformedFormed.agreed NeighbourWellformedFormed.intervalsFormed NeighbourWellformedFormed.causeFormed NeighbourWellformedFormed.countsFormed NeighbourWellformedFormed.wellFormed NeighbourSecondsSeconds.secondsSum NeighbourSecondsSeconds.secondsFormed NeighbourSecondsSeconds.areNone NeighbourSecondsSeconds.clockFull NeighbourSecondsSeconds.counted Slots.freeSlot Slots.slotAt Slots.withSlot Slots.addresses Slots.clash Slots.slotOf Slots.lowestFree GatewayStatePlaces.rowCounts GatewayStatePlaces.partAt GatewayStatePlaces.withPart GatewayStatePlaces.readRows GatewayStatePlaces.writeRows GatewayStateFormed.goodSettings GatewayStateFormed.goodPeer GatewayStateFormed.rowsFormed GatewayStateFormed.freeFormed GatewayStateFormed.usedFormed GatewayStateFormed.slotFormed GatewayStateFormed.stateFormed Outcomes.refusedOf Outcomes.silentOf GatewaySlotsCalls.freeSlots GatewaySlotsCalls.emptyState GatewaySlotsCalls.zeroState GatewaySlotsCalls.freshAnswer GatewaySlotsCalls.freshOf GatewaySlotsCalls.addAnswer GatewaySlotsCalls.addOf GatewaySlotsCalls.removeAnswer GatewaySlotsCalls.removeOf Home.homeRow Home.ownFirst Home.goodHome Number.sequenceFits Number.spacingFits Number.bringsRows Number.bodyNumber Number.messageNumber Number.errorHead Number.errorTo Number.refuseTo Number.namedReply Ruling.leaving Ruling.stepped Ruling.refuses Ruling.takenStep Ruling.changeBy Ruling.carriedOut Ruling.receiveRuling GatewayRulesSeconds.hasTime GatewayRulesSeconds.secondMore GatewayRulesSeconds.booked Carried.firstOctets Carried.secondOctets Carried.replyOctets Carried.tableAfter Carried.countAfter Carried.slotAfter Carried.outcomeAfter Carried.bufferAfter GatewayRulesCalls.lentChecks GatewayRulesCalls.eventChecks GatewayRulesCalls.messageChecks GatewayRulesCalls.noHead GatewayRulesCalls.updateRoom GatewayRulesCalls.eventRuling GatewayRulesCalls.messageRuling GatewayRulesCalls.eventOutcome GatewayRulesCalls.eventTable GatewayRulesCalls.eventBuffer GatewayRulesCalls.messageOutcome GatewayRulesCalls.messageTable GatewayRulesCalls.messageBuffer ListingLinesLines.stateWord ListingLinesLines.modeWord ListingLinesLines.distanceIn ListingLinesLines.sideWord ListingLinesLines.secondsLines ListingLinesLines.headLines ListingLinesLines.rowLines ListingLinesLines.rowText ListingLinesLines.entryText ListingLinesLines.listingText Listing.entryOf Listing.entriesFrom Listing.entries Listing.markedRow Listing.listable Listing.listingChecks Listing.listingOutcome Listing.listingBuffer Theorem.outcomeOf Theorem.tableLeft Theorem.bufferLeft Theorem.seenOf RecordingLinesLines.behind RecordingLinesLines.ownAsOf RecordingLinesLines.ownOf RecordingLinesLines.capabilityOf RecordingLinesLines.netOf RecordingLinesLines.quietOf RecordingLinesLines.alone RecordingLinesLines.slashed RecordingLinesLines.addEvent RecordingLinesLines.tickEvent RecordingLinesLines.rxEvent RecordingLinesLines.eventOf Gathering.longer Gathering.gathered Gathering.lineAfter Gathering.lineHeld BadLine.badText BadLine.oneMore Replies.txText Message.keySize Message.fields Message.addressField Message.kindWord Message.meaningWord Message.headNumbers Message.intervalFields Message.errorFields Message.ownFields Message.bodyFields Message.sideField Message.rowFields Message.rowsFields Message.readingText Message.messageText Trace.deedWord Trace.slotFor Trace.toldSlot Trace.slotWord Trace.recordNumbers Trace.frontText Trace.recordText Trace.receivedText Trace.sentText Trace.messagesText Trace.slotsText Trace.traceText Trace.isTick Trace.phaseNumber Trace.isUnchanged Trace.isQuietTick Trace.isPassedOver Steps.happenedIn Told.lent Told.addressedTo Told.intrinsicDeed Told.deedOf Told.messageIn Told.tellText Told.passedAfter Told.happenedBy Told.callText Told.on Player.nextLine Player.holding Player.breaking Player.due Player.settled Player.having Player.passing Player.tellingOf Player.silentStep Player.withUsed Player.lineFits Player.formedCheck Player.reportCheck Player.given Player.reported Player.badStep Player.brokenStep Player.withAs Player.withOwn Player.withCapability Player.withNet Player.settingStep Player.freshStep Player.netStep Player.quietLineStep Player.headStep Player.isSetting Player.callStep Player.onlyStep Player.eventStep Player.eventChecked Player.lineStep Player.lineChecked Player.tickStep Player.endedLine Player.freeStep Player.turnChecked Player.turnStep Player.closeStep Player.listedIn Player.finishStep Sheet.summary Sheet.startState Sheet.settingsWith Sheet.playing Sheet.playerAt Sheet.tracing Sheet.playerSet Sheet.quietAfter Sheet.playerUnformed Sheet.playerLate Sheet.throughTurns Sheet.onTurn
+unfolding Checks.check Checks.ifOk Lists.first Lists.every Lists.distinct Lists.join Buffer.over Checksum.onesAdd Checksum.onesSum Checksum.checksumOf Checksum.sealed Classes.netWidth Classes.hostSpan Classes.goodNet Classes.onNet Rows.flat Rows.rowsOf Text.text Text.digit Text.digits Text.decimal Text.dotted Text.line Numbers.whenNumber Numbers.isDigit Numbers.digitsOf Numbers.leadsWithZero Numbers.decimalOf Numbers.dottedFrom Numbers.dottedOf Hex.hexDigit Hex.hexText Hex.nibble Hex.isHex Hex.hexOctets TextValuesPlaces.indexOf TextValuesPlaces.startsWith Storing.zeros Storing.padded Record.under Record.withNumbers Record.withTimers Record.withReach Record.idle Record.leftIdle Record.waiting Record.initialised Record.heardFrom Record.shifted Record.enterUp Record.leaveUp Record.polled Record.oneMore Record.aged Rules.inSequence Rules.commanded Rules.indicates Rules.noted Rules.tooQuick Rules.recounted Rules.period1Of Rules.period2Of Rules.unacceptable Rules.modeOf Rules.offerOf Rules.onesOf Rules.goesUp Rules.goesDown Rules.judged NeighbourWellformedFormed.allZero NeighbourWellformedFormed.idleFormed NeighbourWellformedFormed.timersBelow NeighbourWellformedFormed.timersRun NeighbourWellformedFormed.t2Formed NeighbourWellformedFormed.registerFormed NeighbourWellformedFormed.agreed NeighbourWellformedFormed.intervalsFormed NeighbourWellformedFormed.causeFormed NeighbourWellformedFormed.countsFormed NeighbourWellformedFormed.wellFormed NeighbourSecondsSeconds.secondsSum NeighbourSecondsSeconds.secondsFormed NeighbourSecondsSeconds.areNone NeighbourSecondsSeconds.clockFull NeighbourSecondsSeconds.counted Slots.freeSlot Slots.slotAt Slots.withSlot Slots.addresses Slots.clash Slots.slotOf Slots.lowestFree GatewayStatePlaces.rowCounts GatewayStatePlaces.partAt GatewayStatePlaces.withPart GatewayStatePlaces.readRows GatewayStatePlaces.writeRows GatewayStateFormed.goodSettings GatewayStateFormed.goodPeer GatewayStateFormed.rowsFormed GatewayStateFormed.freeFormed GatewayStateFormed.usedFormed GatewayStateFormed.slotFormed GatewayStateFormed.stateFormed Outcomes.refusedOf Outcomes.silentOf GatewaySlotsCalls.freeSlots GatewaySlotsCalls.emptyState GatewaySlotsCalls.zeroState GatewaySlotsCalls.freshAnswer GatewaySlotsCalls.freshOf GatewaySlotsCalls.addAnswer GatewaySlotsCalls.addOf GatewaySlotsCalls.removeAnswer GatewaySlotsCalls.removeOf Home.homeRow Home.ownFirst Home.goodHome Number.sequenceFits Number.spacingFits Number.bringsRows Number.bodyNumber Number.messageNumber Number.errorHead Number.errorTo Number.refuseTo Number.namedReply Ruling.leaving Ruling.stepped Ruling.refuses Ruling.takenStep Ruling.changeBy Ruling.carriedOut Ruling.receiveRuling GatewayRulesSeconds.hasTime GatewayRulesSeconds.secondMore GatewayRulesSeconds.booked Carried.firstOctets Carried.secondOctets Carried.replyOctets Carried.tableAfter Carried.countAfter Carried.slotAfter Carried.outcomeAfter Carried.bufferAfter GatewayRulesCalls.lentChecks GatewayRulesCalls.eventChecks GatewayRulesCalls.messageChecks GatewayRulesCalls.noHead GatewayRulesCalls.updateRoom GatewayRulesCalls.eventRuling GatewayRulesCalls.messageRuling GatewayRulesCalls.eventOutcome GatewayRulesCalls.eventTable GatewayRulesCalls.eventBuffer GatewayRulesCalls.messageOutcome GatewayRulesCalls.messageTable GatewayRulesCalls.messageBuffer ListingLinesLines.stateWord ListingLinesLines.modeWord ListingLinesLines.distanceIn ListingLinesLines.sideWord ListingLinesLines.secondsLines ListingLinesLines.headLines ListingLinesLines.rowLines ListingLinesLines.rowText ListingLinesLines.entryText ListingLinesLines.listingText Listing.entryOf Listing.entriesFrom Listing.entries Listing.markedRow Listing.listable Listing.listingChecks Listing.listingOutcome Listing.listingBuffer Theorem.outcomeOf Theorem.tableLeft Theorem.bufferLeft Theorem.seenOf RecordingLinesLines.behind RecordingLinesLines.ownAsOf RecordingLinesLines.ownOf RecordingLinesLines.capabilityOf RecordingLinesLines.netOf RecordingLinesLines.quietOf RecordingLinesLines.alone RecordingLinesLines.slashed RecordingLinesLines.addEvent RecordingLinesLines.tickEvent RecordingLinesLines.rxEvent RecordingLinesLines.eventOf Gathering.longer Gathering.gathered Gathering.lineAfter Gathering.lineHeld BadLine.badText BadLine.oneMore Replies.txText Message.keySize Message.fields Message.addressField Message.kindWord Message.meaningWord Message.headNumbers Message.intervalFields Message.errorFields Message.ownFields Message.bodyFields Message.sideField Message.rowFields Message.rowsFields Message.readingText Message.messageText Trace.deedWord Trace.slotFor Trace.toldSlot Trace.slotWord Trace.recordNumbers Trace.frontText Trace.recordText Trace.receivedText Trace.sentText Trace.messagesText Trace.slotsText Trace.traceText Trace.isTick Trace.isUnchanged Trace.isQuietTick Trace.isPassedOver Steps.happenedIn Told.lent Told.addressedTo Told.intrinsicDeed Told.deedOf Told.messageIn Told.tellText Told.passedAfter Told.happenedBy Told.callText Told.on Player.nextLine Player.holding Player.breaking Player.due Player.settled Player.having Player.passing Player.tellingOf Player.silentStep Player.withUsed Player.lineFits Player.formedCheck Player.reportCheck Player.given Player.reported Player.badStep Player.brokenStep Player.withAs Player.withOwn Player.withCapability Player.withNet Player.settingStep Player.freshStep Player.netStep Player.quietLineStep Player.headStep Player.isSetting Player.callStep Player.onlyStep Player.eventStep Player.eventChecked Player.lineStep Player.lineChecked Player.tickStep Player.endedLine Player.freeStep Player.turnChecked Player.turnStep Player.closeStep Player.listedIn Player.finishStep Sheet.summary Sheet.startState Sheet.settingsWith Sheet.playing Sheet.playerAt Sheet.tracing Sheet.playerSet Sheet.quietAfter Sheet.playerUnformed Sheet.playerLate Sheet.throughTurns Sheet.onTurn
 opened = 0

@@ -11,6 +11,7 @@ use Rattle.checks.proofs.Laws.{and-left, and-right}
 use Rattle.neighbour.specs.declared.Settings.{Settings}
 use Rattle.neighbour.specs.declared.Phase.{Phase}
 use Rattle.neighbour.specs.declared.Phase.the-variants as P
+use Rattle.neighbour.specs.Record.{phaseNumber}
 use Rattle.neighbour_seconds.specs.Seconds.{secondsSum}
 use Rattle.gateway_state.specs.declared.State.{State}
 use Rattle.gateway_state.specs.declared.Slot.{Slot}
@@ -24,7 +25,7 @@ use Rattle.recording_bad_line.specs.BadLine.{oneMore}
 use Rattle.recording_trace.specs.declared.Deed.{Deed}
 use Rattle.recording_trace.specs.declared.Deed.the-variants as D
 use Rattle.recording_trace.specs.declared.Telling.{Telling}
-use Rattle.recording_trace.specs.Trace.{Happened, slotFor, phaseNumber, isTick, isUnchanged, isQuietTick, isPassedOver, traceText}
+use Rattle.recording_trace.specs.Trace.{Happened, slotFor, isTick, isUnchanged, isQuietTick, isPassedOver, traceText}
 use Rattle.recording_call.specs.Told.{tellText, passedAfter}
 use Rattle.recording_theorem.specs.Output.{RecordedLine, happened, telling, callsTold}
 use Rattle.recording_theorem.specs.Theorem.{callsIn, saidIn}
@@ -81,7 +82,7 @@ phaseOf : ℕ → Phase
 phaseOf n = cond (eqb n 0) P.Idle (cond (eqb n 1) P.Acquisition (cond (eqb n 2) P.Down (cond (eqb n 3) P.Up P.Cease)))
 
 phase-back : (phase : Phase) → phaseOf (phaseNumber phase) ≡ phase
-unfolding phaseOf phaseNumber
+unfolding phaseOf
 phase-back P.Idle = refl
 phase-back P.Acquisition = refl
 phase-back P.Down = refl

@@ -6,8 +6,7 @@ use mathlib.Core.List.{List, [], _∷_, _++_}
 use lib.Dec.{eqb}
 use lib.ListN.{length}
 use Rattle.text.specs.Text.{text}
-use Rattle.neighbour.specs.declared.Phase.{Phase}
-use Rattle.neighbour.specs.declared.Phase.the-variants as P
+use Rattle.neighbour.specs.Record.{phaseNumber}
 use Rattle.neighbour_seconds.specs.Seconds.{secondsSum}
 use Rattle.gateway_state.specs.declared.Slot.{Slot}
 use Rattle.gateway_state.specs.declared.State.{State}
@@ -127,13 +126,6 @@ isTick D.Start = false
 isTick D.Stop = false
 isTick D.Tick = true
 isTick D.Receive = false
-
-unfoldable pub phaseNumber : Phase → ℕ
-phaseNumber P.Idle = 0
-phaseNumber P.Acquisition = 1
-phaseNumber P.Down = 2
-phaseNumber P.Up = 3
-phaseNumber P.Cease = 4
 
 -- neither state nor register nor rows changed
 unfoldable pub isUnchanged : Slot → Slot → Bool

@@ -10,8 +10,9 @@ ghost use Prim.Native.Nat.{ℕ, _+_, _≤_};
 ghost use lib.ListN.{length};
 ghost use Rattle.octets.specs.Buffer.{over};
 ghost use Rattle.octets.specs.Written.{Written};
+ghost use Rattle.neighbour.specs.Record.{phaseNumber};
 ghost use Rattle.listing_lines.specs.Lines.{stateWord, modeWord};
-ghost use Rattle.recording_trace.specs.Trace.{deedWord, slotWord, receivedText, sentText, slotFor, toldSlot, recordNumbers, frontText, recordText, messagesText, traceText, phaseNumber, isUnchanged, isQuietTick, isTick, isPassedOver};
+ghost use Rattle.recording_trace.specs.Trace.{deedWord, slotWord, receivedText, sentText, slotFor, toldSlot, recordNumbers, frontText, recordText, messagesText, traceText, isUnchanged, isQuietTick, isTick, isPassedOver};
 ghost use Rattle.recording_trace.specs.Steps.{happenedIn};
 
 // Which event a call is.

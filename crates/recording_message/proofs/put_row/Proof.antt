@@ -2,6 +2,7 @@
 use native.Mathlib.Omega.{arith}
 use Rattle.text.specs.Text.{text}
 use Rattle.octets.proofs.Storing.{written-append}
+use Rattle.listing_lines.specs.Lines.{distanceIn}
 use Rattle.recording_message.specs.Message.{rowFields}
 use borrow.Author.Needs.{needs}
 use Rattle.recording_message.proofs.put_row.Statement.{statement}
@@ -38,7 +39,7 @@ same-length : tie.Need-same-length
 same-length c = search needs
 
 returns : tie.Need-returns
-unfolding text rowFields
+unfolding text rowFields distanceIn
 returns c = (written-append _ _ (c .before .before .before .before .before .before .before .before .before .before .before .before .before .before .before .before .before .put-address .ensures .0) (written-append _ _ (c .before .before .before .before .before .before .before .before .before .before .before .before .put-address2 .ensures .0) (written-append _ _ (c .before .before .before .before .before .before .put-fields .ensures .0) (c .before .before .put-side .ensures .0))), omega (arith, c .before .before .before .before .before .before .before .before .before .before .before .before .before .before .before .before .before .put-address .ensures .1, c .before .before .before .before .before .before .before .before .before .before .before .before .put-address2 .ensures .1, c .before .before .before .before .before .before .put-fields .ensures .1, c .before .before .put-side .ensures .1))
 
 pub put-row-spec : {M : Type 1} → statement M

@@ -1,5 +1,4 @@
 -- `recording_trace::phase_number` meets its contract. Assumes nothing.
-use Rattle.recording_trace.specs.Trace.{phaseNumber}
 use borrow.Author.Needs.{needs}
 use Rattle.recording_trace.proofs.phase_number.Statement.{statement}
 use Rattle.recording_trace.proofs.phase_number.Tie as tie
@@ -20,23 +19,18 @@ enum-told-5 : tie.Need-enum-told-5
 enum-told-5 c = search needs
 
 returns : tie.Need-returns
-unfolding phaseNumber
 returns c = rw (c .enum-told .given .1)
 
 returns-2 : tie.Need-returns-2
-unfolding phaseNumber
 returns-2 c = rw (c .enum-told2 .given .1)
 
 returns-3 : tie.Need-returns-3
-unfolding phaseNumber
 returns-3 c = rw (c .enum-told3 .given .1)
 
 returns-4 : tie.Need-returns-4
-unfolding phaseNumber
 returns-4 c = rw (c .enum-told4 .given .1)
 
 returns-5 : tie.Need-returns-5
-unfolding phaseNumber
 returns-5 c = rw (c .enum-told5 .given .1)
 
 pub phase-number-spec : {M : Type 1} → statement M

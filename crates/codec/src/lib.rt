@@ -1,4 +1,6 @@
 // The codec of all ten kinds: reading alone, and writing.
+#![tactic(auto)]
+
 ghost use Rattle.std.specs.Prelude.{◌≡◌};
 ghost use Rattle.octets.specs.Buffer.{over};
 ghost use Rattle.update_walk.specs.Body.{update_of};
@@ -10,14 +12,14 @@ use message_reading::Decoded;
 use update_walk::Walked;
 
 // What reading alone finds: the message, or 01's number.
-#[derive(Drop)]
+#[derive(Clone, Copy)]
 pub enum Meaning {
     Good(Message),
     Refused(u8),
 }
 
 // The meaning, and an Update's rows: how many, and their numbers, three a row, zeros after them.
-#[derive(Drop)]
+#[derive(Clone, Copy)]
 pub struct Reading {
     pub meaning: Meaning,
     pub count: u16,
@@ -25,7 +27,7 @@ pub struct Reading {
 }
 
 // The writer's answer, and how many octets it wrote.
-#[derive(Drop)]
+#[derive(Clone, Copy)]
 pub struct WriteAnswer {
     pub answer: u8,
     pub length: u16,

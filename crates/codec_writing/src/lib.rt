@@ -1,4 +1,6 @@
 // A message of any kind written at the front of a lent buffer. What may be written is judged above.
+#![tactic(auto)]
+
 ghost use Rattle.std.specs.Prelude.{◌≡◌, true, ◌≤◌, length};
 ghost use Rattle.octets.specs.Buffer.{over};
 ghost use Rattle.nets.specs.Classes.{good_net};

@@ -1,4 +1,6 @@
 // Records of calls as octets: what the driver is told, and what it answers. docs/COMPARISON.md has the format.
+#![tactic(auto)]
+
 ghost use Rattle.std.specs.Prelude.{◌≡◌, length};
 ghost use Rattle.driver_records.specs.Filled.{filled};
 ghost use Rattle.driver_records.specs.Records.{record_head, settings_in, answer_octets};
@@ -7,7 +9,7 @@ use neighbour::Settings;
 use octets::{first_of, fourth_of, high, low, second_of, third_of};
 
 // A record's head: which call, its plain arguments, and how much follows.
-#[derive(Drop)]
+#[derive(Clone, Copy)]
 pub struct RecordHead {
     pub kind: u8,
     // The capability, or the octet that fills the buffer.

@@ -1,4 +1,6 @@
 // What a C program links: the calls under their C names, over numbers and octets only (include/egp.h).
+#![tactic(auto)]
+
 ghost use Rattle.std.specs.Prelude.{◌≡◌, List, ℕ};
 ghost use Rattle.neighbour_machine.specs.Intrinsics as I;
 ghost use Rattle.model.specs.Model as M;

@@ -1,4 +1,6 @@
 // The calls about one neighbour: Start, Stop, tick and message, with the lent table and reply buffer.
+#![tactic(auto)]
+
 ghost use Rattle.std.specs.Prelude.{◌≡◌, true, List, ℕ, ◌<◌, length};
 ghost use Rattle.neighbour_machine.specs.Intrinsics.{Intrinsic, Start, Stop, Tick, as_event};
 ghost use Rattle.gateway_rules.specs.Calls.{table_fits, buffer_fits, lent_checks, event_outcome, event_table, event_buffer, message_outcome, message_table, message_buffer};

@@ -1,4 +1,6 @@
 // A verdict carried out: its reply written into the buffer, its rows into the table, its neighbour into the slot.
+#![tactic(auto)]
+
 ghost use Rattle.std.specs.Prelude.{◌≡◌, true, List, ℕ, ◌≤◌, ◌<◌, length};
 ghost use Rattle.nets.specs.Rows.{rows_of};
 ghost use Rattle.update_walk.specs.Body.{Walk, walked_blocks};
@@ -17,7 +19,7 @@ use neighbour_machine::{Event, Reply};
 use neighbour_seconds::Seconds;
 
 // The lengths of the reply's two messages.
-#[derive(Drop)]
+#[derive(Clone, Copy)]
 pub struct Lengths {
     pub first: u16,
     pub second: u16,

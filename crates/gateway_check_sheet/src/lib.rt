@@ -1,1 +1,2 @@
 // The check sheet: the calls and the claim are in specs/, the proof in proofs/.
+#![tactic(auto)]

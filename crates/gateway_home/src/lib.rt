@@ -1,4 +1,6 @@
 // Check 4: the home list that a message call is given.
+#![tactic(auto)]
+
 ghost use Rattle.std.specs.Prelude.{◌≡◌};
 ghost use Rattle.nets.specs.Rows.{rows_of};
 ghost use Rattle.gateway_rules.specs.Home.{home_row, own_first, good_home};

@@ -1,4 +1,6 @@
 // The calls that take no table and no buffer: fresh, add and remove.
+#![tactic(auto)]
+
 ghost use Rattle.std.specs.Prelude.{◌≡◌};
 ghost use Rattle.gateway_state.specs.Outcomes.{silent_of};
 ghost use Rattle.gateway_slots.specs.Calls.{empty_state, fresh_of, add_of, remove_of};

@@ -1,5 +1,7 @@
 // What becomes of one neighbour: the machine's step, or for a message from it the checks 6 to 15 and 21 stage by stage, then
 // the machine's step.
+#![tactic(auto)]
+
 ghost use Rattle.std.specs.Prelude.{◌≡◌, true, ◌&&◌, List, ℕ};
 ghost use Rattle.message.specs.Kinds.{kind_of};
 ghost use Rattle.message.specs.declared.Kind.TheVariants.{Update};

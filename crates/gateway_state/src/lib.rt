@@ -1,4 +1,6 @@
 // The gateway's state: its settings and eight slots, check 1, and the look-up of a neighbour.
+#![tactic(auto)]
+
 ghost use Rattle.std.specs.Prelude.{◌≡◌, true, List, ℕ, ◌≤◌, ◌<◌, drop};
 ghost use Rattle.neighbour.specs.Record.{is_up};
 ghost use Rattle.neighbour_wellformed.specs.Formed.{well_formed};
@@ -18,7 +20,7 @@ pub const SLOTS: usize = 8;
 pub const SLOT_NUMBERS: usize = 384;
 
 // A slot is free where its address is 0, and then all zero.
-#[derive(Drop)]
+#[derive(Clone, Copy)]
 pub struct Slot {
     pub address: u32,
     pub asn: u16,
@@ -30,14 +32,14 @@ pub struct Slot {
 }
 
 // What stands between calls; the caller keeps it, with the table.
-#[derive(Drop)]
+#[derive(Clone, Copy)]
 pub struct State {
     pub settings: Settings,
     pub slots: [Slot; 8],
 }
 
 // What every call answers: 01's number, the lengths of the reply's two messages, and the state after it.
-#[derive(Drop)]
+#[derive(Clone, Copy)]
 pub struct Outcome {
     pub answer: u8,
     pub first: u16,

@@ -1,1 +1,2 @@
 // What holds of every call: the statements are in specs/, the proofs in proofs/.
+#![tactic(auto)]

@@ -1,5 +1,7 @@
 // The calls about one neighbour for a C host: Start, Stop, tick and message, on the state block and the table's octets.
 // One slot is read and written back; of the table, the slot's part where its rows change.
+#![tactic(auto)]
+
 ghost use Rattle.std.specs.Prelude.{◌≡◌, true, List, ℕ, ◌≤◌, ◌<◌, length};
 ghost use Rattle.std.proofs.lemmas.List.Edits.{sets};
 ghost use Rattle.checks.specs.Checks.{if_ok};

@@ -1,4 +1,6 @@
 // The codec for a C host, over octets alone: reading a message, and writing one from its meaning.
+#![tactic(auto)]
+
 ghost use Rattle.std.specs.Prelude.{◌≡◌, ◌*◌, ◌≤◌, length};
 ghost use Rattle.octets.specs.Buffer.{over};
 ghost use Rattle.octets_words.specs.Words.{words_of, row_numbers};

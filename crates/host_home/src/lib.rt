@@ -1,4 +1,6 @@
 // The home list as a C host lends it: octets, 12 a row. Check 4 on them, and the Update that is written from them.
+#![tactic(auto)]
+
 ghost use Rattle.std.specs.Prelude.{◌≡◌, true, ℕ, ◌+◌, ◌*◌, ◌%◌, ◌≤◌, ◌<◌, length, take};
 ghost use Rattle.std.proofs.lemmas.List.Edits.{sets};
 ghost use Rattle.checks.specs.Lists.{every};
@@ -117,14 +119,14 @@ pub fn good_home(settings: Settings, home: &[u8]) -> bool
 }
 
 // Where a run ends in the buffer, and how many octets of rows it takes.
-#[derive(Drop)]
+#[derive(Clone, Copy)]
 struct Group {
     end: usize,
     taken: usize,
 }
 
 // Where a sequence of runs ends in the buffer, and how many runs it has.
-#[derive(Drop)]
+#[derive(Clone, Copy)]
 struct Sequence {
     end: usize,
     count: u8,

@@ -1,5 +1,7 @@
 // The listing of the table for a C host, on the octets of state block and table: slot by slot, and of a used slot only
 // its used rows are turned into numbers.
+#![tactic(auto)]
+
 ghost use Rattle.std.specs.Prelude.{◌≡◌, true, List, ℕ, ◌+◌, ◌*◌, ◌/◌, ◌≤◌, ◌<◌, length};
 ghost use Rattle.checks.specs.Lists.{every};
 ghost use Rattle.octets.specs.Buffer.{over};

@@ -1,4 +1,6 @@
 // The meaning of a message in 24 octets, read and written.
+#![tactic(auto)]
+
 ghost use Rattle.std.specs.Prelude.{◌≡◌};
 ghost use Rattle.host_meaning.specs.Meaning.{intervals_at, plain_at, net_message_at, error_at, meaning_at, field_octets, meaning_octets};
 

@@ -1,4 +1,6 @@
 // What a call returns to a C host: answer and lengths in one number.
+#![tactic(auto)]
+
 ghost use Rattle.std.specs.Prelude.{◌≡◌};
 ghost use Rattle.host_result.specs.Packed.{packed, bare};
 

@@ -1,5 +1,7 @@
 // Storing the rows of an Update that the walk found good into a slot's part of a table of octets: three numbers a row,
 // four octets each, the rest zero. Places in the part are counted in numbers: so the laws of update_rows hold here too.
+#![tactic(auto)]
+
 ghost use Rattle.std.specs.Prelude.{◌≡◌, true, [], ◌∷◌, ◌+◌, ◌-◌, ◌≤◌, ◌<◌, length, drop, get_or, set};
 ghost use Rattle.std.proofs.lemmas.List.Edits.{sets};
 ghost use Rattle.octets_words.specs.Words.{words_of, word_octets};
@@ -12,7 +14,7 @@ ghost use Rattle.host_rows.specs.Storing.{turned, OctetsStorable};
 use update_rows::Put;
 
 // A net: its number, turned, and how many octets it takes.
-#[derive(Drop)]
+#[derive(Clone, Copy)]
 struct Net {
     number: u32,
     width: usize,

@@ -1,4 +1,6 @@
 // Fresh, add and remove for a C host, on the state block. A refusal touches no octet of it.
+#![tactic(auto)]
+
 ghost use Rattle.std.specs.Prelude.{◌≡◌, List, ℕ};
 ghost use Rattle.model.specs.Model as M;
 ghost use Rattle.host_rules.specs.Calls.{result_of, block_after, fresh_result, fresh_block};

@@ -1,4 +1,6 @@
 // The call that lists the table as text.
+#![tactic(auto)]
+
 ghost use Rattle.std.specs.Prelude.{◌≡◌, true, List, ℕ, ◌+◌, ◌≤◌, ◌<◌, length};
 ghost use Rattle.checks.specs.Lists.{every};
 ghost use Rattle.octets.specs.Buffer.{over};

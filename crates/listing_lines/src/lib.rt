@@ -1,4 +1,6 @@
 // The listing of the table, one slot's text: its lines and those of its rows. The definitions are in specs/.
+#![tactic(auto)]
+
 ghost use Rattle.std.specs.Prelude.{◌≡◌, ◌+◌, ◌≤◌, length};
 ghost use Rattle.checks.specs.Lists.{join};
 ghost use Rattle.text.specs.Text.{text, line};

@@ -1,9 +1,11 @@
 // The ten EGP messages: what each kind carries, and which types, codes, statuses and lengths it has.
+#![tactic(auto)]
+
 ghost use Rattle.std.specs.Prelude.{◌≡◌};
 ghost use Rattle.message.specs.Kinds.{type_of, code_of, kind_at, plain_status, refusal_status, marked_status, status_allowed, length_allowed, kind_of, sequence_of, status_of};
 
 // The kinds, in the order of 01's table.
-#[derive(Drop)]
+#[derive(Clone, Copy)]
 pub enum Kind {
     Request,
     Confirm,
@@ -18,7 +20,7 @@ pub enum Kind {
 }
 
 // A message once read. An Update's rows stand outside; the twelve octets that an Error carries are three words.
-#[derive(Drop)]
+#[derive(Clone, Copy)]
 pub enum Message {
     Request {
         asn: u16,
@@ -83,7 +85,7 @@ pub enum Message {
 }
 
 // Which kind a type and a code name.
-#[derive(Drop)]
+#[derive(Clone, Copy)]
 pub enum Known {
     Is(Kind),
     Unknown,

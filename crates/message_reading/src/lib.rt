@@ -1,11 +1,13 @@
 // The wire form of EGP messages, read in two stages: header and kind.
+#![tactic(auto)]
+
 ghost use Rattle.std.specs.Prelude.{◌≡◌};
 ghost use Rattle.message_reading.specs.Reading.{header_answer, meaning_of, decode_as, decode_of, decoded_number};
 
 use message::{Kind, Known, Message};
 
 // The answer of the kind stage.
-#[derive(Drop)]
+#[derive(Clone, Copy)]
 pub enum Decoded {
     Good(Message),
     UnknownKind,

@@ -1,4 +1,6 @@
 // The messages of a fixed length, and an Update's head, written at the front of a lent buffer.
+#![tactic(auto)]
+
 ghost use Rattle.std.specs.Prelude.{◌≡◌, [], ◌∷◌, ◌++◌, ◌≤◌, ◌<◌, length, take, drop};
 ghost use Rattle.octets.specs.Buffer.{over};
 ghost use Rattle.octets_checksum.specs.Checksum.{sealed, checksum_of, folded};

@@ -1,4 +1,6 @@
 // One neighbour: its record, the settings, and the rules of 01's "One neighbour" that need no event.
+#![tactic(auto)]
+
 ghost use Rattle.std.specs.Prelude.{◌≡◌};
 ghost use Rattle.neighbour.specs.Record.{is_idle, acquired, with_timers, with_reach, idle, left_idle, waiting, initialised, shifted, polled, one_more, aged};
 ghost use Rattle.neighbour.specs.Rules.{is_command, must_carry_s, in_sequence, commanded, indicates, noted, too_quick, recounted, larger, unacceptable, mode_of, offer_of, ones_of, goes_up, goes_down, judged};
@@ -20,7 +22,7 @@ pub const P5: u16 = 120;
 pub const HOLDS_AT: u8 = 120;
 
 // RFC 904's states (01: state), in 01's order.
-#[derive(Drop)]
+#[derive(Clone, Copy)]
 pub enum Phase {
     Idle,
     Acquisition,
@@ -30,7 +32,7 @@ pub enum Phase {
 }
 
 // 01: M. It is unset outside Down and Up.
-#[derive(Drop)]
+#[derive(Clone, Copy)]
 pub enum Mode {
     Unset,
     Active,
@@ -38,7 +40,7 @@ pub enum Mode {
 }
 
 // What a gateway is told when its state is made, in an order that leaves no gap: a state is handed on by value.
-#[derive(Drop)]
+#[derive(Clone, Copy)]
 pub struct Settings {
     pub asn: u16,
     // Which modes we can take; a number, since a bad one must be refused.
@@ -50,7 +52,7 @@ pub struct Settings {
 }
 
 // What is kept of one neighbour, in the order of the state block. Address, AS and row count stand outside.
-#[derive(Drop)]
+#[derive(Clone, Copy)]
 pub struct Neighbour {
     // The number that our commands carry, and that responses must carry.
     pub s: u16,
@@ -75,7 +77,7 @@ pub struct Neighbour {
 }
 
 // What a Request or a Confirm offers: T1, T2 and M, or nothing that we take.
-#[derive(Drop)]
+#[derive(Clone, Copy)]
 pub enum Offer {
     Acceptable {
         period1: u16,

@@ -1,10 +1,12 @@
 // The state machine of one neighbour: 01's table and tick are in specs/, with the sheet of literal cases. Here are the types of an event and of
 // what it leaves.
+#![tactic(auto)]
+
 use message::Message;
 use neighbour::Neighbour;
 
 // What happens to a neighbour. A message event holds the decoded message.
-#[derive(Drop)]
+#[derive(Clone, Copy)]
 pub enum Event {
     Received(Message),
     Start,
@@ -13,7 +15,7 @@ pub enum Event {
 }
 
 // What is sent: at most two messages, in this order. An Update's rows are added where the home list is.
-#[derive(Drop)]
+#[derive(Clone, Copy)]
 pub enum Reply {
     Nothing,
     One(Message),
@@ -21,7 +23,7 @@ pub enum Reply {
 }
 
 // What an event leaves.
-#[derive(Drop)]
+#[derive(Clone, Copy)]
 pub struct After {
     pub neighbour: Neighbour,
     pub reply: Reply,

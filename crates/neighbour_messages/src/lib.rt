@@ -1,4 +1,6 @@
 // The messages that a gateway sends to a neighbour.
+#![tactic(auto)]
+
 ghost use Rattle.std.specs.Prelude.{◌≡◌};
 ghost use Rattle.neighbour_messages.specs.Sent.{status_in, request_message, confirm_message, refuse_message, cease_message, stray_cease_message, cease_ack_message, hello_message, i_heard_you_message, poll_message, update_message, error_message};
 
@@ -6,7 +8,7 @@ use message::Message;
 use neighbour::{Neighbour, P1, P2, Phase, Settings};
 
 // A received message's first twelve octets, zero-filled, for Error.
-#[derive(Drop)]
+#[derive(Clone, Copy)]
 pub struct Head {
     pub first: u32,
     pub second: u32,

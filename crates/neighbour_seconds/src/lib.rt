@@ -1,12 +1,14 @@
 // The seconds that a neighbour spent in each state (02, L7), counted by its ticks. They stand beside its record, and outlive
 // Idle.
+#![tactic(auto)]
+
 ghost use Rattle.std.specs.Prelude.{◌<◌, ◌≡◌};
 ghost use Rattle.neighbour_seconds.specs.Seconds.{no_seconds, seconds_sum, most_seconds, are_none, seconds_formed, clock_full, counted};
 
 use neighbour::Phase;
 
 // One count for each of RFC 904's states, in 01's order.
-#[derive(Drop)]
+#[derive(Clone, Copy)]
 pub struct Seconds {
     pub idle: u32,
     pub acquisition: u32,

@@ -1,4 +1,6 @@
 // One event of one neighbour: the machine whole.
+#![tactic(auto)]
+
 ghost use Rattle.std.specs.Prelude.{◌≡◌};
 ghost use Rattle.neighbour_machine.specs.Step.{step_of};
 

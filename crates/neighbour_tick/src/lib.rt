@@ -1,4 +1,6 @@
 // The tick of one neighbour: 01's paragraph, a function for each part of it.
+#![tactic(auto)]
+
 ghost use Rattle.std.specs.Prelude.{◌≡◌, true, ◌<◌};
 ghost use Rattle.neighbour_machine.specs.Table.{unanswered};
 ghost use Rattle.neighbour_machine.specs.Tick.{expired, repeats, listens, polls, polls_on_entry, takes_t2, polls_in_up, tick_on, tick_outside, on_tick};

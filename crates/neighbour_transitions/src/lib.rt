@@ -1,4 +1,6 @@
 // 01's table of one neighbour: what a message, Start or Stop makes of its record, row by row.
+#![tactic(auto)]
+
 ghost use Rattle.std.specs.Prelude.{◌≡◌};
 ghost use Rattle.neighbour_machine.specs.Table.{overfull, followed, unanswered, answers, says, hello_if, does_a, does_b, ceases, repeats_cease, acquires, stray, on_request, settles, on_confirm, on_refuse, on_cease, on_cease_ack, on_hello, on_i_heard_you, answers_poll, on_poll, on_start, on_stop};
 ghost use Rattle.neighbour_machine.specs.Step.{on_message};

@@ -1,4 +1,6 @@
 // Check 1 as far as it concerns one neighbour's record: 01's paragraph "Well formed means", by the record's state.
+#![tactic(auto)]
+
 ghost use Rattle.std.specs.Prelude.{◌≤◌, ◌≡◌, true, false, ◌&&◌, ◌||◌, leb, eqb};
 ghost use Rattle.neighbour.specs.declared.Phase.TheVariants.{Acquisition, Down, Up, Cease};
 ghost use Rattle.neighbour.specs.Record.{is_idle, acquired};

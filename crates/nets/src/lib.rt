@@ -1,4 +1,6 @@
 // Net classes: the width of a net, its host part, and whether an address lies on it.
+#![tactic(auto)]
+
 ghost use Rattle.std.specs.Prelude.{◌≡◌};
 ghost use Rattle.nets.specs.Classes.{net_width, host_span, width_of, good_net, on_net};
 

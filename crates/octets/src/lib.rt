@@ -1,4 +1,6 @@
 // Octets: big-endian numbers taken apart, read and stored at an index; octets stored in a lent buffer.
+#![tactic(auto)]
+
 ghost use Rattle.std.specs.Prelude.{◌≡◌, ◌+◌, ◌/◌, ◌%◌, ◌≤◌, [], length, get_or};
 ghost use Rattle.std.proofs.lemmas.List.Edits.{sets};
 ghost use Rattle.octets.specs.Numbers.{pair_of, quad_of, word16, word32, octets16, octets32};
@@ -128,7 +130,8 @@ pub fn store(buffer: &mut [u8], octets: &[u8]) -> usize
     ensures value { result ≡ length octets.now }
     ensures buffer_after { buffer.new ≡ over octets.now buffer.old }
 {
-    bytes::copy(octets, buffer)
+    buffer[..octets.len()].copy_from_slice(octets);
+    octets.len()
 }
 
 // Stores octets from index `at` on, and says where they end.

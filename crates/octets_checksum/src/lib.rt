@@ -1,4 +1,6 @@
 // The one's complement checksum of a message: taken by 32-bit words, folded once, and put into its field.
+#![tactic(auto)]
+
 ghost use Rattle.std.specs.Prelude.{◌≡◌, ◌+◌, ◌/◌, ◌%◌, ◌<◌, ◌≤◌, length, drop};
 ghost use Rattle.octets.specs.Numbers.{word16, word32};
 ghost use Rattle.octets_checksum.specs.Checksum.{checksum_of, sealed, folded};

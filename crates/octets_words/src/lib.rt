@@ -1,4 +1,6 @@
 // Numbers of 32 bits in octets, four octets each: read into a lent array, and written.
+#![tactic(auto)]
+
 ghost use Rattle.std.specs.Prelude.{◌≡◌, ◌*◌, ◌≤◌, length, take};
 ghost use Rattle.octets.specs.Buffer.{over};
 ghost use Rattle.octets_words.specs.Words.{words_of, word_octets};

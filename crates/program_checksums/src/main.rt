@@ -1,6 +1,8 @@
 // Takes the checksums of messages on standard input, over and over: the checksum alone, for timing. A record is 8
 // octets, how often (32 bits), how many octets a message has (16) and how many follow (16), and then these: messages
 // one behind the other. The answer is the sum of their checksums, as often as was asked, modulo 2^32.
+#![tactic(auto)]
+
 ghost use Rattle.std.specs.Prelude.{◌≤◌, length};
 
 // The sum of the checksums of the messages of size octets that stand in octets.

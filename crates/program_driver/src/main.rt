@@ -1,4 +1,6 @@
 // Makes the calls that records on standard input name, and writes what each leaves. docs/COMPARISON.md has the format.
+#![tactic(auto)]
+
 ghost use Rattle.std.specs.Prelude.{◌≡◌, true, ◌*◌, ◌≤◌, length};
 ghost use Rattle.program_driver.specs.Bounds.{InBounds};
 
@@ -7,7 +9,7 @@ use driver_records::RecordHead;
 use gateway_state::{Outcome, State};
 
 // What one record leaves for the next.
-#[derive(Drop)]
+#[derive(Clone, Copy)]
 struct Turn {
     state: State,
     // How many numbers the lent table has.

@@ -1,4 +1,5 @@
 // Plays a site's recording back: the messages sent, bad lines, and the listing. docs/RECORDING.md has the format.
+#![tactic(auto)]
 
 fn main() {
     recording_program::run(false);

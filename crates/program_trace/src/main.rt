@@ -1,4 +1,5 @@
 // Plays a site's recording back and tells of every call: the trace. docs/RECORDING.md has the format.
+#![tactic(auto)]
 
 fn main() {
     recording_program::run(true);

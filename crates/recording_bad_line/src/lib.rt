@@ -1,4 +1,6 @@
 // Lines are counted, and a bad one is reported by its number.
+#![tactic(auto)]
+
 ghost use Rattle.std.specs.Prelude.{◌≡◌, ◌+◌, ◌≤◌, length};
 ghost use Rattle.octets.specs.Buffer.{over};
 ghost use Rattle.octets.specs.Written.{Written};

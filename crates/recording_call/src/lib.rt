@@ -1,4 +1,6 @@
 // One call, as a recording asks for it: with a zeroed reply buffer and an empty home list; and what is told of it.
+#![tactic(auto)]
+
 ghost use Rattle.std.specs.Prelude.{◌≡◌, true, List, [], ℕ, ◌+◌, ◌≤◌, length};
 ghost use Rattle.octets.specs.Buffer.{over};
 ghost use Rattle.text_values.specs.Hex.{is_hex, hex_octets};
@@ -13,7 +15,7 @@ use recording_trace::{Deed, Telling};
 
 // What a call leaves: the state, its number, how many octets of lines were written, and how many ticks were passed over
 // since the last one told of.
-#[derive(Drop)]
+#[derive(Clone, Copy)]
 pub struct Called {
     pub state: State,
     pub answer: u8,

@@ -1,5 +1,7 @@
 // A recording's course: what is done around the player's turns. The host reads where a read is wanted, hands over what
 // came of it, gathers what each step wrote and writes it where that is due; everything else is decided here.
+#![tactic(auto)]
+
 ghost use Rattle.std.specs.Prelude.{◌≡◌, List, ℕ, min};
 ghost use Rattle.octets.specs.Buffer.{over};
 ghost use Rattle.recording_course.specs.Course.{is_read, is_over, staged, set_out, given_of, is_due, wrote_of, rest_of, next_stage, went_of, play_step, close_on, list_on, still_on, course_step};
@@ -7,7 +9,7 @@ ghost use Rattle.recording_course.specs.Course.{is_read, is_over, staged, set_ou
 use recording_player::Player;
 
 // What comes next.
-#[derive(Drop)]
+#[derive(Clone, Copy)]
 pub enum Stage {
     // A read.
     Read,
@@ -22,7 +24,7 @@ pub enum Stage {
 }
 
 // What is known between two steps. The host lends the line buffer, the table, the piece and the output buffer.
-#[derive(Drop)]
+#[derive(Clone, Copy)]
 pub struct Course {
     pub player: Player,
     pub stage: Stage,
@@ -32,7 +34,7 @@ pub struct Course {
 }
 
 // What a step leaves, and how many octets it wrote.
-#[derive(Drop)]
+#[derive(Clone, Copy)]
 pub struct Went {
     pub course: Course,
     pub written: usize,

@@ -1,4 +1,6 @@
 // A recording comes in pieces of any size: the octets of one line are gathered in a lent buffer until octet 10 ends it.
+#![tactic(auto)]
+
 ghost use Rattle.std.specs.Prelude.{◌≡◌, ◌≤◌, set, take, length};
 ghost use Rattle.recording_gather.specs.Gathering.{longer, gathered, line_after, line_held};
 
@@ -6,7 +8,7 @@ ghost use Rattle.recording_gather.specs.Gathering.{longer, gathered, line_after,
 pub const LONGEST: u16 = 4118;
 
 // How many octets of the piece were used, how many of the line are held, and whether the line ended.
-#[derive(Drop)]
+#[derive(Clone, Copy)]
 pub struct Gathered {
     pub used: usize,
     pub held: u16,

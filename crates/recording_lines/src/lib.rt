@@ -1,4 +1,6 @@
 // The lines of a recording: the settings of the first four, the fifth that may follow, and the events after them.
+#![tactic(auto)]
+
 ghost use Rattle.std.specs.Prelude.{◌≡◌, true, List, ℕ, ◌≤◌, length, drop};
 ghost use Rattle.recording_lines.specs.Lines.{own_as_of, own_of, capability_of, net_of, quiet_of, remove, start, stop, alone, slashed, add_event, tick_event, rx_event, event_of};
 ghost use Rattle.recording_lines.specs.Meant.{meant};
@@ -7,7 +9,7 @@ ghost use Rattle.recording_lines.specs.Steps.{front_of, stands_on};
 use text_values::Number;
 
 // An event, or a bad line. The octets of a message stay on the line as hex, from an index on.
-#[derive(Drop)]
+#[derive(Clone, Copy)]
 pub enum Read {
     Bad,
     Add(u32, u16),
@@ -19,7 +21,7 @@ pub enum Read {
 }
 
 // The address before a slash, and the index behind the slash.
-#[derive(Drop)]
+#[derive(Clone, Copy)]
 enum Front {
     Bad,
     At(u32, usize),

@@ -1,4 +1,6 @@
 // What the trace says of a message: numbers behind their keys, and what reading alone makes of its octets.
+#![tactic(auto)]
+
 ghost use Rattle.std.specs.Prelude.{◌≡◌, ◌+◌, ◌*◌, ◌≤◌, length};
 ghost use Rattle.octets.specs.Written.{Written};
 ghost use Rattle.nets.specs.Rows.{rows_of};

@@ -1,5 +1,7 @@
 // Plays a recording that comes in pieces of any size. Each turn makes at most one call, so the output of a turn is
 // bounded.
+#![tactic(auto)]
+
 ghost use Rattle.std.specs.Prelude.{◌≡◌, true, List, ℕ, ◌<◌, leb, length};
 ghost use Rattle.octets.specs.Buffer.{over};
 ghost use Rattle.recording_lines.specs.Meant.{meant};
@@ -18,7 +20,7 @@ use text_values::Number;
 pub const ROOM: usize = 65536;
 
 // What is known between two turns. The host lends the line buffer, the table and the output buffer.
-#[derive(Drop)]
+#[derive(Clone, Copy)]
 pub struct Player {
     // Lines taken so far.
     pub lines: u64,
@@ -39,7 +41,7 @@ pub struct Player {
 
 // What a turn leaves: how many octets of the piece it used and how many it wrote, and the number of 01 or 19 for a bad
 // line.
-#[derive(Drop)]
+#[derive(Clone, Copy)]
 pub struct Told {
     pub player: Player,
     pub answer: u8,
@@ -226,7 +228,7 @@ fn give_up(p: Player, answer: u8, used: usize, out: &mut [u8]) -> Told
 }
 
 // What a line of settings leaves of them.
-#[derive(Drop)]
+#[derive(Clone, Copy)]
 enum Heard {
     Bad,
     // One of the first three: more are to come.

@@ -1,5 +1,7 @@
 // A program that plays a site's recording back: standard input, or the file that the only argument names. What is told
 // of its calls, bad lines and the listing go to standard output. docs/RECORDING.md has the format.
+#![tactic(auto)]
+
 ghost use Rattle.std.specs.Prelude.{◌+◌, ◌≤◌, ◌≡◌, ◌++◌, length, take, drop};
 ghost use Rattle.recording_course.specs.Course.{course_step};
 ghost use Rattle.recording_program.specs.Rooms.{Rooms};

@@ -1,4 +1,6 @@
 // A line of the trace: what a call found and left of its neighbour, and every message that was received or sent.
+#![tactic(auto)]
+
 ghost use Rattle.std.specs.Prelude.{◌≡◌, List, ℕ, ◌+◌, ◌≤◌, length};
 ghost use Rattle.octets.specs.Buffer.{over};
 ghost use Rattle.octets.specs.Written.{Written};
@@ -11,7 +13,7 @@ use gateway_state::{Outcome, Slot, State};
 use neighbour::{Mode, Phase};
 
 // Which event a call is.
-#[derive(Drop)]
+#[derive(Clone, Copy)]
 pub enum Deed {
     Add,
     Remove,
@@ -23,7 +25,7 @@ pub enum Deed {
 
 // How a call is told of: by a line of the trace, or by its replies alone; the number of its line, how many ticks of that
 // line were passed over since the last one told of, and whether it is the line's last call.
-#[derive(Drop)]
+#[derive(Clone, Copy)]
 pub struct Telling {
     pub traced: bool,
     pub line: u64,

@@ -1,4 +1,6 @@
 // Text as octets: fixed words, decimal numbers and dotted quads, written into a lent buffer from an index on.
+#![tactic(auto)]
+
 ghost use Rattle.std.specs.Prelude.{◌≡◌, [], ◌∷◌, ◌+◌, ◌≤◌, ◌<◌, length};
 ghost use Rattle.octets.specs.Written.{Written};
 ghost use Rattle.text.specs.Text.{decimal, dotted, line};

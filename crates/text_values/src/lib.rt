@@ -1,4 +1,6 @@
 // Values read from text: decimal numbers, dotted quads and octets in hex; and octets written in hex.
+#![tactic(auto)]
+
 ghost use Rattle.std.specs.Prelude.{◌≡◌, true, ◌+◌, ◌≤◌, ◌<◌, length};
 ghost use Rattle.octets.specs.Buffer.{over};
 ghost use Rattle.octets.specs.Written.{Written};
@@ -7,7 +9,7 @@ ghost use Rattle.text_values.specs.Hex.{nibble, is_hex, hex_octets, hex_digit, h
 ghost use Rattle.text_values.specs.Places.{index_of, starts_with};
 
 // What was read: a number, or text that is none.
-#[derive(Drop)]
+#[derive(Clone, Copy)]
 pub enum Number {
     Bad,
     Is(u32),

@@ -1,4 +1,6 @@
 // Storing the rows of an Update that the walk found good into a slot's part of the table: three numbers a row, the rest zero.
+#![tactic(auto)]
+
 ghost use Rattle.std.specs.Prelude.{◌≡◌, true, [], ◌∷◌, ◌+◌, ◌*◌, ◌-◌, ◌^◌, ◌≤◌, ◌<◌, length, take, drop, get_or};
 ghost use Rattle.std.proofs.lemmas.List.Edits.{sets};
 ghost use Rattle.nets.specs.Classes.{net_width, good_net};
@@ -7,14 +9,14 @@ ghost use Rattle.update_walk.specs.Body.{big_endian, many, left_justified, net_r
 ghost use Rattle.update_rows.specs.Storing.{zeros, padded, Storable, Room, Stored, walked_rows};
 
 // Where the next number goes, and how many octets are left.
-#[derive(Drop)]
+#[derive(Clone, Copy)]
 pub struct Put {
     pub at: usize,
     pub left: usize,
 }
 
 // A net: its number, left justified, and how many octets it takes.
-#[derive(Drop)]
+#[derive(Clone, Copy)]
 struct Net {
     number: u32,
     width: usize,

@@ -1,17 +1,19 @@
 // The walk over the gateway blocks of an Update: counts rows, or finds the first octet that can't be right.
+#![tactic(auto)]
+
 ghost use Rattle.std.specs.Prelude.{◌≡◌, ℕ, ◌^◌, ◌≤◌, ◌<◌, length};
 ghost use Rattle.update_walk.specs.Body.{big_endian, many, net_row, group_rows, host_width, block_rows, both_sides, update_of, walked_of, walked_number};
 ghost use Rattle.update_walk.specs.Walked.{skip_of, group_nets, walk_verdict, WithinEnd};
 
 // How far a part of the walk came: past so many rows, or to a stop; and how many octets are left there.
-#[derive(Drop)]
+#[derive(Clone, Copy)]
 enum Skip {
     Past { rows: usize, left: usize },
     Stop(usize),
 }
 
 // What the walk over an Update found: 01's 0 with the number of rows, 14 with the offset, or 15.
-#[derive(Drop)]
+#[derive(Clone, Copy)]
 pub enum Walked {
     Rows(usize),
     Broken(usize),

@@ -1,4 +1,6 @@
 // Writing the gateway blocks of an Update from rows.
+#![tactic(auto)]
+
 ghost use Rattle.std.specs.Prelude.{◌≡◌, true, ◌+◌, ◌*◌, ◌≤◌, ◌<◌, ◌%◌, length, take};
 ghost use Rattle.std.proofs.lemmas.List.Edits.{sets};
 ghost use Rattle.octets.specs.Written.{Written};
@@ -12,7 +14,7 @@ ghost use Rattle.update_writing.specs.Steps.{column, agreeing, run_length};
 const MOST_NUMBERS: usize = 384;
 
 // Where the blocks of an Update end in the buffer, and the two counts of its head.
-#[derive(Drop)]
+#[derive(Clone, Copy)]
 pub struct Blocks {
     pub end: usize,
     pub internal: u8,
@@ -20,14 +22,14 @@ pub struct Blocks {
 }
 
 // Where a run ends in the buffer, and how many numbers it takes.
-#[derive(Drop)]
+#[derive(Clone, Copy)]
 struct Group {
     end: usize,
     numbers: usize,
 }
 
 // Where a sequence of runs ends in the buffer, and how many runs it has.
-#[derive(Drop)]
+#[derive(Clone, Copy)]
 struct Sequence {
     end: usize,
     count: u8,

@@ -1,0 +1,16 @@
+-- `put` meets its contract. The loop keeps: what is left to store gives what all of it gave at first. Assumes nothing.
+use Prim.Native.Nat.{◌+◌, ◌-◌, ◌≤◌}
+use native.Mathlib.Nat.{add-zero}
+use native.Mathlib.Omega.{arith}
+use mathlib.Core.Path.{◌≡◌, refl, sym, ap, ◌∙◌}
+use lib.ListN.{length, drop, length-set, drop_of_length-le}
+use lib.Seq.{sets}
+use Rattle.octets.proofs.Storing.{copy_turn}
+use Rattle.octets.proofs.put.Given as goal
+
+abbrev pub invariant-loop-i : goal.invariant-loop-i
+invariant-loop-i l =
+    (l.i ≤ length l.octets) × (length l.out ≡ length l.initial.out) × (sets l.initial.out l.at l.octets ≡ sets l.out (l.at + l.i) (drop l.i l.octets))
+
+abbrev pub decreases-loop-i : goal.decreases-loop-i
+decreases-loop-i l = length l.octets - l.i

@@ -16,4 +16,4 @@ pub returns-in-Past : goal.returns-in-Past
 returns-in-Past c = nets_past c.args.t.now c.args.skip c.requires _ _ c.in-Past.is
 
 pub returns-in-Stop : goal.returns-in-Stop
-returns-in-Stop c = nets_stop c.args.t.now c.args.skip c.requires _ c.enum_told.given.1
+returns-in-Stop c = nets_stop c.args.t.now c.args.skip c.requires _ c.in-Stop.is

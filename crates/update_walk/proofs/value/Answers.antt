@@ -23,4 +23,4 @@ pub loop-i-preserved : goal.loop-i-preserved
 loop-i-preserved c = (omega arith, c.loop-i.invariant.1 ∙ digits_turn c.loop-i.sum c.loop-i.i c.args.octets.now c.loop-i-test.true, one_more_lem c.loop-i.sum c.loop-i.i (get_or c.args.octets.now c.loop-i.i 0) c.loop-i.invariant.2 (omega (arith, c.type_inv.octets c.loop-i.i)))
 
 pub returns : goal.returns
-returns c = let e : c.loop-i.i ≡ length c.args.octets.now = omega arith in (sym (c.loop-i.invariant.1 ∙ digits_done _ _ _ c.loop-i-test.false), rw e at c.loop-i.invariant.2)
+returns c = let e : c.loop-i.i ≡ length c.args.octets.now = omega arith in record { number = sym (c.loop-i.invariant.1 ∙ digits_done _ _ _ c.loop-i-test.false); bound = rw e at c.loop-i.invariant.2 }

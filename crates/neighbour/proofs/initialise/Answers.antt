@@ -1,0 +1,7 @@
+use Rattle.neighbour.specs.Record.{initialised, with_counts}
+use mathlib.Core.Path.{refl}
+use Rattle.neighbour.proofs.initialise.Goals as goal
+
+pub returns : goal.returns
+unfolding initialised
+returns c = refl

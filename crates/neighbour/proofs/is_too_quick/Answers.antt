@@ -1,0 +1,16 @@
+use Rattle.neighbour.proofs.Counts.{quick_outside, quick_hello, quick_poll, quick_other}
+use mathlib.Core.Path.{sym, ◌∙◌}
+use borrow.Author.Tests.{not-true, not-false}
+use Rattle.neighbour.proofs.is_too_quick.Goals as goal
+
+pub returns-then-not-is_acquired : goal.returns-then-not-is_acquired
+returns-then-not-is_acquired c = quick_outside _ _ (sym c.is_acquired.ensures ∙ c.if-not-is_acquired.true)
+
+pub returns-in-Hello : goal.returns-in-Hello
+returns-in-Hello c = quick_hello _ (sym c.is_acquired.ensures ∙ c.if-not-is_acquired.false) _ _ _ _ c.in-Hello.is
+
+pub returns-in-Poll : goal.returns-in-Poll
+returns-in-Poll c = quick_poll _ (sym c.is_acquired.ensures ∙ c.if-not-is_acquired.false) _ _ _ _ _ c.in-Poll.is
+
+pub returns : goal.returns
+returns c = quick_other _ (sym c.is_acquired.ensures ∙ c.if-not-is_acquired.false) _ c.in_default.in_default-own.keys2 c.in_default-m.in_default-m-own.keys2

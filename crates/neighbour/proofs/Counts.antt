@@ -2,23 +2,19 @@
 use Prim.Native.Nat.{ℕ}
 use mathlib.Core.Path.{◌≡◌, refl}
 use mathlib.Core.Bool.{Bool, true, false, ◌&&◌, ◌||◌}
-use mathlib.Core.List.{List, [], ◌∷◌}
 use lib.Dec.{ltb}
-use types.Run.{OneOf, miss}
-use denote.Enum.Declared.{tag_of}
 use Rattle.message.specs.declared.Message.{Message}
 use Rattle.message.specs.declared.Message.TheVariants.{Request, Confirm, Refuse, Cease, CeaseAck, Hello, IHeardYou, Poll, Update, Error}
-use Rattle.message.specs.contracts.Message.{the_type}
 use Rattle.neighbour.specs.declared.Neighbour.{Neighbour}
 use Rattle.neighbour.specs.Record.{acquired, with_counts}
 use Rattle.neighbour.specs.Rules.{too_quick, recounted}
 
 -- a message of another kind, as the code's matches tell it
 abbrev pub NoHello : Message → Type 0
-NoHello m = OneOf (0 ∷ 1 ∷ 2 ∷ 3 ∷ 4 ∷ 6 ∷ 7 ∷ 8 ∷ 9 ∷ []) (tag_of the_type m)
+NoHello m = (a q s : ℕ) → m ≡ Hello a q s → ⊥
 
 abbrev pub NoPoll : Message → Type 0
-NoPoll m = OneOf (0 ∷ 1 ∷ 2 ∷ 3 ∷ 4 ∷ 5 ∷ 6 ∷ 8 ∷ 9 ∷ []) (tag_of the_type m)
+NoPoll m = (a q s net : ℕ) → m ≡ Poll a q s net → ⊥
 
 or_false : (b : Bool) → b ≡ (b || false)
 or_false true = refl
@@ -58,9 +54,9 @@ module _ (n : Neighbour) where
     quick_other (Refuse a q s) h k = rw e
     quick_other (Cease a q s) h k = rw e
     quick_other (CeaseAck a q s) h k = rw e
-    quick_other (Hello a q s) h k = absurd (miss (0 ∷ 1 ∷ 2 ∷ 3 ∷ 4 ∷ 6 ∷ 7 ∷ 8 ∷ 9 ∷ []) 5 tt h)
+    quick_other (Hello a q s) h k = absurd (h a q s refl)
     quick_other (IHeardYou a q s) h k = rw e
-    quick_other (Poll a q s net) h k = absurd (miss (0 ∷ 1 ∷ 2 ∷ 3 ∷ 4 ∷ 5 ∷ 6 ∷ 8 ∷ 9 ∷ []) 7 tt k)
+    quick_other (Poll a q s net) h k = absurd (k a q s net refl)
     quick_other (Update a q s net) h k = rw e
     quick_other (Error a q s reason first second third) h k = rw e
 
@@ -71,8 +67,8 @@ module _ (n : Neighbour) where
     recounted_other (Refuse a q s) h k = rw e
     recounted_other (Cease a q s) h k = rw e
     recounted_other (CeaseAck a q s) h k = rw e
-    recounted_other (Hello a q s) h k = absurd (miss (0 ∷ 1 ∷ 2 ∷ 3 ∷ 4 ∷ 6 ∷ 7 ∷ 8 ∷ 9 ∷ []) 5 tt h)
+    recounted_other (Hello a q s) h k = absurd (h a q s refl)
     recounted_other (IHeardYou a q s) h k = rw e
-    recounted_other (Poll a q s net) h k = absurd (miss (0 ∷ 1 ∷ 2 ∷ 3 ∷ 4 ∷ 5 ∷ 6 ∷ 8 ∷ 9 ∷ []) 7 tt k)
+    recounted_other (Poll a q s net) h k = absurd (k a q s net refl)
     recounted_other (Update a q s net) h k = rw e
     recounted_other (Error a q s reason first second third) h k = rw e

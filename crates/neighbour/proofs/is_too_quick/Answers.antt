@@ -13,4 +13,4 @@ pub returns-in-Poll : goal.returns-in-Poll
 returns-in-Poll c = quick_poll _ (sym c.is_acquired.ensures ∙ c.if-not-is_acquired.false) _ _ _ _ _ c.in-Poll.is
 
 pub returns : goal.returns
-returns c = quick_other _ (sym c.is_acquired.ensures ∙ c.if-not-is_acquired.false) _ c.in_default.in_default-own.keys2 c.in_default-m.in_default-m-own.keys2
+returns c = quick_other _ (sym c.is_acquired.ensures ∙ c.if-not-is_acquired.false) _ c.in_default.not-Hello c.in_default-m.not-Poll

@@ -54,4 +54,5 @@ shape_of-out c = c.loop-rest.invariant.1.long
 pub returns : goal.returns
 returns c =
     let l = c.loop-rest in
-    octets_over c.requires.1 (done l.invariant.1 (octets_end l.rest.now c.loop-rest-test.false))
+    let both = octets_over c.requires.1 (done l.invariant.1 (octets_end l.rest.now c.loop-rest-test.false)) in
+    record { value = both.0; out_after = both.1 }

@@ -285,6 +285,10 @@ pub record Split (net : ℕ) (u : List ℕ) (at : ℕ) (old : List ℕ) (split :
   pub room : at + 9 * length (rows_of u) ≤ length old
   pub is : split ≡ 3 * length (side_rows 0 (rows_of u))
 
+pub split_found : (net : ℕ) (u : List ℕ) (at : ℕ) (old : List ℕ) (split : ℕ)
+    → good_net net ≡ true → writable_numbers net u ≡ true → at + 9 * length (rows_of u) ≤ length old → split ≡ 3 * length (side_rows 0 (rows_of u)) → Split net u at old split
+split_found net u at old split g w r e = record { good = g; writable = w; room = r; is = e }
+
 module _ {net : ℕ} {u : List ℕ} {at : ℕ} {old : List ℕ} {split : ℕ} (s : Split net u at old split) where
   rows_writable : writable_rows net (rows_of u) ≡ true
   unfolding writable_numbers

@@ -31,7 +31,7 @@ module _ (key : Row → ℕ) where
           ((r ∷ []) ∷ (s ∷ take (agreeing key (key s) ss) ss) ∷ runs key (drop (agreeing key (key s) ss) ss))
           ≡ (r ∷ take (cond (eqb (key r) (key s)) (suc (agreeing key (key r) ss)) 0) (s ∷ ss))
           ∷ runs key (drop (cond (eqb (key r) (key s)) (suc (agreeing key (key r) ss)) 0) (s ∷ ss))
-      go true e ih = rw (e, eqb-true (key r) (key s) e)
+      go true e ih = rw e (ap (λ (k : ℕ). (r ∷ s ∷ take (agreeing key k ss) ss) ∷ runs key (drop (agreeing key k ss) ss)) (sym (eqb-true (key r) (key s) e)))
       go false e ih = rw e (ap (λ (l : List (List Row)). (r ∷ []) ∷ l) (sym ih))
 
   pub first_run : (rows : List Row) → 0 < length rows → runs key rows ≡ take (run_length key rows) rows ∷ runs key (drop (run_length key rows) rows)

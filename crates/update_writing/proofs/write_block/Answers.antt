@@ -8,23 +8,20 @@ use Rattle.update_writing.proofs.Loops.{block_size_lem, block_written}
 use Rattle.update_writing.specs.Blocks.{host_octets, groups_octets, block_octets}
 use Rattle.update_writing.proofs.write_block.Goals as goal
 
-size : (c : tie.Start) → length (block_octets c.args.net (rows_of c.args.rows.now)) ≡ length (host_octets c.args.net (get_or c.args.rows.now 1 0)) + suc (length (groups_octets (rows_of c.args.rows.now)))
-size c = block_size_lem c.args.net c.args.rows.now c.requires.0.0
-
 pub write_host-host-requires : goal.write_host-host-requires
-write_host-host-requires c = omega (arith, size c, c.requires.rows_in_bounds)
+write_host-host-requires c = omega (arith, block_size_lem c.args.net c.args.rows.now c.requires.in_bounds.0, c.requires.rows_in_bounds)
 
 pub overflow_add-host : goal.overflow_add-host
-overflow_add-host c = omega (arith, size c, c.write_host-host.ensures.after, c.requires.rows_in_bounds)
+overflow_add-host c = omega (arith, block_size_lem c.args.net c.args.rows.now c.requires.in_bounds.0, c.write_host-host.ensures.after, c.requires.rows_in_bounds)
 
 pub write_groups-groups-requires-clause-rows_len_bound : goal.write_groups-groups-requires-clause-rows_len_bound
 write_groups-groups-requires-clause-rows_len_bound c = c.requires.in_bounds.1
 
 pub write_groups-groups-requires-clause-rows_in_bounds : goal.write_groups-groups-requires-clause-rows_in_bounds
-write_groups-groups-requires-clause-rows_in_bounds c = omega (arith, size c, c.write_host-host.ensures.after, c.requires.rows_in_bounds, c.write_host-host.auto.out)
+write_groups-groups-requires-clause-rows_in_bounds c = omega (arith, block_size_lem c.args.net c.args.rows.now c.requires.in_bounds.0, c.write_host-host.ensures.after, c.requires.rows_in_bounds, c.write_host-host.auto.out)
 
 pub bounds-out-host : goal.bounds-out-host
-bounds-out-host c = omega (arith, size c, c.write_host-host.ensures.after, c.requires.rows_in_bounds, c.write_host-host.auto.out, c.write_groups-groups.auto.out)
+bounds-out-host c = omega (arith, block_size_lem c.args.net c.args.rows.now c.requires.in_bounds.0, c.write_host-host.ensures.after, c.requires.rows_in_bounds, c.write_host-host.auto.out, c.write_groups-groups.auto.out)
 
 pub shape_of-out : goal.shape_of-out
 shape_of-out c = simp length-set (omega (arith, c.write_host-host.auto.out, c.write_groups-groups.auto.out))

@@ -20,7 +20,7 @@ shape_of-out-then-rest-third c = c.loop-rest.invariant.0.long
 pub returns-then-rest-third : goal.returns-then-rest-third
 returns-then-rest-third c =
     let u = c.loop-rest.rest.now in
-    (done c.loop-rest.invariant.0 (nets_other c.args.third u c.loop-rest-test.true c.if-rest-third.true), omega (arith, c.loop-rest.invariant.1, run_other 2 (omega arith) u c.loop-rest-test.true c.args.third c.if-rest-third.true))
+    record { written = done c.loop-rest.invariant.0 (nets_other c.args.third u c.loop-rest-test.true c.if-rest-third.true); numbers_value = omega (arith, c.loop-rest.invariant.1, run_other 2 (omega arith) u c.loop-rest-test.true c.args.third c.if-rest-third.true) }
 
 pub write_net-end-requires : goal.write_net-end-requires
 write_net-end-requires c = nets_room c.args.third c.loop-rest.rest.now c.loop-rest-test.true c.loop-rest.invariant.0 c.if-rest-third.false
@@ -46,4 +46,4 @@ shape_of-out c = c.loop-rest.invariant.0.long
 pub returns : goal.returns
 returns c =
     let u = c.loop-rest.rest.now in
-    (done c.loop-rest.invariant.0 (nets_end c.args.third u c.loop-rest-test.false), omega (arith, c.loop-rest.invariant.1, run_end 2 c.args.third u c.loop-rest-test.false))
+    record { written = done c.loop-rest.invariant.0 (nets_end c.args.third u c.loop-rest-test.false); numbers_value = omega (arith, c.loop-rest.invariant.1, run_end 2 c.args.third u c.loop-rest-test.false) }

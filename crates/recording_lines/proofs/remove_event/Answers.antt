@@ -1,0 +1,14 @@
+-- `recording_lines::remove_event` meets its contract. Assumes nothing.
+use mathlib.Core.Path.{sym, ◌∙◌}
+use Rattle.recording_lines.specs.Lines.{remove, alone}
+use Rattle.recording_lines.proofs.Reader.{says_bad, alone_bad, remove_said}
+use Rattle.recording_lines.proofs.remove_event.Goals as goal
+
+pub read_dotted-requires : goal.read_dotted-requires
+read_dotted-requires c = tt
+
+pub returns-in_default : goal.returns-in_default
+returns-in_default c = let both = says_bad (alone remove c.args.value.now) (alone_bad remove c.args.value.now (sym c.read_dotted.ensures ∙ c.in_default.is)) in record { by_index = both.0; by_index_2 = both.1 }
+
+pub returns : goal.returns
+returns c = let both = remove_said c.args.value.now c.in-Is.address (sym c.read_dotted.ensures ∙ c.in-Is.is) in record { by_index = both.0; by_index_2 = both.1 }

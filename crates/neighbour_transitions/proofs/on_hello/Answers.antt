@@ -1,0 +1,24 @@
+use Rattle.neighbour_machine.specs.Table.{on_hello}
+use mathlib.Core.Path.{sym, ◌∙◌}
+use Rattle.neighbour.proofs.Laws.{at_idle, at_acquisition, at_down, at_up, at_cease}
+use Rattle.neighbour_transitions.proofs.on_hello.Goals as goal
+
+pub returns-in-Idle : goal.returns-in-Idle
+unfolding on_hello
+returns-in-Idle c = c.answer_stray.ensures ∙ sym (at_idle _ _ _ _ _ _ c.in-Idle.is)
+
+pub returns-in-Acquisition : goal.returns-in-Acquisition
+unfolding on_hello
+returns-in-Acquisition c = c.keep.ensures ∙ sym (at_acquisition _ _ _ _ _ _ c.in-Acquisition.is)
+
+pub returns-in-Down : goal.returns-in-Down
+unfolding on_hello
+returns-in-Down c = (rw c.i_heard_you_message.ensures at c.answer.ensures) ∙ sym (at_down _ _ _ _ _ _ c.in-Down.is)
+
+pub returns-in-Up : goal.returns-in-Up
+unfolding on_hello
+returns-in-Up c = (rw c.i_heard_you_message-in-Up.ensures at c.answer-in-Up.ensures) ∙ sym (at_up _ _ _ _ _ _ c.in-Up.is)
+
+pub returns-in-Cease : goal.returns-in-Cease
+unfolding on_hello
+returns-in-Cease c = c.keep-in-Cease.ensures ∙ sym (at_cease _ _ _ _ _ _ c.in-Cease.is)

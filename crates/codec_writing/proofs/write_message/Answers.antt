@@ -38,7 +38,7 @@ unfolding room_for
 write_poll-requires c = rw c.in-Poll.is at c.requires.message_in_bounds
 
 pub write_update-requires : goal.write_update-requires
-write_update-requires c = let both = update_asked _ _ c.args.rows.now _ _ _ c.in-Update.net c.in-Update.is c.requires in record { net_value = both.0; in_bounds = both.1 }
+write_update-requires c = let both = update_asked _ _ c.args.rows.now _ _ _ c.in-Update.net c.in-Update.is (c.requires.rows_value, c.requires.message_in_bounds) in record { net_value = both.0; in_bounds = both.1 }
 
 pub write_error-requires : goal.write_error-requires
 unfolding room_for

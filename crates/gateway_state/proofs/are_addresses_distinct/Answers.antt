@@ -17,16 +17,16 @@ loop-i-init c = (omega arith, refl)
 pub returns-then-not-is_apart_from : goal.returns-then-not-is_apart_from
 unfolding slot_at free_slot idle
 returns-then-not-is_apart_from c =
-    let eight : length c.args.t1.slots ≡ 8 = search (rules, unmapped) in
-    sym (c.loop-i.invariant.1 ∙ distinct_slot_here c.args.t1 eight c.loop-i.i c.loop-i-test.true (sym c.is_apart_from.ensures ∙ c.if-not-is_apart_from.true))
+    let eight : length c.args.st.slots ≡ 8 = search (rules, unmapped) in
+    sym (c.loop-i.invariant.1 ∙ distinct_slot_here c.args.st eight c.loop-i.i c.loop-i-test.true (sym c.is_apart_from.ensures ∙ c.if-not-is_apart_from.true))
 
 pub loop-i-preserved : goal.loop-i-preserved
 unfolding slot_at free_slot idle
 loop-i-preserved c =
-    let eight : length c.args.t1.slots ≡ 8 = search (rules, unmapped) in
-    (omega arith, c.loop-i.invariant.1 ∙ distinct_slot_next c.args.t1 eight c.loop-i.i c.loop-i-test.true (sym c.is_apart_from.ensures ∙ c.if-not-is_apart_from.false))
+    let eight : length c.args.st.slots ≡ 8 = search (rules, unmapped) in
+    (omega arith, c.loop-i.invariant.1 ∙ distinct_slot_next c.args.st eight c.loop-i.i c.loop-i-test.true (sym c.is_apart_from.ensures ∙ c.if-not-is_apart_from.false))
 
 pub returns : goal.returns
 returns c =
-    let eight : length c.args.t1.slots ≡ 8 = search (rules, unmapped) in
-    sym (c.loop-i.invariant.1 ∙ distinct_slot_end c.args.t1 eight c.loop-i.i c.loop-i-test.false)
+    let eight : length c.args.st.slots ≡ 8 = search (rules, unmapped) in
+    sym (c.loop-i.invariant.1 ∙ distinct_slot_end c.args.st eight c.loop-i.i c.loop-i-test.false)

@@ -23,8 +23,8 @@ returns-then-not-is_up_slot_formed-clause-slots_value c = c.loop-i.invariant.1
 pub loop-i-preserved : goal.loop-i-preserved
 unfolding free_slot idle
 loop-i-preserved c =
-    let eight : length c.args.t1.slots ≡ 8 = search (rules, unmapped) in
-    (omega arith, c.loop-i.invariant.1 ∙ every_next (slot_formed c.args.t1.settings) c.args.t1.slots c.loop-i.i free_slot (omega arith) (c.is_up_slot_formed.ensures c.if-not-is_up_slot_formed.false))
+    let eight : length c.args.st.slots ≡ 8 = search (rules, unmapped) in
+    (omega arith, c.loop-i.invariant.1 ∙ every_next (slot_formed c.args.st.settings) c.args.st.slots c.loop-i.i free_slot (omega arith) (c.is_up_slot_formed.ensures c.if-not-is_up_slot_formed.false))
 
 pub returns-clause-upper_bound : goal.returns-clause-upper_bound
 returns-clause-upper_bound c = c.loop-i.invariant.0

@@ -14,17 +14,17 @@ use Rattle.gateway_state.proofs.lowest_free.Goals as goal
 pub returns-then-slot-eq0 : goal.returns-then-slot-eq0
 unfolding lowest_free slot_at free_slot idle
 returns-then-slot-eq0 c =
-    let eight : length c.args.t1.slots ≡ 8 = search (rules, unmapped) in
-    find_here c.args.t1 eight is_none c.loop-free.free c.loop-free.invariant.1 c.loop-free-test.true (eq-eqb _ _ c.if-slot-eq0.true)
+    let eight : length c.args.st.slots ≡ 8 = search (rules, unmapped) in
+    find_here c.args.st eight is_none c.loop-free.free c.loop-free.invariant.1 c.loop-free-test.true (eq-eqb _ _ c.if-slot-eq0.true)
 
 pub loop-free-preserved : goal.loop-free-preserved
 unfolding slot_at free_slot idle
 loop-free-preserved c =
-    let eight : length c.args.t1.slots ≡ 8 = search (rules, unmapped) in
-    (omega arith, find_next c.args.t1 eight is_none c.loop-free.free c.loop-free.invariant.1 c.loop-free-test.true (ne_eqb _ _ c.if-slot-eq0.false))
+    let eight : length c.args.st.slots ≡ 8 = search (rules, unmapped) in
+    (omega arith, find_next c.args.st eight is_none c.loop-free.free c.loop-free.invariant.1 c.loop-free-test.true (ne_eqb _ _ c.if-slot-eq0.false))
 
 pub returns : goal.returns
 unfolding lowest_free
 returns c =
-    let eight : length c.args.t1.slots ≡ 8 = search (rules, unmapped) in
-    find_end c.args.t1 eight is_none c.loop-free.free c.loop-free.invariant.1 c.loop-free-test.false
+    let eight : length c.args.st.slots ≡ 8 = search (rules, unmapped) in
+    find_end c.args.st eight is_none c.loop-free.free c.loop-free.invariant.1 c.loop-free-test.false

@@ -9,8 +9,8 @@ use Rattle.gateway_state.proofs.slot_at.Goals as goal
 
 pub returns-then-i-ge-SLOTS : goal.returns-then-i-ge-SLOTS
 returns-then-i-ge-SLOTS c =
-    let eight : length c.args.t1.slots ≡ 8 = search (rules, unmapped) in
-    c.free_slot.ensures ∙ slot_past c.args.t1 c.args.i eight c.if-i-ge-SLOTS.true
+    let eight : length c.args.st.slots ≡ 8 = search (rules, unmapped) in
+    c.free_slot.ensures ∙ slot_past c.args.st c.args.i eight c.if-i-ge-SLOTS.true
 
 pub returns : goal.returns
 unfolding slot_at free_slot idle

@@ -12,23 +12,23 @@ use Rattle.gateway_state.proofs.slot_of.Goals as goal
 
 pub returns-then-address-eq0 : goal.returns-then-address-eq0
 returns-then-address-eq0 c =
-    let eight : length c.args.t1.slots ≡ 8 = search (rules, unmapped) in
-    find_zero c.args.t1 eight c.args.address c.if-address-eq0.true
+    let eight : length c.args.st.slots ≡ 8 = search (rules, unmapped) in
+    find_zero c.args.st eight c.args.address c.if-address-eq0.true
 
 pub returns-then-address-slot : goal.returns-then-address-slot
 unfolding slot_of slot_at free_slot idle
 returns-then-address-slot c =
-    let eight : length c.args.t1.slots ≡ 8 = search (rules, unmapped) in
-    find_here c.args.t1 eight (clash c.args.address) c.loop-i.i c.loop-i.invariant.1 c.loop-i-test.true (clash_is _ _ c.if-address-eq0.false c.if-address-slot.true)
+    let eight : length c.args.st.slots ≡ 8 = search (rules, unmapped) in
+    find_here c.args.st eight (clash c.args.address) c.loop-i.i c.loop-i.invariant.1 c.loop-i-test.true (clash_is _ _ c.if-address-eq0.false c.if-address-slot.true)
 
 pub loop-i-preserved : goal.loop-i-preserved
 unfolding slot_at free_slot idle
 loop-i-preserved c =
-    let eight : length c.args.t1.slots ≡ 8 = search (rules, unmapped) in
-    (omega arith, find_next c.args.t1 eight (clash c.args.address) c.loop-i.i c.loop-i.invariant.1 c.loop-i-test.true (clash_not _ _ c.if-address-slot.false))
+    let eight : length c.args.st.slots ≡ 8 = search (rules, unmapped) in
+    (omega arith, find_next c.args.st eight (clash c.args.address) c.loop-i.i c.loop-i.invariant.1 c.loop-i-test.true (clash_not _ _ c.if-address-slot.false))
 
 pub returns : goal.returns
 unfolding slot_of
 returns c =
-    let eight : length c.args.t1.slots ≡ 8 = search (rules, unmapped) in
-    find_end c.args.t1 eight (clash c.args.address) c.loop-i.i c.loop-i.invariant.1 c.loop-i-test.false
+    let eight : length c.args.st.slots ≡ 8 = search (rules, unmapped) in
+    find_end c.args.st eight (clash c.args.address) c.loop-i.i c.loop-i.invariant.1 c.loop-i-test.false

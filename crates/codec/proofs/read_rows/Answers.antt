@@ -1,0 +1,12 @@
+use Rattle.update_rows.specs.Storing.{zeros}
+use Rattle.codec.proofs.ReadLaws.{rowless_read}
+use Rattle.codec.specs.Reading.{rowless, meaning_reading}
+use Rattle.codec.proofs.read_rows.Goals as goal
+
+pub returns-in-Update : goal.returns-in-Update
+unfolding meaning_reading
+returns-in-Update c = rw c.in-Update.is (rw c.in-Update.is at c.read_update.ensures)
+
+pub returns : goal.returns
+unfolding rowless zeros
+returns c = rowless_read _ _ _ c.in_default.in_default-own.keys2

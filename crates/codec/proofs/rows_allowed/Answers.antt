@@ -1,0 +1,16 @@
+use mathlib.Core.Path.{sym}
+use Rattle.codec.specs.Writing.{rows_allowed}
+use Rattle.codec_writing.specs.Room.{rows_fit}
+use Rattle.codec.proofs.Laws.{other_rows}
+use Rattle.codec.proofs.rows_allowed.Goals as goal
+
+pub returns-then-good_net : goal.returns-then-good_net
+unfolding rows_allowed rows_fit
+returns-then-good_net c = rw (c.in-Update.is, ← c.good_net.ensures, c.if-good_net.true) c.writable.ensures
+
+pub returns-in-Update : goal.returns-in-Update
+unfolding rows_allowed rows_fit
+returns-in-Update c = rw (c.in-Update.is, ← c.good_net.ensures, c.if-good_net.false)
+
+pub returns : goal.returns
+returns c = sym (other_rows _ _ c.in_default.in_default-own.keys2)

@@ -7,8 +7,6 @@ use mathlib.Core.Bool.{true, false}
 use mathlib.Core.List.{List, [], ◌∷◌}
 use lib.ListN.{length}
 use lib.Dec.{leb, eqb}
-use types.Run.{OneOf, miss}
-use denote.Enum.Declared.{tag_of}
 use Rattle.checks.proofs.Laws.{and_right, check_holds, check_fails}
 use Rattle.checks.specs.Checks.{check, if_ok}
 use Rattle.octets.specs.Buffer.{over}
@@ -26,7 +24,7 @@ use Rattle.codec.specs.Writing.{rows_allowed, writable, write_answer, write_octe
 -- ---- kinds other than an Update
 
 abbrev pub OtherKind : Message → Type 0
-OtherKind m = OneOf (0 ∷ 1 ∷ 2 ∷ 3 ∷ 4 ∷ 5 ∷ 6 ∷ 7 ∷ 9 ∷ []) (tag_of the_type m)
+OtherKind m = (a q s n : ℕ) → m ≡ Update a q s n → ⊥
 
 pub other_rows : (m : Message) (numbers : List ℕ) → OtherKind m → rows_allowed m numbers ≡ eqb (length numbers) 0
 unfolding rows_allowed
@@ -38,7 +36,7 @@ other_rows (CeaseAck a q s) rows o = refl
 other_rows (Hello a q s) rows o = refl
 other_rows (IHeardYou a q s) rows o = refl
 other_rows (Poll a q s n) rows o = refl
-other_rows (Update a q s n) rows o = absurd (miss (0 ∷ 1 ∷ 2 ∷ 3 ∷ 4 ∷ 5 ∷ 6 ∷ 7 ∷ 9 ∷ []) 8 tt o)
+other_rows (Update a q s n) rows o = absurd (o a q s n refl)
 other_rows (Error a q s r x y z) rows o = refl
 
 pub allowed_fits : (m : Message) (numbers : List ℕ) → rows_allowed m numbers ≡ true → rows_fit m numbers ≡ true

@@ -7,8 +7,6 @@ use mathlib.Core.Bool.{Bool, true, false, cond}
 use mathlib.Core.List.{List, [], ◌∷◌}
 use lib.ListN.{length}
 use lib.Dec.{leb}
-use types.Run.{OneOf, miss}
-use denote.Enum.Declared.{tag_of}
 use Rattle.nets.specs.Rows.{flat}
 use Rattle.message.specs.declared.Message.{Message}
 use Rattle.message.specs.declared.Message.TheVariants.{Request, Confirm, Refuse, Cease, CeaseAck, Hello, IHeardYou, Poll, Update, Error}
@@ -64,19 +62,19 @@ unfolding update_reading
 update_read m net o count part a e = rw (a.is, e, a.number)
 
 -- where the walk found no rows that may be taken
-pub update_refused : (m : Message) (net : ℕ) (o : List ℕ) (w : Walked) → w ≡ walked_of (update_of 128 net o) → OneOf (1 ∷ 2 ∷ []) (tag_of WalkedType.the_type w)
+pub update_refused : (m : Message) (net : ℕ) (o : List ℕ) (w : Walked) → w ≡ walked_of (update_of 128 net o) → ((a : ℕ) → w ≡ Rows a → ⊥)
     → refusal (walked_number w) ≡ update_reading m (update_of most_read net o)
 unfolding update_reading Body.update_number
 update_refused m net o w e k = go (update_of 128 net o) w e k
   where
-    go : (u : UpdateRead) (w : Walked) → w ≡ walked_of u → OneOf (1 ∷ 2 ∷ []) (tag_of WalkedType.the_type w) → refusal (walked_number w) ≡ update_reading m u
-    go (accepted rs) (Rows n) e k = absurd (miss (1 ∷ 2 ∷ []) 0 tt k)
+    go : (u : UpdateRead) (w : Walked) → w ≡ walked_of u → ((a : ℕ) → w ≡ Rows a → ⊥) → refusal (walked_number w) ≡ update_reading m u
+    go (accepted rs) (Rows n) e k = absurd (k n refl)
     go (accepted rs) (Broken n) e k = let z : ◌≡◌ {A = ℕ} 0 1 = cc in absurd (omega arith)
     go (accepted rs) TooMany e k = let z : ◌≡◌ {A = ℕ} 0 1 = cc in absurd (omega arith)
-    go (broken_at n) (Rows m) e k = absurd (miss (1 ∷ 2 ∷ []) 0 tt k)
+    go (broken_at n) (Rows m) e k = absurd (k m refl)
     go (broken_at n) (Broken m) e k = refl
     go (broken_at n) TooMany e k = let z : ◌≡◌ {A = ℕ} 0 1 = cc in absurd (omega arith)
-    go too_many (Rows m) e k = absurd (miss (1 ∷ 2 ∷ []) 0 tt k)
+    go too_many (Rows m) e k = absurd (k m refl)
     go too_many (Broken m) e k = let z : ◌≡◌ {A = ℕ} 0 1 = cc in absurd (omega arith)
     go too_many TooMany e k = refl
 
@@ -91,12 +89,12 @@ rowless_read net o (CeaseAck a q s) k = refl
 rowless_read net o (Hello a q s) k = refl
 rowless_read net o (IHeardYou a q s) k = refl
 rowless_read net o (Poll a q s n) k = refl
-rowless_read net o (Update a q s n) k = absurd (miss (0 ∷ 1 ∷ 2 ∷ 3 ∷ 4 ∷ 5 ∷ 6 ∷ 7 ∷ 9 ∷ []) 8 tt k)
+rowless_read net o (Update a q s n) k = absurd (k a q s n refl)
 rowless_read net o (Error a q s r x y z) k = refl
 
-kind_bad : (net : ℕ) (o : List ℕ) (d : Decoded) → OneOf (1 ∷ 2 ∷ 3 ∷ []) (tag_of DecodedType.the_type d) → refusal (Wire.decoded_number d) ≡ kind_reading net o d
+kind_bad : (net : ℕ) (o : List ℕ) (d : Decoded) → ((a : Message) → d ≡ D.Good a → ⊥) → refusal (Wire.decoded_number d) ≡ kind_reading net o d
 unfolding kind_reading
-kind_bad net o (D.Good m) k = absurd (miss (1 ∷ 2 ∷ 3 ∷ []) 0 tt k)
+kind_bad net o (D.Good m) k = absurd (k m refl)
 kind_bad net o D.UnknownKind k = refl
 kind_bad net o D.BadStatus k = refl
 kind_bad net o D.BadLength k = refl
@@ -108,7 +106,7 @@ module _ (net : ℕ) (o : List ℕ) (h : ℕ) (e : h ≡ header_answer o) where
   read_header_bad n = rw (← e, ne_eqb h 0 n)
 
   module _ (z : h ≡ 0) (d : Decoded) (f : d ≡ decode_of o) where
-    pub read_kind_bad : OneOf (1 ∷ 2 ∷ 3 ∷ []) (tag_of DecodedType.the_type d) → refusal (Wire.decoded_number d) ≡ read_of net o
+    pub read_kind_bad : ((a : Message) → d ≡ D.Good a → ⊥) → refusal (Wire.decoded_number d) ≡ read_of net o
     unfolding read_of
     read_kind_bad k = rw (← e, eq-eqb h 0 z, ← f) (kind_bad net o d k)
 

@@ -9,4 +9,4 @@ returns-in-Update c = rw c.in-Update.is (rw c.in-Update.is at c.read_update.ensu
 
 pub returns : goal.returns
 unfolding rowless zeros
-returns c = rowless_read _ _ _ c.in_default.in_default-own.keys2
+returns c = rowless_read _ _ _ c.in_default.not-Update

@@ -5,7 +5,7 @@ use native.Mathlib.Omega.{arith}
 use Rattle.codec.proofs.read_update.Goals as goal
 
 pub returns-in_default : goal.returns-in_default
-returns-in_default c = c.refuse.ensures ∙ ap refusal c.update_number.ensures ∙ update_refused _ _ _ _ c.walk-walked.ensures c.in_default.in_default-own.keys2
+returns-in_default c = c.refuse.ensures ∙ ap refusal c.update_number.ensures ∙ update_refused _ _ _ _ c.walk-walked.ensures c.in_default.not-Rows
 
 pub store_rows-requires : goal.store_rows-requires
 store_rows-requires c = accepted_room (rows_accepted _ _ _ (sym c.walk-walked.ensures ∙ c.in-Rows.is)) _ refl

@@ -13,4 +13,4 @@ unfolding rows_allowed rows_fit
 returns-in-Update c = rw (c.in-Update.is, ← c.good_net.ensures, c.if-good_net.false)
 
 pub returns : goal.returns
-returns c = sym (other_rows _ _ c.in_default.in_default-own.keys2)
+returns c = sym (other_rows _ _ c.in_default.not-Update)

@@ -134,3 +134,7 @@ returns-then-starts_with-6-clause-line_value_2 c = c.rx_event.ensures.line_value
 pub returns-clause-line_value : goal.returns-clause-line_value
 unfolding text meant stands_on
 returns-clause-line_value c = sym (not_tick c.args.line.now (sym c.starts_with.ensures ∙ c.if-starts_with.false) (sym c.starts_with-2.ensures ∙ c.if-starts_with-2.false) (sym c.starts_with-3.ensures ∙ c.if-starts_with-3.false) (sym c.starts_with-4.ensures ∙ c.if-starts_with-4.false) (sym c.starts_with-5.ensures ∙ c.if-starts_with-5.false) ∙ without_key (text "rx=") (slashed rx_event) bad c.args.line.now (sym c.starts_with-6.ensures ∙ c.if-starts_with-6.false))
+
+pub returns-clause-line_value_2 : goal.returns-clause-line_value_2
+unfolding stands_on
+returns-clause-line_value_2 c = refl

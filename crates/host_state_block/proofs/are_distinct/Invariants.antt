@@ -1,0 +1,16 @@
+use native.Mathlib.Omega.{arith}
+use mathlib.Core.Path.{◌≡◌, refl, sym, ◌∙◌}
+use borrow.Author.Tests.{not-true, not-false}
+use Prim.Native.Nat.{◌-◌, ◌≤◌}
+use lib.ListN.{length, drop}
+use Rattle.checks.specs.Lists.{distinct}
+use Rattle.gateway_state.specs.Slots.{apart}
+use Rattle.gateway_state.proofs.ListLaws.{distinct_here, distinct_next, distinct_end}
+use borrow.Author.Rules.{rules}
+use Rattle.host_state_block.proofs.are_distinct.Given as goal
+
+abbrev pub invariant-loop-i : goal.invariant-loop-i
+invariant-loop-i l = (l.i ≤ 8) × (distinct apart l.addresses ≡ distinct apart (drop l.i l.addresses))
+
+abbrev pub decreases-loop-i : goal.decreases-loop-i
+decreases-loop-i l = 8 - l.i

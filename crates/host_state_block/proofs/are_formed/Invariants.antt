@@ -1,0 +1,12 @@
+use native.Mathlib.Omega.{arith}
+use mathlib.Core.Path.{sym, ◌∙◌}
+use Prim.Native.Nat.{◌≤◌}
+use borrow.Author.Tests.{not-true, not-false}
+use Rattle.host_state_block.proofs.Checked.{Walked, walk_start, walk_room, walk_part, walk_ill, walk_next, walk_end}
+use Rattle.host_state_block.proofs.are_formed.Given as goal
+
+abbrev pub invariant-loop-left : goal.invariant-loop-left
+invariant-loop-left l = (l.left ≤ 8) × Walked l.settings l.slots l.count l.rest l.left
+
+abbrev pub decreases-loop-left : goal.decreases-loop-left
+decreases-loop-left l = l.left

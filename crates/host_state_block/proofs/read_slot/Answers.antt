@@ -1,0 +1,14 @@
+use Rattle.host_state_block.specs.Layout.{numbers_at}
+use Rattle.host_state_block.specs.Block.{slot_of, slot_in}
+use Rattle.host_state_block.proofs.read_slot.Goals as goal
+
+pub returns : goal.returns
+unfolding slot_in slot_of numbers_at
+returns c = λ i.
+    record {
+      address = c.quad.ensures i;
+      asn = c.pair.ensures i;
+      neighbour = c.read_neighbour.ensures i;
+      rows = c.pair-2.ensures i;
+      seconds = c.read_seconds.ensures i;
+    }

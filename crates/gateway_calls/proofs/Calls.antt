@@ -4,14 +4,13 @@ use mathlib.Core.Path.{◌≡◌, refl, sym, ◌∙◌, ap}
 use mathlib.Core.Bool.{true}
 use mathlib.Core.List.{List, [], ◌∷◌}
 use lib.ListN.{length}
-use types.Run.{OneOf}
-use denote.Enum.Declared.{tag_of}
 use Rattle.checks.proofs.Laws.{if_ok_new, if_ok_old}
 use Rattle.octets.specs.Buffer.{over}
 use Rattle.nets.specs.Rows.{Row, rows_of}
 use Rattle.message_reading.specs.Reading.{decode_of}
 use Rattle.message_reading.specs.Reading as Wire
-use Rattle.message_reading.specs.contracts.Decoded as DecodedType
+use Rattle.message.specs.declared.Message.{Message}
+use Rattle.message_reading.specs.declared.Decoded.TheVariants as D
 use Rattle.update_walk.specs.Body.{walked_blocks}
 use Rattle.update_rows.specs.Storing.{walked_rows}
 use Rattle.neighbour.specs.declared.Phase.TheVariants.{Up}
@@ -195,7 +194,7 @@ module _ (st : State) (table buffer home : List ℕ) (a : ℕ) (o : List ℕ) (k
       pub head_is : (head : ℕ) → head ≡ head_number slot.asn o → (head ≡ 0 → ⊥) → message_number 128 st.settings slot.asn slot.neighbour o ≡ head
       head_is head h x = head_number_lem 128 st.settings slot.asn slot.neighbour o (λ q. x (h ∙ q)) ∙ sym h
 
-      pub kind_is : head_number slot.asn o ≡ 0 → (number : ℕ) → number ≡ Wire.decoded_number (decode_of o) → OneOf (1 ∷ 2 ∷ 3 ∷ []) (tag_of DecodedType.the_type (decode_of o))
+      pub kind_is : head_number slot.asn o ≡ 0 → (number : ℕ) → number ≡ Wire.decoded_number (decode_of o) → ((a : Message) → (decode_of o) ≡ D.Good a → ⊥)
           → (number ≡ 0 → ⊥) × (message_number 128 st.settings slot.asn slot.neighbour o ≡ number)
       kind_is h number f t =
           let q = kind_number_lem 128 st.settings slot.asn slot.neighbour o h t in (λ y. q.1 (sym f ∙ y), q.0 ∙ sym f)

@@ -7,8 +7,6 @@ use mathlib.Core.Bool.{Bool, true, false, cond, not, ◌&&◌, false≢true}
 use mathlib.Core.List.{List, [], ◌∷◌}
 use lib.Dec.{eqb}
 use lib.ListN.{length}
-use types.Run.{OneOf, miss}
-use denote.Enum.Declared.{tag_of}
 use Rattle.checks.specs.Checks.{check, if_ok}
 use Rattle.checks.proofs.Laws.{check_passed, if_ok_new, if_ok_old}
 use Rattle.nets.specs.Rows.{Row}
@@ -68,16 +66,16 @@ module _ (room : ℕ) (g : Settings) (asn : ℕ) (n : Neighbour) (o : List ℕ) 
       go true e false f y = rw (e, f) (number_asn room g n o asn (eqb-true (header_answer o) 0 e) f)
       go false e c f y = rw e (number_header room g n o asn y)
 
-  pub kind_number_lem : head_number asn o ≡ 0 → OneOf (1 ∷ 2 ∷ 3 ∷ []) (tag_of DecodedType.the_type (decode_of o))
+  pub kind_number_lem : head_number asn o ≡ 0 → ((a : Message) → (decode_of o) ≡ D.Good a → ⊥)
       → (message_number room g asn n o ≡ Wire.decoded_number (decode_of o)) × (Wire.decoded_number (decode_of o) ≡ 0 → ⊥)
   unfolding kind_number Wire.decoded_number
   kind_number_lem h t =
       let p = head_passed asn o h in
       go (decode_of o) (number_kind room g n o asn p.0 p.1) t
     where
-      go : (d : Decoded) → message_number room g asn n o ≡ kind_number room g n o d → OneOf (1 ∷ 2 ∷ 3 ∷ []) (tag_of DecodedType.the_type d)
+      go : (d : Decoded) → message_number room g asn n o ≡ kind_number room g n o d → ((a : Message) → d ≡ D.Good a → ⊥)
           → (message_number room g asn n o ≡ Wire.decoded_number d) × (Wire.decoded_number d ≡ 0 → ⊥)
-      go (D.Good m) f k = absurd (miss (1 ∷ 2 ∷ 3 ∷ []) 0 tt k)
+      go (D.Good m) f k = absurd (k m refl)
       go D.UnknownKind f k = (f, λ z. absurd (omega (arith, z)))
       go D.BadStatus f k = (f, λ z. absurd (omega (arith, z)))
       go D.BadLength f k = (f, λ z. absurd (omega (arith, z)))
@@ -102,10 +100,10 @@ module _ (g : Settings) (n : Neighbour) (o : List ℕ) (after : After) (room : �
   rows_taken count e =
       let r = rows_read_lem room g.net o count e in rw r.1 (rw r.2 refl)
 
-  pub refused_taken : (u : UpdateRead) → OneOf (1 ∷ 2 ∷ []) (tag_of WalkedType.the_type (walked_of u))
+  pub refused_taken : (u : UpdateRead) → ((a : ℕ) → (walked_of u) ≡ Rows a → ⊥)
       → verdict_of (refuses n (walked_number (walked_of u)) (named_reply g n o (walked_number (walked_of u)))) ≡ verdict_of (taken_update g n o after u)
   unfolding taken_update Body.update_number
-  refused_taken (accepted rows) k = absurd (miss (1 ∷ 2 ∷ []) 0 tt k)
+  refused_taken (accepted rows) k = absurd (k _ refl)
   refused_taken (broken_at offset) k = refl
   refused_taken too_many k = refl
 
@@ -123,7 +121,7 @@ other_kind (CeaseAck a q s) b k = refl
 other_kind (Hello a q s) b k = refl
 other_kind (IHeardYou a q s) b k = refl
 other_kind (Poll a q s net) b k = refl
-other_kind (Update a q s net) b k = absurd (miss (0 ∷ 1 ∷ 2 ∷ 3 ∷ 4 ∷ 5 ∷ 6 ∷ 7 ∷ 9 ∷ []) 8 tt k)
+other_kind (Update a q s net) b k = absurd (k a q s net refl)
 other_kind (Error a q s r x y z) b k = refl
 
 pub update_kind : (m : Message) (b : Bool) (a q s net : ℕ) → m ≡ Update a q s net → b ≡ (same (kind_of m) K.Update && b)

@@ -4,8 +4,6 @@ use borrow.Author.Tests.{eq-eqb}
 use mathlib.Core.Path.{◌≡◌, refl, sym, ◌∙◌, ap}
 use mathlib.Core.Bool.{Bool, true, false, cond, not, ◌&&◌, false≢true}
 use mathlib.Core.List.{List, [], ◌∷◌}
-use types.Run.{OneOf, miss}
-use denote.Enum.Declared.{tag_of}
 use Rattle.message.specs.Kinds.{kind_of, sequence_of, status_of}
 use Rattle.message.specs.declared.Kind.TheVariants as K
 use Rattle.message.specs.declared.Message.{Message}
@@ -66,14 +64,14 @@ module _ (g : Settings) (n : Neighbour) where
   unfolding says
   hello_says m a q s e = rw e
 
-  pub other_says : (m : Message) → OneOf (0 ∷ 1 ∷ 2 ∷ 3 ∷ 4 ∷ 6 ∷ 7 ∷ 8 ∷ 9 ∷ []) (tag_of the_type m) → Nothing ≡ says g n m
+  pub other_says : (m : Message) → ((a : ℕ) (b : ℕ) (c : ℕ) → m ≡ Hello a b c → ⊥) → Nothing ≡ says g n m
   unfolding says
   other_says (Request a q s hello poll) k = refl
   other_says (Confirm a q s hello poll) k = refl
   other_says (Refuse a q s) k = refl
   other_says (Cease a q s) k = refl
   other_says (CeaseAck a q s) k = refl
-  other_says (Hello a q s) k = absurd (miss (0 ∷ 1 ∷ 2 ∷ 3 ∷ 4 ∷ 6 ∷ 7 ∷ 8 ∷ 9 ∷ []) 5 tt k)
+  other_says (Hello a q s) k = absurd (k a q s refl)
   other_says (IHeardYou a q s) k = refl
   other_says (Poll a q s net) k = refl
   other_says (Update a q s net) k = refl

@@ -8,8 +8,6 @@ use mathlib.Core.List.{List, [], ◌∷◌}
 use lib.Dec.{ltb}
 use lib.ListN.{length}
 use lib.Seq.{sets}
-use types.Run.{OneOf}
-use denote.Enum.Declared.{tag_of}
 use Rattle.checks.specs.Checks.{check, if_ok}
 use Rattle.checks.proofs.Laws.{check_holds, check_fails, if_ok_new}
 use Rattle.octets.specs.Numbers.{Octets}
@@ -19,7 +17,8 @@ use Rattle.update_walk.specs.Body.{walked_blocks}
 use Rattle.update_rows.specs.Storing.{walked_rows}
 use Rattle.message_reading.specs.Reading.{decode_of}
 use Rattle.message_reading.specs.Reading as Wire
-use Rattle.message_reading.specs.contracts.Decoded as DecodedType
+use Rattle.message.specs.declared.Message.{Message}
+use Rattle.message_reading.specs.declared.Decoded.TheVariants as D
 use Rattle.neighbour.specs.declared.Settings.{Settings}
 use Rattle.neighbour.specs.declared.Neighbour.{Neighbour}
 use Rattle.neighbour_machine.specs.declared.After.{After}
@@ -61,7 +60,7 @@ module _ (g : Settings) (asn : ℕ) (n : Neighbour) (m : List ℕ) where
   pub number_head : (head : ℕ) → head ≡ head_number asn m → (head ≡ 0 → ⊥) → message_number 128 g asn n m ≡ head
   number_head head h x = head_number_lem 128 g asn n m (λ q. x (h ∙ q)) ∙ sym h
 
-  pub number_kind : head_number asn m ≡ 0 → (number : ℕ) → number ≡ Wire.decoded_number (decode_of m) → OneOf (1 ∷ 2 ∷ 3 ∷ []) (tag_of DecodedType.the_type (decode_of m))
+  pub number_kind : head_number asn m ≡ 0 → (number : ℕ) → number ≡ Wire.decoded_number (decode_of m) → ((a : Message) → (decode_of m) ≡ D.Good a → ⊥)
       → (number ≡ 0 → ⊥) × (message_number 128 g asn n m ≡ number)
   number_kind h number f t = let q = kind_number_lem 128 g asn n m h t in (λ y. q.1 (sym f ∙ y), q.0 ∙ sym f)
 

@@ -5,8 +5,6 @@ use mathlib.Core.Path.{◌≡◌, refl, sym, ◌∙◌, ap, ap₂}
 use mathlib.Core.Bool.{true, false, ◌&&◌, false≢true}
 use mathlib.Core.List.{List, [], ◌∷◌, ◌++◌, append-nil}
 use lib.ListN.{length}
-use types.Run.{OneOf, miss}
-use denote.Enum.Declared.{tag_of}
 use borrow.Author.Tests.{leb-true}
 use Rattle.checks.proofs.Laws.{and_left, and_right}
 use Rattle.octets.specs.Buffer.{over}
@@ -30,7 +28,7 @@ use Rattle.host_result.specs.Packed.{packed}
 -- ---- a message that is no Update has no rows
 
 abbrev Other : Message → Type 0
-Other m = OneOf (0 ∷ 1 ∷ 2 ∷ 3 ∷ 4 ∷ 5 ∷ 6 ∷ 7 ∷ 9 ∷ []) (tag_of MessageType.the_type m)
+Other m = ((a : ℕ) (b : ℕ) (c : ℕ) (d : ℕ) → m ≡ Update a b c d → ⊥)
 
 octets_other : (m : Message) → Other m → (rows : List Row) → message_octets m rows ≡ message_octets m []
 unfolding message_octets plain_octets
@@ -42,7 +40,7 @@ octets_other (CeaseAck a q s) h rows = refl
 octets_other (Hello a q s) h rows = refl
 octets_other (IHeardYou a q s) h rows = refl
 octets_other (Poll a q s net) h rows = refl
-octets_other (Update a q s net) h rows = absurd (miss (0 ∷ 1 ∷ 2 ∷ 3 ∷ 4 ∷ 5 ∷ 6 ∷ 7 ∷ 9 ∷ []) 8 tt h)
+octets_other (Update a q s net) h rows = absurd (h a q s net refl)
 octets_other (Error a q s reason x y z) h rows = refl
 
 brief_other : (m : Message) → brief m ≡ true → (rows : List Row) → message_octets m rows ≡ message_octets m []
@@ -68,7 +66,7 @@ fits_other (CeaseAck a q s) h home = refl
 fits_other (Hello a q s) h home = refl
 fits_other (IHeardYou a q s) h home = refl
 fits_other (Poll a q s net) h home = refl
-fits_other (Update a q s net) h home = absurd (miss (0 ∷ 1 ∷ 2 ∷ 3 ∷ 4 ∷ 5 ∷ 6 ∷ 7 ∷ 9 ∷ []) 8 tt h)
+fits_other (Update a q s net) h home = absurd (h a q s net refl)
 fits_other (Error a q s reason x y z) h home = refl
 
 -- ---- a reply that is no lone Update is sent as with an empty home list
@@ -78,10 +76,10 @@ pub record Rowless (reply : Reply) (home : List ℕ) : Type 0 where
   pub first : first_octets reply (rows_of home) ≡ first_octets reply (rows_of [])
   pub second : second_octets reply (rows_of home) ≡ second_octets reply (rows_of [])
 
-pub two_rowless : (reply : Reply) (home : List ℕ) → OneOf (0 ∷ 2 ∷ []) (tag_of ReplyType.the_type reply) → sendable reply home ≡ true → Rowless reply home
+pub two_rowless : (reply : Reply) (home : List ℕ) → ((a : Message) → reply ≡ One a → ⊥) → sendable reply home ≡ true → Rowless reply home
 unfolding sendable first_octets second_octets rows_of
 two_rowless Nothing home t s = record { asked = refl; first = refl; second = refl }
-two_rowless (One m) home t s = absurd (miss (0 ∷ 2 ∷ []) 1 tt t)
+two_rowless (One m) home t s = absurd (t m refl)
 two_rowless (Two m next) home t s =
     record {
       asked = s;

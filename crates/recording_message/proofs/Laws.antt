@@ -8,8 +8,6 @@ use mathlib.Core.List.{List, [], ◌∷◌, ◌++◌, append_assoc, append-nil}
 use lib.Dec.{ltb}
 use lib.ListN.{length, take, drop, get_or, length-drop, drop_of_length-le}
 use lib.Seq.{drop-cons, length-take-le}
-use types.Run.{OneOf, miss}
-use denote.Enum.Declared.{tag_of}
 use Rattle.checks.specs.Lists.{join}
 use Rattle.checks.proofs.Laws.{cond_elim}
 use Rattle.octets.specs.Written.{Written}
@@ -107,18 +105,18 @@ module _ {keys values : List ℕ} {at : ℕ} {old rest : List ℕ} {i o : ℕ} {
 pub nothing : (at : ℕ) (out : List ℕ) → Written [] at out out at
 nothing at out = record { list = refl; after = omega arith }
 
-pub no_fields : (m : Message) (at : ℕ) (out : List ℕ) → OneOf (2 ∷ 3 ∷ 4 ∷ 5 ∷ 6 ∷ []) (tag_of MessageType.the_type m) → Written (own_fields m) at out out at
+pub no_fields : (m : Message) (at : ℕ) (out : List ℕ) → (((a : ℕ) (b : ℕ) (c : ℕ) (d : ℕ) (e : ℕ) → m ≡ M.Request a b c d e → ⊥) × ((a : ℕ) (b : ℕ) (c : ℕ) (d : ℕ) (e : ℕ) → m ≡ M.Confirm a b c d e → ⊥) × ((a : ℕ) (b : ℕ) (c : ℕ) (d : ℕ) → m ≡ M.Poll a b c d → ⊥) × ((a : ℕ) (b : ℕ) (c : ℕ) (d : ℕ) → m ≡ M.Update a b c d → ⊥) × ((a : ℕ) (b : ℕ) (c : ℕ) (d : ℕ) (e : ℕ) (f : ℕ) (g : ℕ) → m ≡ M.Error a b c d e f g → ⊥)) → Written (own_fields m) at out out at
 unfolding own_fields
-no_fields (M.Request a q s hello poll) at out h = absurd (miss (2 ∷ 3 ∷ 4 ∷ 5 ∷ 6 ∷ []) 0 tt h)
-no_fields (M.Confirm a q s hello poll) at out h = absurd (miss (2 ∷ 3 ∷ 4 ∷ 5 ∷ 6 ∷ []) 1 tt h)
+no_fields (M.Request a q s hello poll) at out h = absurd (h.0 a q s hello poll refl)
+no_fields (M.Confirm a q s hello poll) at out h = absurd (h.1 a q s hello poll refl)
 no_fields (M.Refuse a q s) at out h = nothing at out
 no_fields (M.Cease a q s) at out h = nothing at out
 no_fields (M.CeaseAck a q s) at out h = nothing at out
 no_fields (M.Hello a q s) at out h = nothing at out
 no_fields (M.IHeardYou a q s) at out h = nothing at out
-no_fields (M.Poll a q s net) at out h = absurd (miss (2 ∷ 3 ∷ 4 ∷ 5 ∷ 6 ∷ []) 7 tt h)
-no_fields (M.Update a q s net) at out h = absurd (miss (2 ∷ 3 ∷ 4 ∷ 5 ∷ 6 ∷ []) 8 tt h)
-no_fields (M.Error a q s reason x y z) at out h = absurd (miss (2 ∷ 3 ∷ 4 ∷ 5 ∷ 6 ∷ []) 9 tt h)
+no_fields (M.Poll a q s net) at out h = absurd (h.2 a q s net refl)
+no_fields (M.Update a q s net) at out h = absurd (h.3 a q s net refl)
+no_fields (M.Error a q s reason x y z) at out h = absurd (h.4 a q s reason x y z refl)
 
 -- ---- row by row
 

@@ -8,8 +8,6 @@ use lib.Dec.{leb, ltb, eqb}
 use lib.ListN.{length, take, drop}
 use lib.Seq.{take-append_seam}
 use borrow.Author.Tests.{lt-ltb, le-ltb, le-leb, lt-leb, leb-true, eq-eqb, ne_eqb}
-use types.Run.{OneOf, miss}
-use denote.Enum.Declared.{tag_of}
 use Rattle.checks.specs.Checks.{check, if_ok}
 use Rattle.checks.proofs.Laws.{and_left, and_right, cond_elim}
 use Rattle.octets.specs.Buffer.{over}
@@ -394,15 +392,15 @@ module _ (traced room : Bool) (st : State) (numbers : ℕ) (read : Read) (line :
   asks_rx a at e = rw e
 
 -- a call with replies
-pub asks_call : (traced room : Bool) (st : State) (numbers : ℕ) (read : Read) (line : List ℕ) → OneOf (3 ∷ 4 ∷ 6 ∷ []) (tag_of the_type read)
+pub asks_call : (traced room : Bool) (st : State) (numbers : ℕ) (read : Read) (line : List ℕ) → ((read ≡ R.Bad → ⊥) × ((a : ℕ) (b : ℕ) → read ≡ R.Add a b → ⊥) × ((a : ℕ) → read ≡ R.Remove a → ⊥) × ((a : ℕ) (b : ℕ) → read ≡ R.Tick a b → ⊥))
     → event_checked traced room st numbers (meant read line) ≡ call_checks room st numbers
 unfolding meant event_checked
-asks_call traced room st numbers R.Bad line h = absurd (miss (3 ∷ 4 ∷ 6 ∷ []) 0 tt h)
-asks_call traced room st numbers (R.Add a asn) line h = absurd (miss (3 ∷ 4 ∷ 6 ∷ []) 1 tt h)
-asks_call traced room st numbers (R.Remove a) line h = absurd (miss (3 ∷ 4 ∷ 6 ∷ []) 2 tt h)
+asks_call traced room st numbers R.Bad line h = absurd (h.0 refl)
+asks_call traced room st numbers (R.Add a asn) line h = absurd (h.1 a asn refl)
+asks_call traced room st numbers (R.Remove a) line h = absurd (h.2 a refl)
 asks_call traced room st numbers (R.Start a) line h = refl
 asks_call traced room st numbers (R.Stop a) line h = refl
-asks_call traced room st numbers (R.Tick a count) line h = absurd (miss (3 ∷ 4 ∷ 6 ∷ []) 5 tt h)
+asks_call traced room st numbers (R.Tick a count) line h = absurd (h.3 a count refl)
 asks_call traced room st numbers (R.Receive a at) line h = refl
 
 -- ---- calls

@@ -8,8 +8,6 @@ use mathlib.Core.Path.{◌≡◌, refl, ap, ◌∙◌}
 use mathlib.Core.List.{List, [], ◌∷◌}
 use lib.ListN.{length, take, drop, length-drop}
 use lib.Seq.{sets-eq, length-take-le}
-use types.Run.{OneOf, miss}
-use denote.Enum.Declared.{tag_of}
 use Rattle.octets.specs.Buffer.{over}
 use Rattle.octets.specs.Written.{Written}
 use Rattle.octets.proofs.Storing.{written_append}
@@ -30,18 +28,18 @@ use Rattle.recording_message.proofs.Laws.{nothing}
 
 -- ---- events
 
-pub other_tick : (d : Deed) → OneOf (0 ∷ 1 ∷ 2 ∷ 3 ∷ 5 ∷ []) (tag_of the_type d) → false ≡ is_tick d
+pub other_tick : (d : Deed) → (d ≡ Tick → ⊥) → false ≡ is_tick d
 unfolding is_tick
 other_tick Add h = refl
 other_tick Remove h = refl
 other_tick Start h = refl
 other_tick Stop h = refl
-other_tick Tick h = absurd (miss (0 ∷ 1 ∷ 2 ∷ 3 ∷ 5 ∷ []) 4 tt h)
+other_tick Tick h = absurd (h refl)
 other_tick Receive h = refl
 
 -- ---- a text of which a part is written
 
-pub not_received : (d : Deed) (net : ℕ) (o : List ℕ) (at : ℕ) (out : List ℕ) → OneOf (0 ∷ 1 ∷ 2 ∷ 3 ∷ 4 ∷ []) (tag_of the_type d)
+pub not_received : (d : Deed) (net : ℕ) (o : List ℕ) (at : ℕ) (out : List ℕ) → (d ≡ Receive → ⊥)
     → Written (received_text d net o) at out out at
 unfolding received_text
 not_received Add net o at out h = nothing at out
@@ -49,7 +47,7 @@ not_received Remove net o at out h = nothing at out
 not_received Start net o at out h = nothing at out
 not_received Stop net o at out h = nothing at out
 not_received Tick net o at out h = nothing at out
-not_received Receive net o at out h = absurd (miss (0 ∷ 1 ∷ 2 ∷ 3 ∷ 4 ∷ []) 5 tt h)
+not_received Receive net o at out h = absurd (h refl)
 
 module _ (net : ℕ) where
   pub not_sent : (o : List ℕ) → length o ≡ 0 → (at : ℕ) (out : List ℕ) → Written (sent_text net o) at out out at

@@ -1,0 +1,25 @@
+-- `listing::neighbours` meets its contract. The loop keeps: the used slots counted and those left are all. Assumes nothing.
+use Rattle.listing.proofs.Laws.{left, count_free, count_used, count_end}
+use Rattle.listing_lines.specs.Listing.{entries}
+use Rattle.gateway_state.proofs.ListLaws.{unmapped}
+use Rattle.gateway_state.specs.Slots.{free_slot, slot_at}
+use Rattle.neighbour.specs.Record.{idle}
+use lib.ListN.{length}
+use mathlib.Core.List.{List}
+use mathlib.Core.Logic.{⊎_elim}
+use mathlib.Core.Path.{◌≡◌}
+use Prim.Native.Nat.{ℕ, ◌+◌, ◌-◌, ◌≤◌}
+use native.Mathlib.Omega.{arith}
+use borrow.Author.Rules.{rules}
+use Rattle.listing.proofs.neighbours.Goals as goal
+
+pub loop-i-init : goal.loop-i-init
+loop-i-init c = (omega arith, omega arith, λ table. omega arith)
+
+pub loop-i-preserved : goal.loop-i-preserved
+unfolding slot_at free_slot idle
+loop-i-preserved c = let eight : length c.args.st.slots ≡ 8 = search (rules, unmapped) in ⊎_elim (λ w. let e : c.if-slot-ne0.count ≡ c.loop-i.count + 1 = w.1 in (omega arith, omega arith, λ table. omega (arith, c.loop-i.invariant.2 table, count_used c.args.st table c.loop-i.i (omega arith) w.0.taken))) (λ w. let e : c.if-slot-ne0.count ≡ c.loop-i.count = w.1 in (omega arith, omega arith, λ table. omega (arith, c.loop-i.invariant.2 table, count_free c.args.st table c.loop-i.i (omega arith) w.0.left))) c.if-slot-ne0.branch
+
+pub returns : goal.returns
+unfolding entries left
+returns c = let eight : length c.args.st.slots ≡ 8 = search (rules, unmapped) in λ table. omega (arith, c.loop-i.invariant.2 table, count_end c.args.st table c.loop-i.i (omega arith))

@@ -1,0 +1,13 @@
+-- `gateway_calls::start` meets its contract. Assumes nothing.
+use mathlib.Core.Path.{refl}
+use Rattle.neighbour_machine.specs.Intrinsics.{Start}
+use Rattle.gateway_calls.proofs.start.Goals as goal
+
+pub returns-clause-value : goal.returns-clause-value
+returns-clause-value c = c.happen.ensures.value Start refl
+
+pub returns-clause-table_after : goal.returns-clause-table_after
+returns-clause-table_after c = c.happen.ensures.table_after Start refl
+
+pub returns-clause-reply_after : goal.returns-clause-reply_after
+returns-clause-reply_after c = c.happen.ensures.reply_after Start refl

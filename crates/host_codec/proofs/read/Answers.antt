@@ -1,0 +1,32 @@
+use native.Mathlib.Omega.{arith}
+use mathlib.Core.Path.{sym, ap, ◌∙◌}
+use mathlib.Core.List.{List}
+use Prim.Native.Nat.{ℕ}
+use lib.Seq.{length-take-le}
+use Rattle.octets.specs.Buffer.{over}
+use Rattle.host_codec.proofs.ReadLaws.{count_few, count_fits, rows_room, meaning_length, over_behind, read_3, read_refused, read_good}
+use Rattle.host_codec.proofs.read.Goals as goal
+
+pub returns-then-buffer-lt1560 : goal.returns-then-buffer-lt1560
+returns-then-buffer-lt1560 c = let both = read_3 _ _ _ _ c.if-buffer-lt1560.true c.alone.ensures in record { value = both.0; buffer_after = both.1 }
+
+pub slice_bounds-rows-end : goal.slice_bounds-rows-end
+slice_bounds-rows-end c = count_fits _ _ _ c.read-reading.ensures
+
+pub slice_bounds-write_words-end-in-Good : goal.slice_bounds-write_words-end-in-Good
+slice_bounds-write_words-end-in-Good c = sym (length-take-le _ _ (count_fits _ _ _ c.read-reading.ensures))
+
+pub write_words-requires : goal.write_words-requires
+write_words-requires c = rows_room _ _ _ c.store-numbers.new.buffer c.read-reading.ensures (omega (arith, c.store-numbers.auto.buffer, c.if-buffer-lt1560.false))
+
+pub overflow_mul-reading : goal.overflow_mul-reading
+overflow_mul-reading c = let f = count_few _ _ _ c.read-reading.ensures in omega (arith, f)
+
+pub returns-in-Refused : goal.returns-in-Refused
+returns-in-Refused c = let both = read_refused _ _ _ _ c.read-reading.result _ c.if-buffer-lt1560.false c.read-reading.ensures c.in-Refused.is c.alone-in-Refused.ensures in record { value = both.0; buffer_after = both.1 }
+
+pub returns-in-Good : goal.returns-in-Good
+returns-in-Good c =
+    let a = c.args in
+    read_good a.net a.message.now a.buffer.now _ c.read-reading.result _ _ c.if-buffer-lt1560.false c.read-reading.ensures c.in-Good.is
+    (over_behind _ _ a.buffer.now _ _ (meaning_length _) (omega (arith, c.if-buffer-lt1560.false)) (c.store-numbers.ensures.buffer_after ∙ ap (λ (o : List ℕ). over o a.buffer.now) c.meaning_octets.ensures) c.write_words.ensures) c.pack.ensures

@@ -1,0 +1,35 @@
+-- `host_home::internal_octets` meets its contract. The loop keeps: the octets counted and those of the internal rows
+-- left are all of them. Assumes nothing.
+use Prim.Native.Nat.{◌+◌, ◌*◌, ◌≤◌}
+use native.Mathlib.Omega.{arith}
+use mathlib.Core.Logic.{⊎_elim}
+use mathlib.Core.Path.{◌≡◌}
+use lib.ListN.{length, length-drop}
+use Rattle.checks.proofs.Laws.{part_from_lem}
+use Rattle.update_writing.specs.Blocks.{side_rows}
+use Rattle.host_home.specs.Home.{rows_in}
+use Rattle.host_home.proofs.Loops.{internal_end, internal_more, internal_same}
+use Rattle.host_home.proofs.internal_octets.Goals as goal
+
+pub loop-rest-init : goal.loop-rest-init
+loop-rest-init c = (omega arith, omega arith)
+
+pub third_of-requires : goal.third_of-requires
+third_of-requires c = c.loop-rest-test.true
+
+pub loop-rest-smaller : goal.loop-rest-smaller
+loop-rest-smaller c = rw (part_from_lem 12 c.loop-rest.rest.now) (simp length-drop (omega arith))
+
+pub loop-rest-preserved : goal.loop-rest-preserved
+loop-rest-preserved c = rw (part_from_lem 12 c.loop-rest.rest.now)
+    (⊎_elim
+    (λ w.
+    let e : c.if-third_of-lt256.taken ≡ c.loop-rest.taken + 12 = w.1 in
+    (omega (arith, internal_more c.loop-rest.rest.now c.loop-rest-test.true (rw c.third_of.ensures at w.0.taken)), simp length-drop (omega arith)))
+    (λ w.
+    let e : c.if-third_of-lt256.taken ≡ c.loop-rest.taken = w.1 in
+    (omega (arith, internal_same c.loop-rest.rest.now c.loop-rest-test.true (rw c.third_of.ensures at w.0.left)), simp length-drop (omega arith)))
+    c.if-third_of-lt256.branch)
+
+pub returns : goal.returns
+returns c = omega (arith, internal_end c.loop-rest.rest.now c.loop-rest-test.false)

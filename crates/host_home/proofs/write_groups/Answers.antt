@@ -1,0 +1,47 @@
+-- `host_home::write_groups` meets its contract. The loop keeps what is left to write and to count, run by run. Assumes
+-- nothing.
+use native.Mathlib.Omega.{arith}
+use mathlib.Core.Path.{refl}
+use lib.ListN.{length}
+use Rattle.update_writing.specs.Blocks.{group_octets, groups_octets}
+use Rattle.host_home.proofs.Loops.{Filling, fill_start, fill_long, fill_most, fill_done, fill_count, taking, count_more, taken_in, taken_less, taken_asked, taken_turned}
+use Rattle.host_home.proofs.write_groups.Goals as goal
+
+pub loop-rest-init : goal.loop-rest-init
+unfolding groups_octets
+loop-rest-init c = fill_start (λ row. row.third) group_octets _ _ _ c.requires.rows_in_bounds
+
+pub write_group-group-requires-clause-in_bounds : goal.write_group-group-requires-clause-in_bounds
+write_group-group-requires-clause-in_bounds c = (c.loop-rest-test.true, omega (arith, c.loop-rest.invariant.within, c.requires.rows_len_bound))
+
+pub write_group-group-requires-clause-rows_in_bounds : goal.write_group-group-requires-clause-rows_in_bounds
+write_group-group-requires-clause-rows_in_bounds c = (taken_asked (taking c.loop-rest.invariant c.requires.rows_len_bound c.loop-rest-test.true refl)).1
+
+pub overflow_add-found : goal.overflow_add-found
+overflow_add-found c = omega (arith, count_more (taking c.loop-rest.invariant c.requires.rows_len_bound c.loop-rest-test.true c.write_group-group.ensures.taken_value))
+
+pub slice_bounds-rest-count : goal.slice_bounds-rest-count
+slice_bounds-rest-count c = taken_in (taking c.loop-rest.invariant c.requires.rows_len_bound c.loop-rest-test.true c.write_group-group.ensures.taken_value)
+
+pub slice_bounds-rest-start : goal.slice_bounds-rest-start
+slice_bounds-rest-start c = omega (arith, taken_in (taking c.loop-rest.invariant c.requires.rows_len_bound c.loop-rest-test.true c.write_group-group.ensures.taken_value))
+
+pub loop-rest-smaller : goal.loop-rest-smaller
+loop-rest-smaller c = taken_less (taking c.loop-rest.invariant c.requires.rows_len_bound c.loop-rest-test.true c.write_group-group.ensures.taken_value)
+
+pub loop-rest-preserved : goal.loop-rest-preserved
+loop-rest-preserved c = taken_turned (taking c.loop-rest.invariant c.requires.rows_len_bound c.loop-rest-test.true c.write_group-group.ensures.taken_value) c.write_group-group.ensures.written
+
+pub overflow_cast-count : goal.overflow_cast-count
+overflow_cast-count c = omega (arith, fill_most c.loop-rest.invariant c.requires.rows_len_bound)
+
+pub shape_of-out : goal.shape_of-out
+shape_of-out c = fill_long c.loop-rest.invariant
+
+pub returns-clause-written : goal.returns-clause-written
+unfolding groups_octets
+returns-clause-written c = fill_done c.loop-rest.invariant c.loop-rest-test.false
+
+pub returns-clause-count_value : goal.returns-clause-count_value
+unfolding groups_octets
+returns-clause-count_value c = fill_count c.loop-rest.invariant c.loop-rest-test.false

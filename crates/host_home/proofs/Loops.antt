@@ -208,6 +208,11 @@ pub record Splitting (net : ℕ) (l : List ℕ) (at : ℕ) (old : List ℕ) (spl
   pub room : at + 9 * length (rows_in l) ≤ length old
   pub is : split ≡ 12 * length (side_rows 0 (rows_in l))
 
+pub split_found : (net : ℕ) (l : List ℕ) (at : ℕ) (old : List ℕ) (split : ℕ)
+    → good_net net ≡ true → length l % 12 ≡ 0 → writable_numbers net (words_of l) ≡ true → at + 9 * length (rows_in l) ≤ length old → split ≡ 12 * length (side_rows 0 (rows_in l))
+    → Splitting net l at old split
+split_found net l at old split g h w r e = record { good = g; whole = h; writable = w; room = r; is = e }
+
 module _ {net : ℕ} {l : List ℕ} {at : ℕ} {old : List ℕ} {split : ℕ} (s : Splitting net l at old split) where
   sides : Split net (words_of l) at old (3 * length (side_rows 0 (rows_in l)))
   sides = record { good = s.good; writable = s.writable; room = s.room; is = refl }

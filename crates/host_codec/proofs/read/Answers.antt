@@ -28,5 +28,6 @@ returns-in-Refused c = let both = read_refused _ _ _ _ c.read-reading.result _ c
 pub returns-in-Good : goal.returns-in-Good
 returns-in-Good c =
     let a = c.args in
-    read_good a.net a.message.now a.buffer.now _ c.read-reading.result _ _ c.if-buffer-lt1560.false c.read-reading.ensures c.in-Good.is
-    (over_behind _ _ a.buffer.now _ _ (meaning_length _) (omega (arith, c.if-buffer-lt1560.false)) (c.store-numbers.ensures.buffer_after ∙ ap (λ (o : List ℕ). over o a.buffer.now) c.meaning_octets.ensures) c.write_words.ensures) c.pack.ensures
+    let both = read_good a.net a.message.now a.buffer.now _ c.read-reading.result _ _ c.if-buffer-lt1560.false c.read-reading.ensures c.in-Good.is
+    (over_behind _ _ a.buffer.now _ _ (meaning_length _) (omega (arith, c.if-buffer-lt1560.false)) (c.store-numbers.ensures.buffer_after ∙ ap (λ (o : List ℕ). over o a.buffer.now) c.meaning_octets.ensures) c.write_words.ensures) c.pack.ensures in
+    record { value = both.0; buffer_after = both.1 }

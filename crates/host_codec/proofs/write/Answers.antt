@@ -18,7 +18,8 @@ pub returns : goal.returns
 returns c =
     let a = c.args in
     let m = c.read_meaning-m.ensures in
-    write_done a.meaning.now a.rows.now a.buffer.now _ _ _
+    let both = write_done a.meaning.now a.rows.now a.buffer.now _ _ _
     (is_told _ _ _ _ c.same_octets.ensures c.meaning_octets.ensures m ∙ c.if-not-same_octets.false)
     (c.write_rows-written.ensures.value ∙ ap (λ (t : Message). write_of t (row_numbers a.rows.now) a.buffer.now) m)
-    (c.write_rows-written.ensures.buffer_after ∙ ap (λ (t : Message). over (write_octets t (row_numbers a.rows.now) a.buffer.now) a.buffer.now) m) c.pack.ensures
+    (c.write_rows-written.ensures.buffer_after ∙ ap (λ (t : Message). over (write_octets t (row_numbers a.rows.now) a.buffer.now) a.buffer.now) m) c.pack.ensures in
+    record { value = both.0; buffer_after = both.1 }

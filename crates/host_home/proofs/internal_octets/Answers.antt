@@ -2,7 +2,6 @@
 -- left are all of them. Assumes nothing.
 use Prim.Native.Nat.{◌+◌, ◌*◌, ◌≤◌}
 use native.Mathlib.Omega.{arith}
-use mathlib.Core.Logic.{⊎_elim}
 use mathlib.Core.Path.{◌≡◌}
 use lib.ListN.{length, length-drop}
 use Rattle.checks.proofs.Laws.{part_from_lem}
@@ -10,6 +9,7 @@ use Rattle.update_writing.specs.Blocks.{side_rows}
 use Rattle.host_home.specs.Home.{rows_in}
 use Rattle.host_home.proofs.Loops.{internal_end, internal_more, internal_same}
 use Rattle.host_home.proofs.internal_octets.Goals as goal
+use Rattle.host_home.proofs.internal_octets.Goals.{then-third_of-lt256, else-third_of-lt256}
 
 pub loop-rest-init : goal.loop-rest-init
 loop-rest-init c = (omega arith, omega arith)
@@ -22,14 +22,12 @@ loop-rest-smaller c = rw (part_from_lem 12 c.loop-rest.rest.now) (simp length-dr
 
 pub loop-rest-preserved : goal.loop-rest-preserved
 loop-rest-preserved c = rw (part_from_lem 12 c.loop-rest.rest.now)
-    (⊎_elim
-    (λ w.
-    let e : c.if-third_of-lt256.taken ≡ c.loop-rest.taken + 12 = w.1 in
-    (omega (arith, internal_more c.loop-rest.rest.now c.loop-rest-test.true (rw c.third_of.ensures at w.0.taken)), simp length-drop (omega arith)))
-    (λ w.
-    let e : c.if-third_of-lt256.taken ≡ c.loop-rest.taken = w.1 in
-    (omega (arith, internal_same c.loop-rest.rest.now c.loop-rest-test.true (rw c.third_of.ensures at w.0.left)), simp length-drop (omega arith)))
-    c.if-third_of-lt256.branch)
+    (elim c.if-third_of-lt256.branch [
+      then-third_of-lt256 w ↦
+        (omega (arith, w.taken-is, internal_more c.loop-rest.rest.now c.loop-rest-test.true (rw c.third_of.ensures at w.if-third_of-lt256.true)), simp length-drop (omega (arith, w.taken-is)))
+    | else-third_of-lt256 w ↦
+        (omega (arith, w.taken-is, internal_same c.loop-rest.rest.now c.loop-rest-test.true (rw c.third_of.ensures at w.if-third_of-lt256.false)), simp length-drop (omega (arith, w.taken-is)))
+    ])
 
 pub returns : goal.returns
 returns c = omega (arith, internal_end c.loop-rest.rest.now c.loop-rest-test.false)

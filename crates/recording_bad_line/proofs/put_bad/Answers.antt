@@ -7,12 +7,6 @@ use Rattle.recording_bad_line.proofs.Laws.{report_fits, report_done}
 use borrow.Author.Rules.{rules}
 use Rattle.recording_bad_line.proofs.put_bad.Goals as goal
 
-slice-aggregate-put : tie.Need-slice-aggregate-put
-slice-aggregate-put c = search rules
-
-slice-aggregate-put-2 : tie.Need-slice-aggregate-put-2
-slice-aggregate-put-2 c = search rules
-
 pub put_long-end-requires : goal.put_long-end-requires
 unfolding text bad_text
 put_long-end-requires c = let a = c.args in value_room (text "bad=") _ 0 _ (report_fits a.number (omega arith) a.out.now c.requires) c.put-start.ensures
@@ -25,4 +19,5 @@ pub returns : goal.returns
 unfolding text bad_text
 returns c =
     let a = c.args in let fits = report_fits a.number (omega arith) a.out.now c.requires in
-    report_done a.number (omega arith) a.out.now c.requires (line_done (text "bad=") _ 0 _ fits c.put-start.ensures c.put_long-end.ensures c.put.ensures)
+    let both = report_done a.number (omega arith) a.out.now c.requires (line_done (text "bad=") _ 0 _ fits c.put-start.ensures c.put_long-end.ensures c.put.ensures) in
+    record { value = both.0; out_after = both.1 }

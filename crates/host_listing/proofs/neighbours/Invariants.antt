@@ -1,0 +1,20 @@
+-- `host_listing::neighbours` meets its contract. The loop keeps: used slots counted and those left are all. Assumes
+-- nothing.
+use Rattle.host_listing.proofs.Laws.{eight}
+use Rattle.listing.proofs.Laws.{left, count_free, count_used, count_end}
+use Rattle.listing_lines.specs.Listing.{entries}
+use Rattle.gateway_state.specs.Slots.{address_of}
+use Rattle.host_state_block.specs.Block.{state_in}
+use lib.ListN.{length}
+use mathlib.Core.List.{List}
+use mathlib.Core.Logic.{⊎_elim}
+use mathlib.Core.Path.{◌≡◌, sym, ap, ◌∙◌}
+use Prim.Native.Nat.{ℕ, ◌+◌, ◌-◌, ◌≤◌}
+use native.Mathlib.Omega.{arith}
+use Rattle.host_listing.proofs.neighbours.Given as goal
+
+abbrev pub invariant-loop-i : goal.invariant-loop-i
+invariant-loop-i l = (l.i ≤ 8) × (l.count ≤ l.i) × ((table : List ℕ) → length (left (state_in l.block) table 0) ≡ l.count + length (left (state_in l.block) table l.i))
+
+abbrev pub decreases-loop-i : goal.decreases-loop-i
+decreases-loop-i l = 8 - l.i

@@ -1,0 +1,16 @@
+-- `recording_message::put_message` meets its contract. Assumes nothing.
+use Rattle.recording_message.proofs.Readings.{count_few}
+use Rattle.recording_message.specs.Message.{message_text}
+use borrow.Author.Rules.{rules}
+use Rattle.recording_message.proofs.put_message.Goals as goal
+
+pub put_reading-requires : goal.put_reading-requires
+put_reading-requires c = let f = count_few _ _ c.read-reading.ensures in search (record { rows_len = rules; key_in_bounds = f })
+
+pub returns-clause-written : goal.returns-clause-written
+unfolding message_text
+returns-clause-written c = rw (← c.read-reading.ensures) c.put_reading.ensures.written
+
+pub returns-clause-upper_bound : goal.returns-clause-upper_bound
+unfolding message_text
+returns-clause-upper_bound c = c.put_reading.ensures.upper_bound

@@ -22,14 +22,8 @@ sub refuse {
 # The path of a proved program, which is built if it is missing.
 sub program {
     my ($name) = @_;
-    my $path = "$root/target/bin/$name";
-    return $path if -x $path;
-    system('/bin/sh', '-c', 'command -v rt >/dev/null') == 0
-        or refuse(1, "there is no target/bin/$name, and no rt to build it with");
-    print STDERR "$FindBin::RealScript: building target/bin/$name, once; this takes some minutes\n";
-    # Standard input and output are for what is explained.
-    system('/bin/sh', '-c', 'cd "$1" && exec rt check "$2" </dev/null >&2', 'sh', $root, $name) == 0
-        or refuse(1, 'it could not be built');
+    my $path = "$root/crates/$name/out/$name";
+    -x $path or system('/bin/bash', "$root/lib/build", $name, $FindBin::RealScript) == 0 or exit 1;
     return $path;
 }
 

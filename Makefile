@@ -21,6 +21,7 @@ archive:
 	@command -v rt >/dev/null || \
 	    { echo "make: there is no rt to prove and build $(ARCHIVE) with; README.md has what a machine needs" >&2; exit 1; }
 	cd crates/egp && rt lib
+	@mkdir -p target
 
 $(ARCHIVE):
 	$(MAKE) archive

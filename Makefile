@@ -4,7 +4,7 @@
 PREFIX = /usr/local
 DESTDIR =
 CFLAGS = -O2
-ARCHIVE = target/staticlib/libegp.a
+ARCHIVE = crates/egp/out/libegp.a
 
 version := $(shell sed -n 's/^\#define EGP_VERSION "\(.*\)"/\1/p' include/egp.h)
 # egp.pc names the prefix, so it must hold from any directory
@@ -20,7 +20,8 @@ out = target/c
 archive:
 	@command -v rt >/dev/null || \
 	    { echo "make: there is no rt to prove and build $(ARCHIVE) with; README.md has what a machine needs" >&2; exit 1; }
-	rt staticlib egp
+	cd crates/egp && rt lib
+	@mkdir -p target
 
 $(ARCHIVE):
 	$(MAKE) archive
@@ -56,7 +57,7 @@ uninstall:
 	rm -f "$(root)/include/egp.h" "$(root)/lib/libegp.a" "$(root)/lib/pkgconfig/egp.pc"
 
 help:
-	@echo "make                      proves what changed and builds $(ARCHIVE); minutes, from nothing"
+	@echo "make                      proves what changed and builds $(ARCHIVE); from nothing it takes long"
 	@echo "make host                 builds and runs $(example)"
 	@echo "make check                the same by each of gcc, clang, g++ and clang++, held to examples/host.out"
 	@echo "make install PREFIX=DIR   DIR/include/egp.h, DIR/lib/libegp.a, DIR/lib/pkgconfig/egp.pc; else /usr/local"

@@ -22,14 +22,8 @@ sub refuse {
 # The path of a proved program, which is built if it is missing.
 sub program {
     my ($name) = @_;
-    my $path = "$root/target/bin/$name";
-    return $path if -x $path;
-    system('/bin/sh', '-c', 'command -v rt >/dev/null') == 0
-        or refuse(1, "there is no target/bin/$name, and no rt to build it with");
-    print STDERR "$FindBin::RealScript: building target/bin/$name, once; this takes some minutes\n";
-    # Standard input and output are for what is explained.
-    system('/bin/sh', '-c', 'cd "$1" && exec rt check "$2" </dev/null >&2', 'sh', $root, $name) == 0
-        or refuse(1, 'it could not be built');
+    my $path = "$root/crates/$name/out/$name";
+    -x $path or system('/bin/bash', "$root/lib/build", $name, $FindBin::RealScript) == 0 or exit 1;
     return $path;
 }
 
@@ -283,32 +277,32 @@ sub row_words {
 # answers in docs/RULES.md has them, and what was found, of the message and of what is known about the call.
 my %answers = (
     5 => ['an address that no used slot has', 'present', \&no_neighbour],
-    6 => ['a message of fewer than 10 or more than 2,048 octets', 'sizeAllowed',
+    6 => ['a message of fewer than 10 or more than 2,048 octets', 'size_allowed',
         sub { counted($_[0]{octets}, 'octet') . '; a message has 10 to 2,048' }],
-    7 => ['a version (octet 0) other than 2', 'versionIs2', sub { "version is $_[0]{version}, should be 2" }],
-    8 => ['a checksum field unlike the number worked out', 'checksumHolds',
+    7 => ['a version (octet 0) other than 2', 'version_is2', sub { "version is $_[0]{version}, should be 2" }],
+    8 => ['a checksum field unlike the number worked out', 'checksum_holds',
         sub { sprintf 'checksum is %04X, should be %04X', $_[0]{checksum}, $_[0]{right} }],
-    9 => ['an AS field unlike the AS of that slot', 'messageNumber',
+    9 => ['an AS field unlike the AS of that slot', 'message_number',
         sub { "AS is $_[0]{as}, should be $_[1]{peer}, as line $_[1]{added} added it" }],
-    10 => ['a type and code that name none of the ten kinds', 'isKnown',
+    10 => ['a type and code that name none of the ten kinds', 'is_known',
         sub { "type $_[0]{type} with code $_[0]{code} is none of the ten kinds" }],
-    11 => ['a status that the kind does not have', 'statusFits', \&status_fault],
-    12 => ['a length that the kind does not have', 'lengthFits', \&wrong_length],
-    13 => ['outside Idle, a response whose sequence number is not S', 'sequenceFits',
+    11 => ['a status that the kind does not have', 'status_fits', \&status_fault],
+    12 => ['a length that the kind does not have', 'length_fits', \&wrong_length],
+    13 => ['outside Idle, a response whose sequence number is not S', 'sequence_fits',
         sub { "sequence is $_[0]{sequence}, should be $_[1]{S}: $_[1]{meaning}" }],
     14 => ['an Update that finds its neighbour Up, with another net than the common one, or with blocks that are cut '
-            . 'short, leave octets over or hold a net of no class', 'bodyNumber', \&wrong_body],
-    15 => ['an Update that passes 14 but has 129 rows or more', 'updateRoom',
+            . 'short, leave octets over or hold a net of no class', 'body_number', \&wrong_body],
+    15 => ['an Update that passes 14 but has 129 rows or more', 'update_room',
         sub { counted(blocks(pack('H*', $_[0]{hex}), $_[1]{common})->{rows}, 'row') . '; there may be 128' }],
     16 => ['settings or a neighbour that may not be; in writing, a meaning that no reading gives',
-        'addAnswer, writable', sub { join '; ', @{ $_[1]{faults} } }],
-    17 => ['a ninth neighbour', 'addAnswer', sub { "all eight slots are taken: $_[1]{neighbours}" }],
-    18 => ['removal of a neighbour that is not in Idle', 'removeAnswer',
+        'add_answer, writable', sub { join '; ', @{ $_[1]{faults} } }],
+    17 => ['a ninth neighbour', 'add_answer', sub { "all eight slots are taken: $_[1]{neighbours}" }],
+    18 => ['removal of a neighbour that is not in Idle', 'remove_answer',
         sub { 'it is in ' . ucfirst($_[1]{before}) . ', must be in Idle: Stop and its Cease-ack bring it there' }],
-    19 => ['a bad line of a recording (L1), before all others', 'badStep'],
+    19 => ['a bad line of a recording (L1), before all others', 'bad_step'],
     21 => ['in Down and Up, a Hello that comes fewer than 30 ticks, or a Poll that comes fewer than 120 ticks, after '
-            . 'the last one carried out in this acquisition (L5)', 'spacingFits', \&too_quick],
-    22 => ["a tick when the neighbour's seconds add up to 4,294,967,295 (L7)", 'hasTime',
+            . 'the last one carried out in this acquisition (L5)', 'spacing_fits', \&too_quick],
+    22 => ["a tick when the neighbour's seconds add up to 4,294,967,295 (L7)", 'has_time',
         sub { 'its seconds add up to 4,294,967,295, and no more can be counted' }],
 );
 

@@ -35,7 +35,7 @@ use Rattle.host_rules.proofs.Left.{left_20, left_1, left_by, left_refused}
 
 -- what the promise says of the number and the block, whatever table the host has
 abbrev pub Kept : Call → List ℕ → ℕ → List ℕ → Type 0
-Kept call block r b = ((table : List ℕ) → r ≡ result_of call block table) × ((table : List ℕ) → b ≡ block_after call block table)
+Kept call block r b = record { by_index : (table : List ℕ) → r ≡ result_of call block table; by_index_2 : (table : List ℕ) → b ≡ block_after call block table }
 
 -- a call that answers this number, with this state
 abbrev Silent : Call → List ℕ → ℕ → State → Type 0
@@ -43,25 +43,25 @@ Silent call block k st = (table : List ℕ) → silent_of k st (state_in block) 
 
 module _ (call : Call) (block : List ℕ) where
   pub kept_20 : (length block ≡ block_size → ⊥) → Kept call block (bare 20) block
-  kept_20 n = (
-    λ table. (left_20 call block table (ne_eqb (length block) block_size n)).0,
-    λ table. (left_20 call block table (ne_eqb (length block) block_size n)).1.0,
-  )
+  kept_20 n = record {
+    by_index = λ table. (left_20 call block table (ne_eqb (length block) block_size n)).0;
+    by_index_2 = λ table. (left_20 call block table (ne_eqb (length block) block_size n)).1.0;
+  }
 
   -- the gateway's refusal
   refused : length block ≡ block_size → block_in_range block ≡ true → (k : ℕ) (st : State) → (k ≡ 0 → ⊥) → Silent call block k st → Kept call block (bare k) block
   unfolding silent_of
-  refused f r k st n is = (
-    λ table. (left_refused call block table f r _ _ _ (is table) refl refl n).0,
-    λ table. (left_refused call block table f r _ _ _ (is table) refl refl n).1.0,
-  )
+  refused f r k st n is = record {
+    by_index = λ table. (left_refused call block table f r _ _ _ (is table) refl refl n).0;
+    by_index_2 = λ table. (left_refused call block table f r _ _ _ (is table) refl refl n).1.0;
+  }
 
   done : length block ≡ block_size → block_in_range block ≡ true → (b : List ℕ) (st : State) → b ≡ block_of st → Silent call block 0 st → Kept call block (bare 0) b
   unfolding silent_of if_ok
-  done f r b st e is = (
-    λ table. (left_by call block table f r _ _ _ (is table) refl refl b _ e refl).0,
-    λ table. (left_by call block table f r _ _ _ (is table) refl refl b _ e refl).1.0,
-  )
+  done f r b st e is = record {
+    by_index = λ table. (left_by call block table f r _ _ _ (is table) refl refl b _ e refl).0;
+    by_index_2 = λ table. (left_by call block table f r _ _ _ (is table) refl refl b _ e refl).1.0;
+  }
 
 -- ---- add
 
@@ -83,10 +83,10 @@ module _ (block : List ℕ) (address asn : ℕ) where
     add_1 h = go (block_in_range block) refl
       where
         go : (b : Bool) → block_in_range block ≡ b → Added (bare 1) block
-        go false r = (
-          λ table. (left_1 (add address asn) block table (eq-eqb (length block) block_size f) r).0,
-          λ table. (left_1 (add address asn) block table (eq-eqb (length block) block_size f) r).1.0,
-        )
+        go false r = record {
+          by_index = λ table. (left_1 (add address asn) block table (eq-eqb (length block) block_size f) r).0;
+          by_index_2 = λ table. (left_1 (add address asn) block table (eq-eqb (length block) block_size f) r).1.0;
+        }
         go true r =
             add_refused f r 1 (λ z. absurd (omega (arith, z))) (sym (check_fails (state_formed (state_in block)) 1 _ (rw r at h)))
 
@@ -149,10 +149,10 @@ module _ (block : List ℕ) (address : ℕ) where
     remove_1 h = go (block_in_range block) refl
       where
         go : (b : Bool) → block_in_range block ≡ b → Removed (bare 1) block
-        go false r = (
-          λ table. (left_1 (remove address) block table (eq-eqb (length block) block_size f) r).0,
-          λ table. (left_1 (remove address) block table (eq-eqb (length block) block_size f) r).1.0,
-        )
+        go false r = record {
+          by_index = λ table. (left_1 (remove address) block table (eq-eqb (length block) block_size f) r).0;
+          by_index_2 = λ table. (left_1 (remove address) block table (eq-eqb (length block) block_size f) r).1.0;
+        }
         go true r =
             remove_refused f r 1 (λ z. absurd (omega (arith, z))) (sym (check_fails (state_formed (state_in block)) 1 _ (rw r at h)))
 
@@ -201,13 +201,13 @@ fresh_eight g = if_ok_holds (fresh_answer g) (empty_state g) zero_state (λ st. 
 
 module _ (g : Settings) (block : List ℕ) where
   abbrev pub Begun : ℕ → List ℕ → Type 0
-  Begun r b = (r ≡ fresh_result g block) × (b ≡ fresh_block g block)
+  Begun r b = record { value : r ≡ fresh_result g block; block_after : b ≡ fresh_block g block }
 
   pub fresh_20 : (length block ≡ block_size → ⊥) → Begun (bare 20) block
   unfolding fresh_result fresh_block fresh_number
   fresh_20 n =
       let e : check (block_fits block) 20 (fresh_answer g) ≡ 20 = check_fails (block_fits block) 20 _ (ne_eqb (length block) block_size n) in
-      (rw e, sym (if_ok_old _ _ _ (λ z. absurd (omega (arith, sym e ∙ z)))))
+      record { value = rw e; block_after = sym (if_ok_old _ _ _ (λ z. absurd (omega (arith, sym e ∙ z)))) }
 
   module _ (f : length block ≡ block_size) (out : Outcome) (is : out ≡ fresh_of g) where
     number : fresh_number g block ≡ out.answer
@@ -216,11 +216,11 @@ module _ (g : Settings) (block : List ℕ) where
 
     pub fresh_refused : (k : ℕ) → k ≡ out.answer → (k ≡ 0 → ⊥) → Begun (bare k) block
     unfolding fresh_result fresh_block
-    fresh_refused k e n = (rw (e, number), sym (if_ok_old _ _ _ (λ z. n (e ∙ sym number ∙ z))))
+    fresh_refused k e n = record { value = rw (e, number); block_after = sym (if_ok_old _ _ _ (λ z. n (e ∙ sym number ∙ z))) }
 
     pub fresh_done : out.answer ≡ 0 → (b : List ℕ) → b ≡ over (block_of out.state) block → Begun (bare 0) b
     unfolding fresh_result fresh_block
-    fresh_done z b e = (
-      rw (number, z),
-      e ∙ over_all (block_of out.state) block (rw is (block_long (fresh_of g).state (fresh_eight g)) ∙ sym f) ∙ sym (if_ok_new _ _ _ (number ∙ z) ∙ rw is),
-    )
+    fresh_done z b e = record {
+      value = rw (number, z);
+      block_after = e ∙ over_all (block_of out.state) block (rw is (block_long (fresh_of g).state (fresh_eight g)) ∙ sym f) ∙ sym (if_ok_new _ _ _ (number ∙ z) ∙ rw is);
+    }

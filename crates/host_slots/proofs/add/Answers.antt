@@ -12,13 +12,13 @@ pub returns-then-not-is_formed : goal.returns-then-not-is_formed
 returns-then-not-is_formed c = rw c.alone-then-not-is_formed.ensures (add_1 c.args.block.now _ _ c.if-block-ne-BLOCK.false (sym c.is_formed.ensures ∙ c.if-not-is_formed.true))
 
 pub returns-then-not-good_peer : goal.returns-then-not-good_peer
-returns-then-not-good_peer c = rw c.alone-then-not-good_peer.ensures (add_16 c.args.block.now _ _ c.if1.false (sym c.is_formed.ensures ∙ c.if-not-is_formed.false) (rw c.settings_of-settings.ensures at (sym c.good_peer.ensures ∙ c.if-not-good_peer.true)))
+returns-then-not-good_peer c = rw c.alone-then-not-good_peer.ensures (add_16 c.args.block.now _ _ c.if-block-ne-BLOCK.false (sym c.is_formed.ensures ∙ c.if-not-is_formed.false) (rw c.settings_of-settings.ensures at (sym c.good_peer.ensures ∙ c.if-not-good_peer.true)))
 
 pub returns-then-slot_of-lt-SLOTS : goal.returns-then-slot_of-lt-SLOTS
 returns-then-slot_of-lt-SLOTS c = rw c.alone-then-slot_of-lt-SLOTS.ensures (add_present c.args.block.now _ _ c.if-block-ne-BLOCK.false (sym c.is_formed.ensures ∙ c.if-not-is_formed.false) (rw c.settings_of-settings.ensures at (sym c.good_peer.ensures ∙ c.if-not-good_peer.false)) _ c.slot_of.ensures c.if-slot_of-lt-SLOTS.true)
 
 pub returns-then-free-ge-SLOTS : goal.returns-then-free-ge-SLOTS
-returns-then-free-ge-SLOTS c = rw c.alone-then-free-ge-SLOTS.ensures (add_17 c.args.block.now _ _ c.if-block-ne-BLOCK.false (sym c.is-formed.ensures ∙ c.if-not-is_formed.false) (rw c.settings_of-settings.ensures at (sym c.good_peer.ensures ∙ c.if-not-good_peer.false)) _ c.slot_of.ensures c.if-slot_of-lt-SLOTS.false _ c.lowest_free-free.ensures c.if-free-ge-SLOTS.true)
+returns-then-free-ge-SLOTS c = rw c.alone-then-free-ge-SLOTS.ensures (add_17 c.args.block.now _ _ c.if-block-ne-BLOCK.false (sym c.is_formed.ensures ∙ c.if-not-is_formed.false) (rw c.settings_of-settings.ensures at (sym c.good_peer.ensures ∙ c.if-not-good_peer.false)) _ c.slot_of.ensures c.if-slot_of-lt-SLOTS.false _ c.lowest_free-free.ensures c.if-free-ge-SLOTS.true)
 
 pub returns : goal.returns
-returns c = rw c.alone-2.ensures (add_done c.args.block.now _ _ c.if-block-ne-BLOCK.false (sym c.is-formed.ensures ∙ c.if-not-is_formed.false) (rw c.settings_of-settings.ensures at (sym c.good_peer.ensures ∙ c.if-not-good_peer.false)) _ c.slot_of.ensures c.if-slot_of-lt-SLOTS.false _ c.lowest_free-free.ensures (λ i. omega (arith, c.type_inv.block i)) c.if-free-ge-SLOTS.false _ _ c.new_slot.ensures c.put_slot.ensures)
+returns c = rw c.alone-2.ensures (add_done c.args.block.now _ _ c.if-block-ne-BLOCK.false (sym c.is_formed.ensures ∙ c.if-not-is_formed.false) (rw c.settings_of-settings.ensures at (sym c.good_peer.ensures ∙ c.if-not-good_peer.false)) _ c.slot_of.ensures c.if-slot_of-lt-SLOTS.false _ c.lowest_free-free.ensures (λ i. omega (arith, c.slice_known-1.given i)) c.if-free-ge-SLOTS.false _ _ c.new_slot.ensures c.put_slot.ensures)

@@ -4,4 +4,4 @@ use Rattle.neighbour_machine.specs.Intrinsics.{Start}
 use Rattle.host_calls.proofs.start.Goals as goal
 
 pub returns : goal.returns
-returns c = let h = (c.happen.ensures.value, (c.happen.ensures.block_after, (c.happen.ensures.table_after, c.happen.ensures.reply_after))) in record { value = h.0 Start refl; block_after = h.1.0 Start refl; table_after = h.1.1.0 Start refl; reply_after = h.1.1.1 Start refl }
+returns c = record { value = c.happen.ensures.value Start refl; block_after = c.happen.ensures.block_after Start refl; table_after = c.happen.ensures.table_after Start refl; reply_after = c.happen.ensures.reply_after Start refl }

@@ -4,4 +4,4 @@ use Rattle.neighbour_machine.specs.Intrinsics.{Stop}
 use Rattle.host_calls.proofs.stop.Goals as goal
 
 pub returns : goal.returns
-returns c = let h = (c.happen.ensures.value, (c.happen.ensures.block_after, (c.happen.ensures.table_after, c.happen.ensures.reply_after))) in record { value = h.0 Stop refl; block_after = h.1.0 Stop refl; table_after = h.1.1.0 Stop refl; reply_after = h.1.1.1 Stop refl }
+returns c = record { value = c.happen.ensures.value Stop refl; block_after = c.happen.ensures.block_after Stop refl; table_after = c.happen.ensures.table_after Stop refl; reply_after = c.happen.ensures.reply_after Stop refl }

@@ -5,4 +5,4 @@ use Rattle.recording_message.proofs.put_error.Goals as goal
 
 pub returns : goal.returns
 unfolding text error_fields
-returns c = let both = (c.put_fields.ensures.written, c.put_fields.ensures.upper_bound) in record { written = both.0; upper_bound = both.1 }
+returns c = record { written = c.put_fields.ensures.written; upper_bound = c.put_fields.ensures.upper_bound }

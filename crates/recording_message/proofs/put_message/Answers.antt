@@ -5,7 +5,7 @@ use borrow.Author.Rules.{rules}
 use Rattle.recording_message.proofs.put_message.Goals as goal
 
 pub put_reading-requires : goal.put_reading-requires
-put_reading-requires c = let f = count_few _ _ c.read-reading.ensures in search (record { rows_len = rules; key_in_bounds = f })
+put_reading-requires c = let f = count_few _ _ c.read-reading.ensures in search (rules, f)
 
 pub returns-clause-written : goal.returns-clause-written
 unfolding message_text

@@ -18,3 +18,7 @@ overflow_cast-result-15 c = omega (arith, c.struct_known-15-1.given)
 
 pub overflow_cast-result-16 : goal.overflow_cast-result-16
 overflow_cast-result-16 c = omega (arith, c.struct_known-16-1.given)
+
+pub returns : goal.returns
+unfolding record_numbers
+returns c = search rules

@@ -1,0 +1,12 @@
+-- `recording_call::remove_neighbour` meets its contract. Assumes nothing.
+use Rattle.recording_call.proofs.Laws.{remove_silent, remove_done}
+use Rattle.recording_call.proofs.remove_neighbour.Goals as goal
+
+pub tell_silent-requires-clause-first_value : goal.tell_silent-requires-clause-first_value
+tell_silent-requires-clause-first_value c = remove_silent c.args.st c.args.address c.remove-o.ensures
+
+pub tell_silent-requires-clause-in_bounds : goal.tell_silent-requires-clause-in_bounds
+tell_silent-requires-clause-in_bounds c = c.requires
+
+pub returns : goal.returns
+returns c = let both = remove_done c.args.t c.args.st c.args.address c.args.out.now c.remove-o.ensures (c.tell_silent.ensures.value, c.tell_silent.ensures.out_after) in record { by_index = both.0; by_index_2 = both.1 }

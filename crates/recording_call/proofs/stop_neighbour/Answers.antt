@@ -1,0 +1,13 @@
+-- `recording_call::stop_neighbour` meets its contract: the call, and what is told of it. Assumes nothing.
+use native.Mathlib.Omega.{arith}
+use Rattle.neighbour_machine.specs.Intrinsics.{Stop}
+use Rattle.recording_call.proofs.Laws.{lent_is, event_made, made_done}
+use Rattle.recording_call.specs.Told.{addressed_to, intrinsic_deed, deed_of, message_in, on}
+use Rattle.recording_call.proofs.stop_neighbour.Goals as goal
+
+pub tell-requires : goal.tell-requires
+tell-requires c = let m = event_made Stop c.args.st c.args.table.now c.args.address lent_is c.stop-o.ensures.value c.stop-o.ensures.table_after c.stop-o.ensures.reply_after in record { received_len_bound = (omega arith, m.few, m.long); in_bounds = c.requires }
+
+pub returns : goal.returns
+unfolding addressed_to intrinsic_deed deed_of message_in on
+returns c = let both = made_done (event_made Stop c.args.st c.args.table.now c.args.address lent_is c.stop-o.ensures.value c.stop-o.ensures.table_after c.stop-o.ensures.reply_after) c.args.t c.args.out.now (c.tell.ensures.value, c.tell.ensures.out_after) in record { value = both.0; table_after = both.1.0; out_after = both.1.1 }

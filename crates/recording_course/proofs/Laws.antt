@@ -132,7 +132,7 @@ ended_by_lem c s stage line table t h =
 module _ (out : List ℕ) (c : Course) (line table piece : List ℕ) where
   -- what a step leaves, with the buffers after it
   abbrev pub Leaves : Went → List ℕ → List ℕ → List ℕ → Stepped → Type 0
-  Leaves r line' table' out' s = (r ≡ went_of s) × ((line' ≡ s.line) × ((table' ≡ s.table) × (out' ≡ over s.text out)))
+  Leaves r line' table' out' s = record { value : r ≡ went_of s; line_after : line' ≡ s.line; table_after : table' ≡ s.table; out_after : out' ≡ over s.text out }
 
   pub at_step : (stage : Stage) → c.stage ≡ stage → (r : Went) (line' table' out' : List ℕ)
       → Leaves r line' table' out' (course_at stage out c line table piece) → Leaves r line' table' out' (course_step out c line table piece)

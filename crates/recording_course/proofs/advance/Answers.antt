@@ -12,7 +12,7 @@ returns-in-Read c = let a = c.args in at_step a.out.now a.c a.line.now a.table.n
 
 pub returns-in-Play : goal.returns-in-Play
 unfolding course_at
-returns-in-Play c = let a = c.args in let both = at_step a.out.now a.c a.line.now a.table.now a.piece.now Play c.in-Play.is _ _ _ _ (c.play_on.ensures.value, (c.play_on.ensures.line_after, (c.play_on.ensures.table_after, c.play_on.ensures.out_after))) in record { value = both.0; line_after = both.1.0; table_after = both.1.1.0; out_after = both.1.1.1 }
+returns-in-Play c = let a = c.args in at_step a.out.now a.c a.line.now a.table.now a.piece.now Play c.in-Play.is _ _ _ _ c.play_on.ensures
 
 pub returns-in-Close : goal.returns-in-Close
 unfolding course_at close_on ended_by

@@ -8,4 +8,4 @@ pub returns : goal.returns
 unfolding close_on ended_by
 returns c =
     let a = c.args in let t = c.close-t in
-    record { by_index = λ line table. ended_by_lem a.c _ Listing line table t.result (t.ensures.0 table); by_index_2 = λ line table. t.ensures.1 table }
+    record { by_index = λ line table. ended_by_lem a.c _ Listing line table t.result (t.ensures.by_index table); by_index_2 = λ line table. t.ensures.by_index_2 table }

@@ -35,16 +35,16 @@ pub extern "C" fn egp_fresh(
 
 #[unsafe(no_mangle)]
 pub extern "C" fn egp_add(block: &mut [u8], address: u32, asn: u16) -> u64
-    ensures by_index { (table : List ℕ) → result ≡ result_of (M.add address asn) block.old table }
-    ensures by_index_2 { (table : List ℕ) → block.new ≡ block_after (M.add address asn) block.old table }
+    ensures value { (table : List ℕ) → result ≡ result_of (M.add address asn) block.old table }
+    ensures block_after { (table : List ℕ) → block.new ≡ block_after (M.add address asn) block.old table }
 {
     host_slots::add(block, address, asn)
 }
 
 #[unsafe(no_mangle)]
 pub extern "C" fn egp_remove(block: &mut [u8], address: u32) -> u64
-    ensures by_index { (table : List ℕ) → result ≡ result_of (M.remove address) block.old table }
-    ensures by_index_2 { (table : List ℕ) → block.new ≡ block_after (M.remove address) block.old table }
+    ensures value { (table : List ℕ) → result ≡ result_of (M.remove address) block.old table }
+    ensures block_after { (table : List ℕ) → block.new ≡ block_after (M.remove address) block.old table }
 {
     host_slots::remove(block, address)
 }

@@ -111,7 +111,7 @@ fn apply(
     requires home_value { (sendable v.reply (home_in home.now) ≡ true) × (takes v.effect (walked_blocks net message.now) ≡ true) }
     ensures value { result ≡ packed v.answer (lengths_of v.reply (rows_of (home_in home.now))).first (lengths_of v.reply (rows_of (home_in home.now))).second }
     ensures block_after { block.new ≡ if_ok v.answer (sets block.old (slot_start i) (slot_octets (Carried.slot_after slot (ruling_of v (walked_rows (walked_blocks net message.now)))))) block.old }
-    ensures by_index { (counts : List ℕ) → table.new ≡ if_ok v.answer (octets_after table.old counts i (change_of v.effect (walked_rows (walked_blocks net message.now)))) table.old }
+    ensures table_after { (counts : List ℕ) → table.new ≡ if_ok v.answer (octets_after table.old counts i (change_of v.effect (walked_rows (walked_blocks net message.now)))) table.old }
     ensures buffer_after { buffer.new ≡ Carried.buffer_after buffer.old v.reply (rows_of (home_in home.now)) }
 {
     let reply = v.reply;

@@ -59,7 +59,7 @@ fn beside(gateway: u32, third: u32) -> u64
 // good, nothing else has to be tested of such rows, and most rows of a list are such.
 fn past_same(rows: &[u8], gateway: u32, third: u32) -> &[u8]
     ensures result_in_bounds { length result.now ≤ length rows.now }
-    ensures by_index { (common : ℕ) → on_net common gateway ≡ true → third ≤ 255 → every (home_row common) (rows_in rows.now) ≡ every (home_row common) (rows_in result.now) }
+    ensures every_row { (common : ℕ) → on_net common gateway ≡ true → third ≤ 255 → every (home_row common) (rows_in rows.now) ≡ every (home_row common) (rows_in result.now) }
 {
     let both = beside(gateway, third);
     let mut rest = rows;

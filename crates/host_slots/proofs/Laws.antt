@@ -35,7 +35,7 @@ use Rattle.host_rules.proofs.Left.{left_20, left_1, left_by, left_refused}
 
 -- what the promise says of the number and the block, whatever table the host has
 abbrev pub Kept : Call → List ℕ → ℕ → List ℕ → Type 0
-Kept call block r b = record { by_index : (table : List ℕ) → r ≡ result_of call block table; by_index_2 : (table : List ℕ) → b ≡ block_after call block table }
+Kept call block r b = record { value : (table : List ℕ) → r ≡ result_of call block table; block_after : (table : List ℕ) → b ≡ block_after call block table }
 
 -- a call that answers this number, with this state
 abbrev Silent : Call → List ℕ → ℕ → State → Type 0
@@ -44,23 +44,23 @@ Silent call block k st = (table : List ℕ) → silent_of k st (state_in block) 
 module _ (call : Call) (block : List ℕ) where
   pub kept_20 : (length block ≡ block_size → ⊥) → Kept call block (bare 20) block
   kept_20 n = record {
-    by_index = λ table. (left_20 call block table (ne_eqb (length block) block_size n)).0;
-    by_index_2 = λ table. (left_20 call block table (ne_eqb (length block) block_size n)).1.0;
+    value = λ table. (left_20 call block table (ne_eqb (length block) block_size n)).0;
+    block_after = λ table. (left_20 call block table (ne_eqb (length block) block_size n)).1.0;
   }
 
   -- the gateway's refusal
   refused : length block ≡ block_size → block_in_range block ≡ true → (k : ℕ) (st : State) → (k ≡ 0 → ⊥) → Silent call block k st → Kept call block (bare k) block
   unfolding silent_of
   refused f r k st n is = record {
-    by_index = λ table. (left_refused call block table f r _ _ _ (is table) refl refl n).0;
-    by_index_2 = λ table. (left_refused call block table f r _ _ _ (is table) refl refl n).1.0;
+    value = λ table. (left_refused call block table f r _ _ _ (is table) refl refl n).0;
+    block_after = λ table. (left_refused call block table f r _ _ _ (is table) refl refl n).1.0;
   }
 
   done : length block ≡ block_size → block_in_range block ≡ true → (b : List ℕ) (st : State) → b ≡ block_of st → Silent call block 0 st → Kept call block (bare 0) b
   unfolding silent_of if_ok
   done f r b st e is = record {
-    by_index = λ table. (left_by call block table f r _ _ _ (is table) refl refl b _ e refl).0;
-    by_index_2 = λ table. (left_by call block table f r _ _ _ (is table) refl refl b _ e refl).1.0;
+    value = λ table. (left_by call block table f r _ _ _ (is table) refl refl b _ e refl).0;
+    block_after = λ table. (left_by call block table f r _ _ _ (is table) refl refl b _ e refl).1.0;
   }
 
 -- ---- add
@@ -84,8 +84,8 @@ module _ (block : List ℕ) (address asn : ℕ) where
       where
         go : (b : Bool) → block_in_range block ≡ b → Added (bare 1) block
         go false r = record {
-          by_index = λ table. (left_1 (add address asn) block table (eq-eqb (length block) block_size f) r).0;
-          by_index_2 = λ table. (left_1 (add address asn) block table (eq-eqb (length block) block_size f) r).1.0;
+          value = λ table. (left_1 (add address asn) block table (eq-eqb (length block) block_size f) r).0;
+          block_after = λ table. (left_1 (add address asn) block table (eq-eqb (length block) block_size f) r).1.0;
         }
         go true r =
             add_refused f r 1 (λ z. absurd (omega (arith, z))) (sym (check_fails (state_formed (state_in block)) 1 _ (rw r at h)))
@@ -150,8 +150,8 @@ module _ (block : List ℕ) (address : ℕ) where
       where
         go : (b : Bool) → block_in_range block ≡ b → Removed (bare 1) block
         go false r = record {
-          by_index = λ table. (left_1 (remove address) block table (eq-eqb (length block) block_size f) r).0;
-          by_index_2 = λ table. (left_1 (remove address) block table (eq-eqb (length block) block_size f) r).1.0;
+          value = λ table. (left_1 (remove address) block table (eq-eqb (length block) block_size f) r).0;
+          block_after = λ table. (left_1 (remove address) block table (eq-eqb (length block) block_size f) r).1.0;
         }
         go true r =
             remove_refused f r 1 (λ z. absurd (omega (arith, z))) (sym (check_fails (state_formed (state_in block)) 1 _ (rw r at h)))

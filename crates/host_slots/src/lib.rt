@@ -26,8 +26,8 @@ pub fn fresh(block: &mut [u8], settings: Settings) -> u64
 }
 
 pub fn add(block: &mut [u8], address: u32, asn: u16) -> u64
-    ensures by_index { (table : List ℕ) → result ≡ result_of (M.add address asn) block.old table }
-    ensures by_index_2 { (table : List ℕ) → block.new ≡ block_after (M.add address asn) block.old table }
+    ensures value { (table : List ℕ) → result ≡ result_of (M.add address asn) block.old table }
+    ensures block_after { (table : List ℕ) → block.new ≡ block_after (M.add address asn) block.old table }
 {
     if block.len() != host_state_block::BLOCK {
         return host_result::alone(20);
@@ -52,8 +52,8 @@ pub fn add(block: &mut [u8], address: u32, asn: u16) -> u64
 
 // Only an Idle neighbour is removed, so that no row of the table outlives it.
 pub fn remove(block: &mut [u8], address: u32) -> u64
-    ensures by_index { (table : List ℕ) → result ≡ result_of (M.remove address) block.old table }
-    ensures by_index_2 { (table : List ℕ) → block.new ≡ block_after (M.remove address) block.old table }
+    ensures value { (table : List ℕ) → result ≡ result_of (M.remove address) block.old table }
+    ensures block_after { (table : List ℕ) → block.new ≡ block_after (M.remove address) block.old table }
 {
     if block.len() != host_state_block::BLOCK {
         return host_result::alone(20);

@@ -104,8 +104,8 @@ fn tell_silent(
 
 pub fn add_neighbour(st: State, out: &mut [u8], t: Telling, address: u32, asn: u16) -> Called
     requires { t.traced ≡ true → 65536 ≤ length out.old }
-    ensures by_index { (table : List ℕ) → result ≡ called_of t (add address asn) (on st table) }
-    ensures by_index_2 { (table : List ℕ) → out.new ≡ over (call_text t (add address asn) (on st table)) out.old }
+    ensures value { (table : List ℕ) → result ≡ called_of t (add address asn) (on st table) }
+    ensures out_after { (table : List ℕ) → out.new ≡ over (call_text t (add address asn) (on st table)) out.old }
 {
     let o = gateway_slots::add(st, address, asn);
     tell_silent(out, t, Deed::Add, address, st, o)
@@ -113,8 +113,8 @@ pub fn add_neighbour(st: State, out: &mut [u8], t: Telling, address: u32, asn: u
 
 pub fn remove_neighbour(st: State, out: &mut [u8], t: Telling, address: u32) -> Called
     requires { t.traced ≡ true → 65536 ≤ length out.old }
-    ensures by_index { (table : List ℕ) → result ≡ called_of t (remove address) (on st table) }
-    ensures by_index_2 { (table : List ℕ) → out.new ≡ over (call_text t (remove address) (on st table)) out.old }
+    ensures value { (table : List ℕ) → result ≡ called_of t (remove address) (on st table) }
+    ensures out_after { (table : List ℕ) → out.new ≡ over (call_text t (remove address) (on st table)) out.old }
 {
     let o = gateway_slots::remove(st, address);
     tell_silent(out, t, Deed::Remove, address, st, o)

@@ -195,8 +195,8 @@ fn play_on(c: Course, line: &mut [u8], table: &mut [u32], piece: &[u8], out: &mu
 }
 
 fn close_on(c: Course, out: &mut [u8]) -> Went
-    ensures by_index { (line table : List ℕ) → result ≡ went_of (close_on out.old c line table) }
-    ensures by_index_2 { (line table : List ℕ) → out.new ≡ over (close_on out.old c line table).text out.old }
+    ensures value { (line table : List ℕ) → result ≡ went_of (close_on out.old c line table) }
+    ensures out_after { (line table : List ℕ) → out.new ≡ over (close_on out.old c line table).text out.old }
 {
     let p = c.player;
     let t = recording_player::close(p, out);
@@ -213,8 +213,8 @@ fn close_on(c: Course, out: &mut [u8]) -> Went
 }
 
 fn list_on(c: Course, table: &[u32], out: &mut [u8]) -> Went
-    ensures by_index { (line : List ℕ) → result ≡ went_of (list_on out.old c line table.now) }
-    ensures by_index_2 { (line : List ℕ) → out.new ≡ over (list_on out.old c line table.now).text out.old }
+    ensures value { (line : List ℕ) → result ≡ went_of (list_on out.old c line table.now) }
+    ensures out_after { (line : List ℕ) → out.new ≡ over (list_on out.old c line table.now).text out.old }
 {
     let p = c.player;
     let t = recording_player::finish(p, table, out);

@@ -92,8 +92,8 @@ fn read_front(value: &[u8]) -> Front
 }
 
 fn add_event(value: &[u8]) -> Read
-    ensures by_index { (line : List ℕ) → meant result line ≡ slashed add_event value.now }
-    ensures by_index_2 { (line : List ℕ) → stands_on result line ≡ true }
+    ensures meaning { (line : List ℕ) → meant result line ≡ slashed add_event value.now }
+    ensures stands { (line : List ℕ) → stands_on result line ≡ true }
 {
     let Front::At(address, next) = read_front(value) else {
         return Read::Bad;
@@ -105,8 +105,8 @@ fn add_event(value: &[u8]) -> Read
 }
 
 fn remove_event(value: &[u8]) -> Read
-    ensures by_index { (line : List ℕ) → meant result line ≡ alone remove value.now }
-    ensures by_index_2 { (line : List ℕ) → stands_on result line ≡ true }
+    ensures meaning { (line : List ℕ) → meant result line ≡ alone remove value.now }
+    ensures stands { (line : List ℕ) → stands_on result line ≡ true }
 {
     let Number::Is(address) = text_values::read_dotted(value) else {
         return Read::Bad;
@@ -115,8 +115,8 @@ fn remove_event(value: &[u8]) -> Read
 }
 
 fn start_event(value: &[u8]) -> Read
-    ensures by_index { (line : List ℕ) → meant result line ≡ alone start value.now }
-    ensures by_index_2 { (line : List ℕ) → stands_on result line ≡ true }
+    ensures meaning { (line : List ℕ) → meant result line ≡ alone start value.now }
+    ensures stands { (line : List ℕ) → stands_on result line ≡ true }
 {
     let Number::Is(address) = text_values::read_dotted(value) else {
         return Read::Bad;
@@ -125,8 +125,8 @@ fn start_event(value: &[u8]) -> Read
 }
 
 fn stop_event(value: &[u8]) -> Read
-    ensures by_index { (line : List ℕ) → meant result line ≡ alone stop value.now }
-    ensures by_index_2 { (line : List ℕ) → stands_on result line ≡ true }
+    ensures meaning { (line : List ℕ) → meant result line ≡ alone stop value.now }
+    ensures stands { (line : List ℕ) → stands_on result line ≡ true }
 {
     let Number::Is(address) = text_values::read_dotted(value) else {
         return Read::Bad;
@@ -135,8 +135,8 @@ fn stop_event(value: &[u8]) -> Read
 }
 
 fn tick_event(value: &[u8]) -> Read
-    ensures by_index { (line : List ℕ) → meant result line ≡ slashed tick_event value.now }
-    ensures by_index_2 { (line : List ℕ) → stands_on result line ≡ true }
+    ensures meaning { (line : List ℕ) → meant result line ≡ slashed tick_event value.now }
+    ensures stands { (line : List ℕ) → stands_on result line ≡ true }
 {
     let Front::At(address, next) = read_front(value) else {
         return Read::Bad;
@@ -153,8 +153,8 @@ fn tick_event(value: &[u8]) -> Read
 // A message's octets stay on the line, behind its key of three octets.
 fn rx_event(line: &[u8]) -> Read
     requires { 3 ≤ length line.now }
-    ensures line_value { meant result line.now ≡ slashed rx_event (drop 3 line.now) }
-    ensures line_value_2 { stands_on result line.now ≡ true }
+    ensures meaning { meant result line.now ≡ slashed rx_event (drop 3 line.now) }
+    ensures stands { stands_on result line.now ≡ true }
 {
     let value = &line[3..];
     let Front::At(address, next) = read_front(value) else {
@@ -172,8 +172,8 @@ fn rx_event(line: &[u8]) -> Read
 
 // A line behind the first four, without the octet 10 that ends it.
 pub fn event(line: &[u8]) -> Read
-    ensures line_value { meant result line.now ≡ event_of line.now }
-    ensures line_value_2 { stands_on result line.now ≡ true }
+    ensures meaning { meant result line.now ≡ event_of line.now }
+    ensures stands { stands_on result line.now ≡ true }
 {
     if text_values::starts_with(line, b"add=") {
         return add_event(&line[4..]);

@@ -192,8 +192,8 @@ fn formed_answer(traced: bool, st: State, room: usize) -> u8
 
 // A bad event line.
 fn skip_line(p: Player, out: &mut [u8]) -> Told
-    ensures by_index { (table : List ℕ) → result ≡ told_of (reported (roomy out.old) p table 0 (bad_step p table)) }
-    ensures by_index_2 { (table : List ℕ) → out.new ≡ over (reported (roomy out.old) p table 0 (bad_step p table)).text out.old }
+    ensures value { (table : List ℕ) → result ≡ told_of (reported (roomy out.old) p table 0 (bad_step p table)) }
+    ensures out_after { (table : List ℕ) → out.new ≡ over (reported (roomy out.old) p table 0 (bad_step p table)).text out.old }
 {
     if out.len() < ROOM {
         return silent(p, 19);
@@ -211,8 +211,8 @@ fn skip_line(p: Player, out: &mut [u8]) -> Told
 // One of the first four lines is bad or missing, or fresh refused them.
 fn give_up(p: Player, answer: u8, used: usize, out: &mut [u8]) -> Told
     requires { answer ≡ 0 → ⊥ }
-    ensures by_index { (table : List ℕ) → result ≡ told_of (reported (roomy out.old) p table used (broken_step p table answer)) }
-    ensures by_index_2 { (table : List ℕ) → out.new ≡ over (reported (roomy out.old) p table used (broken_step p table answer)).text out.old }
+    ensures value { (table : List ℕ) → result ≡ told_of (reported (roomy out.old) p table used (broken_step p table answer)) }
+    ensures out_after { (table : List ℕ) → out.new ≡ over (reported (roomy out.old) p table used (broken_step p table answer)).text out.old }
 {
     if out.len() < ROOM {
         return silent(p, answer);
@@ -296,8 +296,8 @@ fn is_setting(lines: u64, line: &[u8]) -> bool
 
 // All that are to come before it are read: a fresh state.
 fn begin_state(p: Player, settings: Settings, used: usize, out: &mut [u8]) -> Told
-    ensures by_index { (table : List ℕ) → result ≡ told_of (reported (roomy out.old) p table used (fresh_step p table settings)) }
-    ensures by_index_2 { (table : List ℕ) → out.new ≡ over (reported (roomy out.old) p table used (fresh_step p table settings)).text out.old }
+    ensures value { (table : List ℕ) → result ≡ told_of (reported (roomy out.old) p table used (fresh_step p table settings)) }
+    ensures out_after { (table : List ℕ) → out.new ≡ over (reported (roomy out.old) p table used (fresh_step p table settings)).text out.old }
 {
     let o = gateway_slots::fresh(settings);
     if o.answer != 0 {
@@ -309,8 +309,8 @@ fn begin_state(p: Player, settings: Settings, used: usize, out: &mut [u8]) -> To
 
 // A line of settings.
 fn take_setting(p: Player, line: &[u8], used: usize, out: &mut [u8]) -> Told
-    ensures by_index { (table : List ℕ) → result ≡ told_of (reported (roomy out.old) p table used (head_step p table line.now)) }
-    ensures by_index_2 { (table : List ℕ) → out.new ≡ over (reported (roomy out.old) p table used (head_step p table line.now)).text out.old }
+    ensures value { (table : List ℕ) → result ≡ told_of (reported (roomy out.old) p table used (head_step p table line.now)) }
+    ensures out_after { (table : List ℕ) → out.new ≡ over (reported (roomy out.old) p table used (head_step p table line.now)).text out.old }
 {
     let settings = p.settings;
     let heard = read_setting(settings, p.lines, line);
@@ -469,8 +469,8 @@ pub fn turn(p: Player, line: &mut [u8], table: &mut [u32], input: &[u8], out: &m
 
 // The recording is over: a line that did not end is bad, and so is a missing one of the first four.
 pub fn close(p: Player, out: &mut [u8]) -> Told
-    ensures by_index { (table : List ℕ) → result ≡ told_of (close_step (roomy out.old) p table) }
-    ensures by_index_2 { (table : List ℕ) → out.new ≡ over (close_step (roomy out.old) p table).text out.old }
+    ensures value { (table : List ℕ) → result ≡ told_of (close_step (roomy out.old) p table) }
+    ensures out_after { (table : List ℕ) → out.new ≡ over (close_step (roomy out.old) p table).text out.old }
 {
     if p.broken {
         return silent(p, 0);

@@ -14,8 +14,8 @@ returns-then-v-ne0-clause-value c = packed_lengths _ _ _ _ c.pack-result.ensures
 pub returns-then-v-ne0-clause-block_after : goal.returns-then-v-ne0-clause-block_after
 returns-then-v-ne0-clause-block_after c = sym (if_ok_old _ _ _ c.if-v-ne0.true)
 
-pub returns-then-v-ne0-clause-by_index : goal.returns-then-v-ne0-clause-by_index
-returns-then-v-ne0-clause-by_index c = λ counts. sym (if_ok_old _ _ _ c.if-v-ne0.true)
+pub returns-then-v-ne0-clause-table_after : goal.returns-then-v-ne0-clause-table_after
+returns-then-v-ne0-clause-table_after c = λ counts. sym (if_ok_old _ _ _ c.if-v-ne0.true)
 
 pub returns-then-v-ne0-clause-buffer_after : goal.returns-then-v-ne0-clause-buffer_after
 returns-then-v-ne0-clause-buffer_after c = c.send-lengths.ensures.buffer_after
@@ -29,8 +29,8 @@ returns-clause-value c = packed_lengths _ _ _ _ c.pack-result.ensures c.send-len
 pub returns-clause-block_after : goal.returns-clause-block_after
 returns-clause-block_after c = c.put_slot.ensures ∙ ap (λ (y : Slot). sets c.args.block.now (slot_start c.args.i) (slot_octets y)) (c.slot_after.ensures _ c.requires.home_value.1) ∙ sym (if_ok_new _ _ _ c.if-v-ne0.false)
 
-pub returns-clause-by_index : goal.returns-clause-by_index
-returns-clause-by_index c = λ counts. c.change_rows.ensures counts ∙ sym (if_ok_new _ _ _ c.if-v-ne0.false)
+pub returns-clause-table_after : goal.returns-clause-table_after
+returns-clause-table_after c = λ counts. c.change_rows.ensures counts ∙ sym (if_ok_new _ _ _ c.if-v-ne0.false)
 
 pub returns-clause-buffer_after : goal.returns-clause-buffer_after
 returns-clause-buffer_after c = c.send-lengths.ensures.buffer_after

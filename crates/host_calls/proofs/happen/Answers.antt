@@ -40,4 +40,4 @@ pub apply-requires : goal.apply-requires
 apply-requires c = rw c.settings_of-settings.ensures (record { block_len = found_room c.args.event c.args.block.now c.args.table.now c.args.reply.now c.args.address (sym (c.lent_answer-lent.ensures c.args.table.now c.args.reply.now refl refl) ∙ c.if-lent-ne0.false) _ c.slot_of-i.ensures c.if-i-ge-SLOTS.false _ c.slot_at-found.ensures; home_value = happen_asked c.args.event c.args.block.now c.args.table.now c.args.reply.now c.args.address (sym (c.lent_answer-lent.ensures c.args.table.now c.args.reply.now refl refl) ∙ c.if-lent-ne0.false) _ c.slot_of-i.ensures c.if-i-ge-SLOTS.false _ c.slot_at-found.ensures (sym c.has_time.ensures ∙ c.if-not-has_time.false) _ c.book-slot.ensures (λ i. omega (arith, c.slice_known-1.given i)) (λ i. omega (arith, c.slice_known-2-1.given i)) _ _ (rw c.settings_of-settings.ensures at c.step-after.ensures) c.step_verdict-v.ensures })
 
 pub returns : goal.returns
-returns c = let both = happen_done c.args.event c.args.block.now c.args.table.now c.args.reply.now c.args.address (sym (c.lent_answer-lent.ensures c.args.table.now c.args.reply.now refl refl) ∙ c.if-lent-ne0.false) _ c.slot_of-i.ensures c.if-i-ge-SLOTS.false _ c.slot_at-found.ensures (sym c.has_time.ensures ∙ c.if-not-has_time.false) _ c.book-slot.ensures (λ i. omega (arith, c.slice_known-1.given i)) (λ i. omega (arith, c.slice_known-2-1.given i)) _ _ (rw c.settings_of-settings.ensures at c.step-after.ensures) c.step_verdict-v.ensures _ _ _ _ c.apply.ensures.value (rw c.settings_of-settings.ensures at c.apply.ensures.block_after) (rw c.settings_of-settings.ensures at c.apply.ensures.by_index) c.apply.ensures.buffer_after in record { value = both.0; block_after = both.1.0; table_after = both.1.1.0; reply_after = both.1.1.1 }
+returns c = let both = happen_done c.args.event c.args.block.now c.args.table.now c.args.reply.now c.args.address (sym (c.lent_answer-lent.ensures c.args.table.now c.args.reply.now refl refl) ∙ c.if-lent-ne0.false) _ c.slot_of-i.ensures c.if-i-ge-SLOTS.false _ c.slot_at-found.ensures (sym c.has_time.ensures ∙ c.if-not-has_time.false) _ c.book-slot.ensures (λ i. omega (arith, c.slice_known-1.given i)) (λ i. omega (arith, c.slice_known-2-1.given i)) _ _ (rw c.settings_of-settings.ensures at c.step-after.ensures) c.step_verdict-v.ensures _ _ _ _ c.apply.ensures.value (rw c.settings_of-settings.ensures at c.apply.ensures.block_after) (rw c.settings_of-settings.ensures at c.apply.ensures.table_after) c.apply.ensures.buffer_after in record { value = both.0; block_after = both.1.0; table_after = both.1.1.0; reply_after = both.1.1.1 }

@@ -57,4 +57,4 @@ pub apply-requires : goal.apply-requires
 apply-requires c = rw c.settings_of-settings.ensures (record { block_len = heard_room c.args.block.now c.args.table.now c.args.reply.now c.args.home.now c.args.address c.args.message.now (sym (c.lent_answer-lent.ensures c.args.table.now c.args.reply.now refl refl) ∙ c.if-lent-ne0.false) (rw c.settings_of-settings.ensures at (sym c.good_home.ensures ∙ c.if-not-good_home.false)) _ _ c.slot_of-i.ensures c.if-i-ge-SLOTS.false c.slot_at-slot.ensures; home_value = take_asked c.args.block.now c.args.table.now c.args.reply.now c.args.home.now c.args.address c.args.message.now (sym (c.lent_answer-lent.ensures c.args.table.now c.args.reply.now refl refl) ∙ c.if-lent-ne0.false) (rw c.settings_of-settings.ensures at (sym c.good_home.ensures ∙ c.if-not-good_home.false)) _ _ c.slot_of-i.ensures c.if-i-ge-SLOTS.false c.slot_at-slot.ensures (λ i. omega (arith, c.slice_known-1.given i)) (λ i. omega (arith, c.slice_known-2-1.given i)) _ (rw c.settings_of-settings.ensures at c.take-v.ensures) })
 
 pub returns : goal.returns
-returns c = let both = take_done c.args.block.now c.args.table.now c.args.reply.now c.args.home.now c.args.address c.args.message.now (sym (c.lent_answer-lent.ensures c.args.table.now c.args.reply.now refl refl) ∙ c.if-lent-ne0.false) (rw c.settings_of-settings.ensures at (sym c.good_home.ensures ∙ c.if-not-good_home.false)) _ _ c.slot_of-i.ensures c.if-i-ge-SLOTS.false c.slot_at-slot.ensures (λ i. omega (arith, c.slice_known-1.given i)) (λ i. omega (arith, c.slice_known-2-1.given i)) _ (rw c.settings_of-settings.ensures at c.take-v.ensures) _ _ _ _ c.apply.ensures.value (rw c.settings_of-settings.ensures at c.apply.ensures.block_after) (rw c.settings_of-settings.ensures at c.apply.ensures.by_index) c.apply.ensures.buffer_after in record { value = both.0; block_after = both.1.0; table_after = both.1.1.0; reply_after = both.1.1.1 }
+returns c = let both = take_done c.args.block.now c.args.table.now c.args.reply.now c.args.home.now c.args.address c.args.message.now (sym (c.lent_answer-lent.ensures c.args.table.now c.args.reply.now refl refl) ∙ c.if-lent-ne0.false) (rw c.settings_of-settings.ensures at (sym c.good_home.ensures ∙ c.if-not-good_home.false)) _ _ c.slot_of-i.ensures c.if-i-ge-SLOTS.false c.slot_at-slot.ensures (λ i. omega (arith, c.slice_known-1.given i)) (λ i. omega (arith, c.slice_known-2-1.given i)) _ (rw c.settings_of-settings.ensures at c.take-v.ensures) _ _ _ _ c.apply.ensures.value (rw c.settings_of-settings.ensures at c.apply.ensures.block_after) (rw c.settings_of-settings.ensures at c.apply.ensures.table_after) c.apply.ensures.buffer_after in record { value = both.0; block_after = both.1.0; table_after = both.1.1.0; reply_after = both.1.1.1 }

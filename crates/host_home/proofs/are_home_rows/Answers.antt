@@ -31,7 +31,7 @@ loop-rest-smaller c = let l = rw (part_from_lem 12 c.loop-rest.rest.now, length-
 pub loop-rest-preserved : goal.loop-rest-preserved
 loop-rest-preserved c = c.loop-rest.invariant ∙ passed _ c.loop-rest.rest.now _ c.loop-rest-test.true
     (sym c.if-not-is_home_row.false ∙ rw (c.net_of-net.ensures, c.gateway_of-gateway.ensures, c.third_of-third.ensures) at c.is_home_row.ensures)
-    (rw (part_from_lem 12 c.loop-rest.rest.now, c.gateway_of-gateway.ensures, c.third_of-third.ensures) at c.past_same-rest.ensures.by_index)
+    (rw (part_from_lem 12 c.loop-rest.rest.now, c.gateway_of-gateway.ensures, c.third_of-third.ensures) at c.past_same-rest.ensures.every_row)
 
 pub returns : goal.returns
 returns c = sym (c.loop-rest.invariant ∙ no_row _ _ c.loop-rest-test.false)

@@ -20,8 +20,8 @@ third_of-requires c = c.loop-rest-test.true
 pub returns-then-beside-both-clause-result_in_bounds : goal.returns-then-beside-both-clause-result_in_bounds
 returns-then-beside-both-clause-result_in_bounds c = c.loop-rest.invariant.within
 
-pub returns-then-beside-both-clause-by_index : goal.returns-then-beside-both-clause-by_index
-returns-then-beside-both-clause-by_index c = c.loop-rest.invariant.same
+pub returns-then-beside-both-clause-every_row : goal.returns-then-beside-both-clause-every_row
+returns-then-beside-both-clause-every_row c = c.loop-rest.invariant.same
 
 pub net_of-requires : goal.net_of-requires
 net_of-requires c = c.loop-rest-test.true
@@ -29,8 +29,8 @@ net_of-requires c = c.loop-rest-test.true
 pub returns-then-not-good_net-clause-result_in_bounds : goal.returns-then-not-good_net-clause-result_in_bounds
 returns-then-not-good_net-clause-result_in_bounds c = c.loop-rest.invariant.within
 
-pub returns-then-not-good_net-clause-by_index : goal.returns-then-not-good_net-clause-by_index
-returns-then-not-good_net-clause-by_index c = c.loop-rest.invariant.same
+pub returns-then-not-good_net-clause-every_row : goal.returns-then-not-good_net-clause-every_row
+returns-then-not-good_net-clause-every_row c = c.loop-rest.invariant.same
 
 pub loop-rest-smaller : goal.loop-rest-smaller
 loop-rest-smaller c = rw (part_from_lem 12 c.loop-rest.rest.now) (simp length-drop (omega arith))
@@ -46,5 +46,5 @@ loop-rest-preserved c =
 pub returns-clause-result_in_bounds : goal.returns-clause-result_in_bounds
 returns-clause-result_in_bounds c = c.loop-rest.invariant.within
 
-pub returns-clause-by_index : goal.returns-clause-by_index
-returns-clause-by_index c = c.loop-rest.invariant.same
+pub returns-clause-every_row : goal.returns-clause-every_row
+returns-clause-every_row c = c.loop-rest.invariant.same

@@ -9,4 +9,4 @@ pub tell_silent-requires-clause-in_bounds : goal.tell_silent-requires-clause-in_
 tell_silent-requires-clause-in_bounds c = c.requires
 
 pub returns : goal.returns
-returns c = let both = add_done c.args.t c.args.st c.args.address c.args.out.now c.args.asn c.add-o.ensures (c.tell_silent.ensures.value, c.tell_silent.ensures.out_after) in record { by_index = both.0; by_index_2 = both.1 }
+returns c = let both = add_done c.args.t c.args.st c.args.address c.args.out.now c.args.asn c.add-o.ensures (c.tell_silent.ensures.value, c.tell_silent.ensures.out_after) in record { value = both.0; out_after = both.1 }

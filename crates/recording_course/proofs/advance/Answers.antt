@@ -16,11 +16,11 @@ returns-in-Play c = let a = c.args in at_step a.out.now a.c a.line.now a.table.n
 
 pub returns-in-Close : goal.returns-in-Close
 unfolding course_at close_on ended_by
-returns-in-Close c = let a = c.args in at_step a.out.now a.c a.line.now a.table.now a.piece.now Close c.in-Close.is _ _ _ _ (record { value = c.close_on.ensures.by_index a.line.now a.table.now; line_after = refl; table_after = refl; out_after = c.close_on.ensures.by_index_2 a.line.now a.table.now })
+returns-in-Close c = let a = c.args in at_step a.out.now a.c a.line.now a.table.now a.piece.now Close c.in-Close.is _ _ _ _ (record { value = c.close_on.ensures.value a.line.now a.table.now; line_after = refl; table_after = refl; out_after = c.close_on.ensures.out_after a.line.now a.table.now })
 
 pub returns-in-List : goal.returns-in-List
 unfolding course_at list_on ended_by
-returns-in-List c = let a = c.args in at_step a.out.now a.c a.line.now a.table.now a.piece.now Listing c.in-List.is _ _ _ _ (record { value = c.list_on.ensures.by_index a.line.now; line_after = refl; table_after = refl; out_after = c.list_on.ensures.by_index_2 a.line.now })
+returns-in-List c = let a = c.args in at_step a.out.now a.c a.line.now a.table.now a.piece.now Listing c.in-List.is _ _ _ _ (record { value = c.list_on.ensures.value a.line.now; line_after = refl; table_after = refl; out_after = c.list_on.ensures.out_after a.line.now })
 
 pub returns-in-Over : goal.returns-in-Over
 unfolding course_at still_on over

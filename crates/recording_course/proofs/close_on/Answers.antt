@@ -8,4 +8,4 @@ pub returns : goal.returns
 unfolding close_on ended_by
 returns c =
     let a = c.args in let t = c.close-t in
-    record { by_index = λ line table. ended_by_lem a.c _ Listing line table t.result (t.ensures.by_index table); by_index_2 = λ line table. t.ensures.by_index_2 table }
+    record { value = λ line table. ended_by_lem a.c _ Listing line table t.result (t.ensures.value table); out_after = λ line table. t.ensures.out_after table }

@@ -8,4 +8,4 @@ pub returns : goal.returns
 unfolding list_on ended_by
 returns c =
     let a = c.args in let t = c.finish-t in
-    record { by_index = λ line. ended_by_lem a.c _ Over line a.table.now t.result t.ensures.value; by_index_2 = λ line. t.ensures.out_after }
+    record { value = λ line. ended_by_lem a.c _ Over line a.table.now t.result t.ensures.value; out_after = λ line. t.ensures.out_after }

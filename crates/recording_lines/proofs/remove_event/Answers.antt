@@ -8,7 +8,7 @@ pub read_dotted-requires : goal.read_dotted-requires
 read_dotted-requires c = tt
 
 pub returns-in_default : goal.returns-in_default
-returns-in_default c = let both = says_bad (alone remove c.args.value.now) (alone_bad remove c.args.value.now (sym c.read_dotted.ensures ∙ c.in_default.is)) in record { by_index = both.0; by_index_2 = both.1 }
+returns-in_default c = let both = says_bad (alone remove c.args.value.now) (alone_bad remove c.args.value.now (sym c.read_dotted.ensures ∙ c.in_default.is)) in record { meaning = both.0; stands = both.1 }
 
 pub returns : goal.returns
-returns c = let both = remove_said c.args.value.now c.in-Is.address (sym c.read_dotted.ensures ∙ c.in-Is.is) in record { by_index = both.0; by_index_2 = both.1 }
+returns c = let both = remove_said c.args.value.now c.in-Is.address (sym c.read_dotted.ensures ∙ c.in-Is.is) in record { meaning = both.0; stands = both.1 }

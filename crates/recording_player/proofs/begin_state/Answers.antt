@@ -6,7 +6,7 @@ use Rattle.recording_player.proofs.Laws.{for_each, taken_as, silent_using, repor
 use Rattle.recording_player.proofs.begin_state.Goals as goal
 
 pub returns-then-o-ne0 : goal.returns-then-o-ne0
-returns-then-o-ne0 c = let both = for_each (λ table. taken_as c.args.out.now (reported_as (roomy c.args.out.now) c.args.p table c.args.used (fresh_refused c.args.p table c.args.settings _ c.fresh-o.ensures c.if-o-ne0.true)) (c.give_up.ensures.by_index table, c.give_up.ensures.by_index_2 table)) in record { by_index = both.0; by_index_2 = both.1 }
+returns-then-o-ne0 c = let both = for_each (λ table. taken_as c.args.out.now (reported_as (roomy c.args.out.now) c.args.p table c.args.used (fresh_refused c.args.p table c.args.settings _ c.fresh-o.ensures c.if-o-ne0.true)) (c.give_up.ensures.value table, c.give_up.ensures.out_after table)) in record { value = both.0; out_after = both.1 }
 
 pub returns : goal.returns
 returns c =
@@ -17,4 +17,4 @@ returns c =
     silent_using _ q table c.args.used _ _ c.args.out.now
     (reported_as (roomy c.args.out.now) c.args.p table c.args.used (fresh_had c.args.p table c.args.settings _ c.fresh-o.ensures c.if-o-ne0.false) ∙ reported_silent (roomy c.args.out.now) c.args.p q table c.args.used)
     (c.silent.ensures table ∙ ap (λ (x : Player). told_of (silent_step x table 0)) e) c.with_used.ensures) in
-    record { by_index = both.0; by_index_2 = both.1 }
+    record { value = both.0; out_after = both.1 }

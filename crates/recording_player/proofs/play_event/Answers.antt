@@ -34,15 +34,15 @@ hear_neighbour-requires c =
     rw (part_from_lem c.in-Receive.at c.args.line.now) (s.1.1, s.1.0, lent_room c.args.out.now c.args.p.state (length c.args.table.now) (sym (asks_rx c.args.p.traced (roomy c.args.out.now) c.args.p.state (length c.args.table.now) c.args.read c.args.line.now c.in-Receive.a c.in-Receive.at c.in-Receive.is) ∙ c.requires.1))
 
 pub returns-in-Bad : goal.returns-in-Bad
-returns-in-Bad c = let both = made_as c.args.out.now (event_bad c.args.p c.args.table.now c.args.read c.args.line.now c.in-Bad.is) (bad_made c.args.p c.args.table.now _ c.args.out.now _ (sym (asks_bad c.args.p.traced (roomy c.args.out.now) c.args.p.state (length c.args.table.now) c.args.read c.args.line.now c.in-Bad.is) ∙ c.requires.1) (c.skip_line.ensures.by_index c.args.table.now) (c.skip_line.ensures.by_index_2 c.args.table.now)) in record { value = both.0; table_after = both.1.0; out_after = both.1.1 }
+returns-in-Bad c = let both = made_as c.args.out.now (event_bad c.args.p c.args.table.now c.args.read c.args.line.now c.in-Bad.is) (bad_made c.args.p c.args.table.now _ c.args.out.now _ (sym (asks_bad c.args.p.traced (roomy c.args.out.now) c.args.p.state (length c.args.table.now) c.args.read c.args.line.now c.in-Bad.is) ∙ c.requires.1) (c.skip_line.ensures.value c.args.table.now) (c.skip_line.ensures.out_after c.args.table.now)) in record { value = both.0; table_after = both.1.0; out_after = both.1.1 }
 
 pub returns-in-Add : goal.returns-in-Add
 unfolding table_left on
-returns-in-Add c = let both = made_as c.args.out.now (event_add c.args.p c.args.table.now c.args.read c.args.line.now c.in-Add.a c.in-Add.asn c.in-Add.is) (call_made c.args.p _ c.next_line-next.ensures _ c.telling-t.ensures c.args.table.now _ _ _ c.args.out.now _ (M.add c.in-Add.a c.in-Add.asn) (c.add_neighbour.ensures.by_index c.args.table.now) c.carry.ensures refl (c.add_neighbour.ensures.by_index_2 c.args.table.now)) in record { value = both.0; table_after = both.1.0; out_after = both.1.1 }
+returns-in-Add c = let both = made_as c.args.out.now (event_add c.args.p c.args.table.now c.args.read c.args.line.now c.in-Add.a c.in-Add.asn c.in-Add.is) (call_made c.args.p _ c.next_line-next.ensures _ c.telling-t.ensures c.args.table.now _ _ _ c.args.out.now _ (M.add c.in-Add.a c.in-Add.asn) (c.add_neighbour.ensures.value c.args.table.now) c.carry.ensures refl (c.add_neighbour.ensures.out_after c.args.table.now)) in record { value = both.0; table_after = both.1.0; out_after = both.1.1 }
 
 pub returns-in-Remove : goal.returns-in-Remove
 unfolding table_left on
-returns-in-Remove c = let both = made_as c.args.out.now (event_remove c.args.p c.args.table.now c.args.read c.args.line.now c.in-Remove.a c.in-Remove.is) (call_made c.args.p _ c.next_line-next.ensures _ c.telling-t.ensures c.args.table.now _ _ _ c.args.out.now _ (M.remove c.in-Remove.a) (c.remove_neighbour.ensures.by_index c.args.table.now) c.carry-in-Remove.ensures refl (c.remove_neighbour.ensures.by_index_2 c.args.table.now)) in record { value = both.0; table_after = both.1.0; out_after = both.1.1 }
+returns-in-Remove c = let both = made_as c.args.out.now (event_remove c.args.p c.args.table.now c.args.read c.args.line.now c.in-Remove.a c.in-Remove.is) (call_made c.args.p _ c.next_line-next.ensures _ c.telling-t.ensures c.args.table.now _ _ _ c.args.out.now _ (M.remove c.in-Remove.a) (c.remove_neighbour.ensures.value c.args.table.now) c.carry-in-Remove.ensures refl (c.remove_neighbour.ensures.out_after c.args.table.now)) in record { value = both.0; table_after = both.1.0; out_after = both.1.1 }
 
 pub returns-in-Start : goal.returns-in-Start
 returns-in-Start c = let both = made_as c.args.out.now (event_start c.args.p c.args.table.now c.args.read c.args.line.now c.in-Start.a c.in-Start.is) (call_made c.args.p _ c.next_line-next.ensures _ c.telling-t.ensures c.args.table.now _ _ _ c.args.out.now _ (M.start c.in-Start.a lent) c.start_neighbour.ensures.value c.carry-in-Start.ensures c.start_neighbour.ensures.table_after c.start_neighbour.ensures.out_after) in record { value = both.0; table_after = both.1.0; out_after = both.1.1 }

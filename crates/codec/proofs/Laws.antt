@@ -4,7 +4,7 @@ use native.Mathlib.Omega.{arith}
 use borrow.Author.Tests.{le-leb, lt-leb, ne_eqb}
 use mathlib.Core.Path.{◌≡◌, refl, sym, ◌∙◌}
 use mathlib.Core.Bool.{true, false}
-use mathlib.Core.List.{List, [], ◌∷◌}
+use mathlib.Core.List.{List}
 use lib.ListN.{length}
 use lib.Dec.{leb, eqb}
 use Rattle.checks.proofs.Laws.{and_right, check_holds, check_fails}
@@ -15,7 +15,6 @@ use Rattle.nets.specs.Rows.{rows_of}
 use Rattle.message.specs.Kinds.{kind_of, status_of, status_allowed}
 use Rattle.message.specs.declared.Message.{Message}
 use Rattle.message.specs.declared.Message.TheVariants.{Request, Confirm, Refuse, Cease, CeaseAck, Hello, IHeardYou, Poll, Update, Error}
-use Rattle.message.specs.contracts.Message.{the_type}
 use Rattle.codec_writing.specs.Octets.{message_octets}
 use Rattle.codec_writing.specs.Room.{rows_fit}
 use Rattle.codec_writing.proofs.Laws.{room_most, octets_fit}

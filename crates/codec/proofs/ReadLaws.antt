@@ -4,7 +4,7 @@ use native.Mathlib.Omega.{arith}
 use borrow.Author.Tests.{leb-true, eq-eqb, ne_eqb}
 use mathlib.Core.Path.{◌≡◌, refl}
 use mathlib.Core.Bool.{Bool, true, false, cond}
-use mathlib.Core.List.{List, [], ◌∷◌}
+use mathlib.Core.List.{List}
 use lib.ListN.{length}
 use lib.Dec.{leb}
 use Rattle.nets.specs.Rows.{flat}
@@ -14,12 +14,10 @@ use Rattle.message_reading.specs.Reading.{header_answer, decode_of}
 use Rattle.message_reading.specs.Reading as Wire
 use Rattle.message_reading.specs.declared.Decoded.{Decoded}
 use Rattle.message_reading.specs.declared.Decoded.TheVariants as D
-use Rattle.message_reading.specs.contracts.Decoded as DecodedType
 use Rattle.update_walk.specs.Body.{Walk, whole, broken, walked_blocks, read_within, UpdateRead, accepted, broken_at, too_many, update_of, walked_of, walked_number}
 use Rattle.update_walk.specs.Body as Body
 use Rattle.update_walk.specs.declared.Walked.{Walked}
 use Rattle.update_walk.specs.declared.Walked.TheVariants.{Rows, Broken, TooMany}
-use Rattle.update_walk.specs.contracts.Walked as WalkedType
 use Rattle.update_rows.specs.Storing.{padded, is_whole, walked_rows, Storable}
 use Rattle.codec.specs.Reading.{most_read, refusal, rowless, update_reading, meaning_reading, kind_reading, read_of}
 use Rattle.codec.specs.declared.Meaning.TheVariants.{Good}

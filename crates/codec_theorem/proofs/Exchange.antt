@@ -10,7 +10,7 @@ use mathlib.Core.List.{List, [], ◌∷◌, ◌++◌}
 use lib.Dec.{ltb, leb, eqb}
 use lib.ListN.{length, take, drop, get_or}
 use lib.Seq.{drop-cons, take_at}
-use Rattle.checks.specs.Checks.{check, if_ok}
+use Rattle.checks.specs.Checks.{check}
 use Rattle.checks.proofs.Laws.{and_left, and_right, and_both, check_passed, check_holds, if_ok_new}
 use Rattle.checks.specs.Lists.{every}
 use Rattle.octets.specs.Numbers.{Octets, word16, word32}

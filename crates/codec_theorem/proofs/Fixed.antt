@@ -1,5 +1,5 @@
 -- Reading and writing undo each other, an Update's blocks left out. Assumes nothing.
-use Prim.Native.Nat.{ℕ, zero, suc, ◌+◌, ◌/◌, ◌%◌, ◌≤◌, ◌<◌}
+use Prim.Native.Nat.{ℕ, zero, suc, ◌+◌, ◌≤◌, ◌<◌}
 use native.Mathlib.Omega.{arith}
 use borrow.Author.Tests.{eqb-true}
 use mathlib.Core.Path.{◌≡◌, refl, sym, ap, ◌∙◌}
@@ -23,7 +23,7 @@ use Rattle.message.specs.declared.Message.TheVariants.{Request, Confirm, Refuse,
 use Rattle.message_reading.specs.declared.Decoded.TheVariants.{Good, BadStatus, BadLength}
 use Rattle.message_reading.specs.Reading.{status_at, asn_at, sequence_at, header_answer, meaning_of, decode_as, decode_of}
 use Rattle.nets.specs.Rows.{Row}
-use Rattle.message_writing.specs.Writing.{headed, head_of}
+use Rattle.message_writing.specs.Writing.{headed}
 use Rattle.codec_writing.specs.Octets.{plain_octets, message_octets}
 use Rattle.codec_theorem.specs.Widths.{HeadFits, InWidths}
 use Rattle.message_reading.proofs.Laws.{header_good, header_passed}

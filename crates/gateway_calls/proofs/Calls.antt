@@ -2,11 +2,11 @@
 use Prim.Native.Nat.{ℕ, ◌≤◌, ◌<◌}
 use mathlib.Core.Path.{◌≡◌, refl, sym, ◌∙◌, ap}
 use mathlib.Core.Bool.{true}
-use mathlib.Core.List.{List, [], ◌∷◌}
+use mathlib.Core.List.{List, []}
 use lib.ListN.{length}
 use Rattle.checks.proofs.Laws.{if_ok_new, if_ok_old}
 use Rattle.octets.specs.Buffer.{over}
-use Rattle.nets.specs.Rows.{Row, rows_of}
+use Rattle.nets.specs.Rows.{rows_of}
 use Rattle.message_reading.specs.Reading.{decode_of}
 use Rattle.message_reading.specs.Reading as Wire
 use Rattle.message.specs.declared.Message.{Message}

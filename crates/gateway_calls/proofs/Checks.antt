@@ -1,6 +1,6 @@
 -- Laws of the checks that come before anything is done: the first that fails answers. Assumes nothing.
 use Prim.Native.Nat.{ℕ, ◌≤◌, ◌<◌}
-use borrow.Author.Tests.{eq-eqb, ne_eqb, eqb-true, le-leb, lt-leb, leb-true, lt-ltb, le-ltb, ltb-true}
+use borrow.Author.Tests.{eq-eqb, ne_eqb, le-leb, lt-leb, lt-ltb, le-ltb}
 use mathlib.Core.Path.{◌≡◌, refl, sym, ◌∙◌}
 use mathlib.Core.Bool.{Bool, true, false}
 use mathlib.Core.List.{List}
@@ -11,7 +11,7 @@ use Rattle.checks.specs.Checks.{check}
 use Rattle.neighbour_machine.specs.declared.Event.{Event}
 use Rattle.neighbour_machine.specs.Intrinsics.{Intrinsic, as_event}
 use Rattle.gateway_state.specs.declared.State.{State}
-use Rattle.gateway_state.specs.Slots.{slot_at, slot_of, present}
+use Rattle.gateway_state.specs.Slots.{slot_at, slot_of}
 use Rattle.gateway_state.specs.Formed.{state_formed}
 use Rattle.gateway_rules.specs.Home.{good_home}
 use Rattle.gateway_rules.specs.Seconds.{has_time}

@@ -1,18 +1,15 @@
 -- What a ruling sends can be sent, and the rows that it stores are there. Assumes nothing.
-use Prim.Native.Nat.{ℕ, ◌≤◌}
-use native.Mathlib.Omega.{arith}
+use Prim.Native.Nat.{ℕ}
 use borrow.Author.Tests.{eq-eqb, le-leb}
-use mathlib.Core.Path.{◌≡◌, refl, sym, ◌∙◌, ap}
-use mathlib.Core.Bool.{true, false, ◌&&◌, false≢true}
+use mathlib.Core.Path.{◌≡◌, refl, ap}
+use mathlib.Core.Bool.{true, false≢true}
 use mathlib.Core.List.{List}
-use lib.Dec.{leb, eqb}
 use lib.ListN.{length}
 use Rattle.checks.proofs.Laws.{and_both}
 use Rattle.nets.specs.Classes.{good_net}
-use Rattle.nets.specs.Rows.{Row}
 use Rattle.message.specs.declared.Message.{Message}
 use Rattle.message.specs.declared.Message.TheVariants as M
-use Rattle.update_walk.specs.Body.{Walk, whole, accepted, update_of, walked_blocks}
+use Rattle.update_walk.specs.Body.{Walk, walked_blocks}
 use Rattle.update_walk.proofs.Accepted.{accepted_is}
 use Rattle.update_rows.specs.Storing.{walked_rows}
 use Rattle.update_writing.specs.Writable.{writable_numbers}
@@ -21,7 +18,6 @@ use Rattle.neighbour.specs.declared.Settings.{Settings}
 use Rattle.neighbour_machine.specs.declared.Reply.{Reply}
 use Rattle.neighbour_machine.specs.Laws.{short, may_send}
 use Rattle.neighbour_machine.proofs.Sends.{send_elim}
-use Rattle.gateway_rules.specs.declared.Verdict.{Verdict}
 use Rattle.gateway_rules.specs.Ruling.{Change, keep, clear, replace, Ruling, effect_of, verdict_of}
 use Rattle.gateway_rules.proofs.Rulings.{Backed}
 use Rattle.gateway_carry.specs.Asked.{brief, sendable, takes, change_of, ruling_of}

@@ -7,8 +7,7 @@ use mathlib.Core.Bool.{Bool, true, false, cond, not, ◌&&◌, false≢true}
 use mathlib.Core.List.{List}
 use lib.Dec.{eqb}
 use Rattle.checks.specs.Checks.{check, if_ok}
-use Rattle.checks.proofs.Laws.{check_passed, cond_elim, if_ok_new, if_ok_old}
-use Rattle.nets.specs.Rows.{Row}
+use Rattle.checks.proofs.Laws.{check_passed, if_ok_new, if_ok_old}
 use Rattle.message.specs.Kinds.{kind_of, status_allowed, length_allowed}
 use Rattle.message.specs.declared.Kind.{Kind}
 use Rattle.message.specs.declared.Kind.TheVariants as K

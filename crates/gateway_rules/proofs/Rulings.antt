@@ -1,13 +1,12 @@
 -- What holds of every ruling on a message: it is refused by its number, or carried out. Assumes nothing.
 use Prim.Native.Nat.{ℕ}
-use mathlib.Core.Path.{◌≡◌, refl, sym, ◌∙◌, ap, subst}
-use mathlib.Core.Bool.{Bool, true, false, cond, not, ◌&&◌}
+use mathlib.Core.Path.{◌≡◌, refl, sym, ◌∙◌}
+use mathlib.Core.Bool.{not, ◌&&◌}
 use mathlib.Core.List.{List}
 use lib.Dec.{eqb}
 use borrow.Author.Tests.{eqb-true, eqb-false}
 use Rattle.checks.specs.Checks.{if_ok}
 use Rattle.checks.proofs.Laws.{cond_elim}
-use Rattle.nets.specs.Rows.{Row}
 use Rattle.message_reading.specs.Reading.{kind_in, decode_of}
 use Rattle.update_walk.specs.Body.{accepted, update_of, rows_read}
 use Rattle.neighbour.specs.declared.Phase.{Phase}

@@ -1,10 +1,10 @@
 -- Laws of a ruling on one neighbour's message. Assumes nothing.
 use Prim.Native.Nat.{ℕ, ◌<◌, ◌≤◌}
 use native.Mathlib.Omega.{arith}
-use borrow.Author.Tests.{eq-eqb, ne_eqb, eqb-true, eqb-false, le-leb, lt-leb}
+use borrow.Author.Tests.{ne_eqb, eqb-true, eqb-false, le-leb, lt-leb}
 use mathlib.Core.Path.{◌≡◌, refl, sym, ◌∙◌, ap}
-use mathlib.Core.Bool.{Bool, true, false, cond, not, ◌&&◌, false≢true}
-use mathlib.Core.List.{List, [], ◌∷◌}
+use mathlib.Core.Bool.{Bool, true, false, cond, ◌&&◌}
+use mathlib.Core.List.{List}
 use lib.Dec.{eqb}
 use lib.ListN.{length}
 use Rattle.checks.specs.Checks.{check, if_ok}
@@ -14,17 +14,14 @@ use Rattle.message.specs.Kinds.{kind_of}
 use Rattle.message.specs.declared.Kind.TheVariants as K
 use Rattle.message.specs.declared.Message.{Message}
 use Rattle.message.specs.declared.Message.TheVariants.{Request, Confirm, Refuse, Cease, CeaseAck, Hello, IHeardYou, Poll, Update, Error}
-use Rattle.message.specs.contracts.Message.{the_type}
 use Rattle.message_reading.specs.Reading.{header_answer, asn_at, kind_in, decode_of}
 use Rattle.message_reading.specs.Reading as Wire
 use Rattle.message_reading.specs.declared.Decoded.{Decoded}
 use Rattle.message_reading.specs.declared.Decoded.TheVariants as D
-use Rattle.message_reading.specs.contracts.Decoded as DecodedType
 use Rattle.update_walk.specs.Body.{UpdateRead, accepted, broken_at, too_many, update_of, rows_read}
 use Rattle.update_walk.specs.Body.{walked_of, walked_number}
 use Rattle.update_walk.specs.Body as Body
-use Rattle.update_walk.specs.declared.Walked.TheVariants.{Rows, Broken, TooMany}
-use Rattle.update_walk.specs.contracts.Walked as WalkedType
+use Rattle.update_walk.specs.declared.Walked.TheVariants.{Rows}
 use Rattle.update_walk.proofs.Accepted.{accepted_is}
 use Rattle.codec.proofs.Laws.{OtherKind}
 use Rattle.neighbour.specs.declared.Settings.{Settings}
@@ -32,14 +29,13 @@ use Rattle.neighbour.specs.declared.Neighbour.{Neighbour}
 use Rattle.neighbour.specs.Record.{is_up}
 use Rattle.neighbour.specs.Rules.{same, in_sequence, too_quick}
 use Rattle.neighbour_machine.specs.declared.Event.TheVariants.{Received}
-use Rattle.neighbour_machine.specs.declared.Reply.{Reply}
 use Rattle.neighbour_machine.specs.declared.Reply.TheVariants.{Nothing}
 use Rattle.neighbour_machine.specs.declared.After.{After}
 use Rattle.neighbour_machine.specs.Step.{step_of}
 use Rattle.gateway_rules.specs.Number.{body_number, message_number, error_head, error_to, refuse_to, named_reply}
 use Rattle.gateway_rules.specs.declared.Effect.TheVariants.{Replace}
 use Rattle.gateway_rules.specs.declared.Verdict.{Verdict}
-use Rattle.gateway_rules.specs.Ruling.{stepped, refuses, replace, taken_step, change_by, carried_out, receive_ruling, effect_of, verdict_of}
+use Rattle.gateway_rules.specs.Ruling.{stepped, refuses, taken_step, change_by, carried_out, receive_ruling, effect_of, verdict_of}
 use Rattle.gateway_rules.proofs.Number.{meaning_number, kind_number, brings_as, number_header, number_asn, number_kind}
 use Rattle.gateway_stages.specs.Stages.{head_number, ReadAs, taken_update}
 

@@ -1,14 +1,13 @@
 -- Laws of a Hello or an I-H-U in Up: what they leave is the machine's step, and the rows stay. Assumes nothing.
 use Prim.Native.Nat.{ℕ}
 use borrow.Author.Tests.{eq-eqb}
-use mathlib.Core.Path.{◌≡◌, refl, sym, ◌∙◌, ap}
+use mathlib.Core.Path.{◌≡◌, refl, ◌∙◌, ap}
 use mathlib.Core.Bool.{Bool, true, false, cond, not, ◌&&◌, false≢true}
-use mathlib.Core.List.{List, [], ◌∷◌}
+use mathlib.Core.List.{List}
 use Rattle.message.specs.Kinds.{kind_of, sequence_of, status_of}
 use Rattle.message.specs.declared.Kind.TheVariants as K
 use Rattle.message.specs.declared.Message.{Message}
 use Rattle.message.specs.declared.Message.TheVariants.{Request, Confirm, Refuse, Cease, CeaseAck, Hello, IHeardYou, Poll, Update, Error}
-use Rattle.message.specs.contracts.Message.{the_type}
 use Rattle.neighbour.specs.declared.Phase.{Phase}
 use Rattle.neighbour.specs.declared.Phase.TheVariants as P
 use Rattle.neighbour.specs.declared.Settings.{Settings}
@@ -16,13 +15,11 @@ use Rattle.neighbour.specs.declared.Neighbour.{Neighbour}
 use Rattle.neighbour.specs.Record.{under, is_idle, acquired, is_up, with_numbers, with_reach, with_counts, heard_from}
 use Rattle.neighbour.specs.Rules.{same, is_command, in_sequence, commanded, indicates, noted, too_quick, recounted}
 use Rattle.neighbour_messages.specs.Sent.{i_heard_you_message}
-use Rattle.neighbour_machine.specs.declared.Event.TheVariants.{Received}
 use Rattle.neighbour_machine.specs.declared.Reply.{Reply}
 use Rattle.neighbour_machine.specs.declared.Reply.TheVariants.{Nothing, One}
 use Rattle.neighbour_machine.specs.declared.After.{After}
 use Rattle.neighbour_machine.specs.Table.{unanswered, answers, on_hello, on_i_heard_you}
 use Rattle.neighbour_machine.specs.Step.{on_message, step_of}
-use Rattle.gateway_rules.specs.Number.{error_head}
 use Rattle.gateway_rules.specs.Ruling.{leaving, stepped, receive_ruling}
 use Rattle.gateway_stages.specs.Stages.{ReadAs, Reach, keeping}
 use Rattle.gateway_stages.proofs.Laws.{taken_step_lem}

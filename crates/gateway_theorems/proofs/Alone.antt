@@ -1,22 +1,18 @@
 -- Reading alone and writing, where they refuse. Assumes nothing.
 use Prim.Native.Nat.{ℕ}
-use mathlib.Core.Path.{◌≡◌, refl, ap, ◌∙◌}
-use mathlib.Core.Bool.{Bool, true, false}
+use mathlib.Core.Path.{◌≡◌, refl, ap}
 use mathlib.Core.List.{List, []}
 use lib.Dec.{eqb}
 use lib.ListN.{length, drop}
 use lib.Seq.{drop-append_seam}
-use Rattle.checks.specs.Checks.{if_ok}
 use Rattle.checks.proofs.Laws.{cond_elim, if_ok_old}
 use Rattle.octets.specs.Buffer.{over}
-use Rattle.nets.specs.Rows.{rows_of}
 use Rattle.message.specs.declared.Message.{Message}
 use Rattle.message.specs.declared.Message.TheVariants.{Request, Confirm, Refuse, Cease, CeaseAck, Hello, IHeardYou, Poll, Update, Error}
 use Rattle.message_reading.specs.Reading.{header_answer, decode_of}
 use Rattle.message_reading.specs.declared.Decoded.{Decoded}
 use Rattle.message_reading.specs.declared.Decoded.TheVariants as D
 use Rattle.update_walk.specs.Body.{UpdateRead, accepted, broken_at, too_many, update_of}
-use Rattle.codec_writing.specs.Octets.{message_octets}
 use Rattle.codec.specs.declared.Reading.{Reading}
 use Rattle.codec.specs.Reading.{most_read, read_number, refusal, rowless, update_reading, meaning_reading, kind_reading, read_of}
 use Rattle.codec.specs.Writing.{write_answer, write_octets, write_of}

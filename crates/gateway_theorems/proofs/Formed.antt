@@ -1,22 +1,18 @@
 -- Every call keeps a state well formed. Assumes nothing.
 use Prim.Native.Nat.{ℕ, ◌≤◌, ◌<◌}
-use mathlib.Core.Path.{◌≡◌, refl, sym, ◌∙◌, ap}
-use mathlib.Core.Bool.{Bool, true, false, ◌&&◌, ◌||◌, false≢true}
+use mathlib.Core.Path.{◌≡◌, refl, sym, ◌∙◌}
+use mathlib.Core.Bool.{Bool, true, false, ◌||◌}
 use mathlib.Core.List.{List, []}
-use lib.ListN.{length}
 use borrow.Author.Tests.{le-leb}
 use Rattle.checks.proofs.Laws.{cond_elim}
 use Rattle.neighbour.specs.Record.{is_up}
 use Rattle.nets.specs.Rows.{Row, rows_of}
-use Rattle.message.specs.Kinds.{kind_of}
-use Rattle.message.specs.declared.Message.{Message}
 use Rattle.message_reading.specs.Reading.{kind_in, decode_of}
 use Rattle.message_reading.specs.declared.Decoded.{Decoded}
 use Rattle.message_reading.specs.declared.Decoded.TheVariants as D
 use Rattle.update_walk.proofs.Accepted.{accepted_is}
 use Rattle.neighbour.specs.declared.Phase.{Phase}
 use Rattle.neighbour.specs.declared.Settings.{Settings}
-use Rattle.neighbour.specs.Rules.{same}
 use Rattle.neighbour_wellformed.specs.Formed.{well_formed}
 use Rattle.neighbour_messages.specs.declared.Head.{Head}
 use Rattle.neighbour_machine.specs.Intrinsics.{Intrinsic, as_event}
@@ -26,7 +22,7 @@ use Rattle.neighbour_machine.specs.declared.Reply.{Reply}
 use Rattle.neighbour_machine.specs.declared.After.{After}
 use Rattle.neighbour_machine.specs.Table.{unanswered}
 use Rattle.neighbour_machine.specs.Step.{step_of}
-use Rattle.neighbour_machine.proofs.Theorems.{step_lawful, update_stays_up}
+use Rattle.neighbour_machine.proofs.Theorems.{step_lawful}
 use Rattle.neighbour_seconds.specs.Seconds.{seconds_formed}
 use Rattle.gateway_state.specs.declared.Slot.{Slot}
 use Rattle.gateway_state.specs.declared.State.{State}

@@ -7,7 +7,7 @@ use mathlib.Core.List.{List, [], ◌++◌}
 use lib.ListN.{length, length-append}
 use Rattle.octets.proofs.Buffer.{over_length}
 use Rattle.nets.specs.Classes.{good_net}
-use Rattle.nets.specs.Rows.{Row, rows_of}
+use Rattle.nets.specs.Rows.{rows_of}
 use Rattle.message.specs.declared.Message.{Message}
 use Rattle.message.specs.declared.Message.TheVariants as M
 use Rattle.update_writing.specs.Writable.{writable_numbers}

@@ -28,7 +28,7 @@ use Rattle.gateway_state.specs.Places.{row_counts}
 use Rattle.gateway_state.specs.Outcomes.{refused_of}
 use Rattle.gateway_state.proofs.Theorems.{written_slot}
 use Rattle.gateway_rules.specs.Number.{brings_rows, named_reply}
-use Rattle.gateway_rules.specs.Ruling.{Change, keep, clear, replace, Ruling, leaving, stepped, refuses, taken_step, change_by, carried_out, receive_ruling}
+use Rattle.gateway_rules.specs.Ruling.{keep, clear, replace, Ruling, leaving, stepped, refuses, taken_step, change_by, carried_out, receive_ruling}
 use Rattle.gateway_rules.specs.Carried.{table_after, slot_after, outcome_after}
 use Rattle.gateway_rules.specs.Calls.{event_checks, message_checks, update_room, event_ruling, message_ruling, event_outcome, event_table, message_outcome, message_table}
 use Rattle.gateway_rules.proofs.Number.{NumberPassed, number_passed}

@@ -1,9 +1,9 @@
 -- Laws of sending a reply, of which an Update alone looks at the home list. Assumes nothing.
 use Prim.Native.Nat.{ℕ, ◌≤◌, ◌<◌}
 use native.Mathlib.Omega.{arith}
-use mathlib.Core.Path.{◌≡◌, refl, sym, ◌∙◌, ap, ap₂}
-use mathlib.Core.Bool.{true, false, ◌&&◌, false≢true}
-use mathlib.Core.List.{List, [], ◌∷◌, ◌++◌, append-nil}
+use mathlib.Core.Path.{◌≡◌, refl, ◌∙◌, ap}
+use mathlib.Core.Bool.{true}
+use mathlib.Core.List.{List, [], append-nil}
 use lib.ListN.{length}
 use borrow.Author.Tests.{leb-true}
 use Rattle.checks.proofs.Laws.{and_left, and_right}
@@ -12,13 +12,11 @@ use Rattle.nets.specs.Classes.{good_net}
 use Rattle.nets.specs.Rows.{Row, rows_of}
 use Rattle.message.specs.declared.Message.{Message}
 use Rattle.message.specs.declared.Message.TheVariants.{Request, Confirm, Refuse, Cease, CeaseAck, Hello, IHeardYou, Poll, Update, Error}
-use Rattle.message.specs.contracts.Message as MessageType
 use Rattle.update_writing.specs.Writable.{writable_numbers}
 use Rattle.codec_writing.specs.Octets.{plain_octets, message_octets}
 use Rattle.codec_writing.specs.Room.{rows_fit, room_for}
 use Rattle.neighbour_machine.specs.declared.Reply.{Reply}
 use Rattle.neighbour_machine.specs.declared.Reply.TheVariants.{Nothing, One, Two}
-use Rattle.neighbour_machine.specs.contracts.Reply as ReplyType
 use Rattle.gateway_rules.specs.Carried.{first_octets, second_octets, reply_octets, buffer_after}
 use Rattle.gateway_carry.specs.declared.Lengths.{Lengths}
 use Rattle.gateway_carry.specs.Asked.{brief, sendable, lengths_of}

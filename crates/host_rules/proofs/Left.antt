@@ -2,12 +2,12 @@
 use Prim.Native.Nat.{ℕ}
 use native.Mathlib.Omega.{arith}
 use borrow.Author.Tests.{eq-eqb}
-use mathlib.Core.Path.{◌≡◌, refl, sym, ◌∙◌, ap}
+use mathlib.Core.Path.{◌≡◌, sym, ◌∙◌, ap}
 use mathlib.Core.Bool.{true, false}
 use mathlib.Core.List.{List}
 use lib.ListN.{length}
-use Rattle.checks.specs.Checks.{check, if_ok}
-use Rattle.checks.proofs.Laws.{check_holds, check_fails, if_ok_new, if_ok_old}
+use Rattle.checks.specs.Checks.{if_ok}
+use Rattle.checks.proofs.Laws.{check_holds, check_fails, if_ok_old}
 use Rattle.octets_words.specs.Words.{word_octets}
 use Rattle.gateway_state.specs.declared.Outcome.{Outcome}
 use Rattle.model.specs.Model.{Call}

@@ -1,10 +1,10 @@
 -- Laws of fresh, add and remove on a block: each way they end. Assumes nothing.
 use Prim.Native.Nat.{ℕ, ◌≤◌, ◌<◌}
 use native.Mathlib.Omega.{arith}
-use borrow.Author.Tests.{eq-eqb, ne_eqb, eqb-true, lt-ltb, le-ltb}
+use borrow.Author.Tests.{eq-eqb, ne_eqb, lt-ltb, le-ltb}
 use mathlib.Core.Path.{◌≡◌, refl, sym, ◌∙◌, ap}
 use mathlib.Core.Bool.{Bool, true, false, not, ◌&&◌}
-use mathlib.Core.List.{List, [], ◌++◌, append-nil}
+use mathlib.Core.List.{List, ◌++◌, append-nil}
 use lib.Dec.{ltb}
 use lib.ListN.{length, length-append, drop_of_length-le}
 use lib.Seq.{sets}
@@ -22,8 +22,8 @@ use Rattle.gateway_state.specs.Formed.{good_peer, state_formed}
 use Rattle.gateway_state.specs.Outcomes.{silent_of}
 use Rattle.gateway_slots.specs.Calls.{free_slots, empty_state, zero_state, fresh_answer, fresh_of, add_answer, add_of, remove_answer, remove_of}
 use Rattle.model.specs.Model.{Call, add, remove}
-use Rattle.model.specs.Theorem.{outcome_of, table_left, buffer_left, buffer_of}
-use Rattle.host_result.specs.Packed.{packed, bare}
+use Rattle.model.specs.Theorem.{outcome_of}
+use Rattle.host_result.specs.Packed.{bare}
 use Rattle.host_state_block.specs.Block.{block_size, slot_start, own_octets, slot_octets, slots_octets, block_of, state_in}
 use Rattle.host_state_block.specs.Formed.{block_fits, block_in_range, block_formed}
 use Rattle.host_state_block.proofs.Slots.{slots_length}

@@ -6,7 +6,7 @@ use lib.ListN.{length, drop, get_or, get_or-map}
 use Rattle.checks.specs.Lists.{join}
 use Rattle.octets.specs.Written.{Written}
 use Rattle.octets.proofs.Storing.{Writing, start, room, turn, last, done}
-use Rattle.nets.specs.Rows.{Row, rows_of}
+use Rattle.nets.specs.Rows.{rows_of}
 use Rattle.update_writing.proofs.Lists.{rows_turn, rows_short}
 use Rattle.update_writing.proofs.Loops.{row_at}
 use Rattle.gateway_state.specs.declared.State.{State}

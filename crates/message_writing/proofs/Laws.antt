@@ -13,7 +13,7 @@ use Rattle.octets.proofs.Numbers.{over_more}
 use Rattle.octets_checksum.proofs.Laws.{over_sealed, fold_sum, folds}
 use Rattle.octets_checksum.proofs.Wide.{fold_halves}
 use Rattle.message.specs.declared.Kind.{Kind}
-use Rattle.message.specs.declared.Kind.TheVariants.{Poll, Update, Error}
+use Rattle.message.specs.declared.Kind.TheVariants.{Update}
 use Rattle.message_writing.specs.Writing.{headed, head_of}
 
 -- a sum of four words at most: the carries brought round twice

@@ -32,7 +32,7 @@ use Rattle.neighbour_machine.specs.declared.After.{After}
 use Rattle.neighbour_machine.specs.Table.{followed, unanswered, answers, says, hello_if, does_a, does_b, ceases, repeats_cease, acquires, stray, on_request, settles, on_confirm, on_refuse, on_cease, on_cease_ack, on_hello, on_i_heard_you, answers_poll, on_poll, on_update, on_start, on_stop}
 use Rattle.neighbour_machine.specs.Tick.{takes_t1, expired, repeats, listens, polls, polls_on_entry, takes_t2, polls_in_up, tick_on, tick_outside, on_tick}
 use Rattle.neighbour_machine.specs.Step.{on_message, step_of}
-use Rattle.neighbour_machine.specs.Laws.{is_poll, sends_poll, brought, is_tick, Lawful, StepLawful, IdleIsZero, T2OnlyInUp, ErrorIgnored, is_stray, StrayAnswered, StrayUnanswered, brings_stray, QuietElsewhere, UpdateStaysUp}
+use Rattle.neighbour_machine.specs.Laws.{is_poll, sends_poll, brought, is_tick, Lawful, StepLawful, IdleIsZero, T2OnlyInUp, ErrorIgnored, is_stray, StrayAnswered, StrayUnanswered, QuietElsewhere, UpdateStaysUp}
 
 never : {A : Type 0} → true ≡ false → A
 never e = let z : ◌≡◌ {A = ℕ} 0 1 = cc in absurd (omega arith)

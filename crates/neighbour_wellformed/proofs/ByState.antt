@@ -12,8 +12,8 @@ use Rattle.neighbour.specs.declared.Mode.{Mode}
 use Rattle.neighbour.specs.declared.Mode.TheVariants.{Unset, Active, Passive}
 use Rattle.neighbour.specs.declared.Neighbour.{Neighbour}
 use Rattle.neighbour.specs.Record.{under, is_idle, acquired, idle}
-use Rattle.neighbour_wellformed.specs.Formed.{is_unset, within, all_zero, idle_formed, timers_below, timers_run, t2_formed, register_formed, agreed, intervals_formed, cause_formed, counts_formed, well_formed}
-use Rattle.neighbour_wellformed.proofs.Formed.{at, Fine, Pieces, pieces, whole, below_numbers, run_numbers, fine_of, moded, below_ok, run_ok, register_ok, interval_ok, counts_numbers, counts_ok, t2_elsewhere, idle_ok}
+use Rattle.neighbour_wellformed.specs.Formed.{is_unset, within, all_zero, idle_formed, timers_below, timers_run, t2_formed, register_formed, intervals_formed, cause_formed, counts_formed, well_formed}
+use Rattle.neighbour_wellformed.proofs.Formed.{at, Fine, pieces, whole, below_numbers, run_numbers, fine_of, moded, below_ok, run_ok, register_ok, interval_ok, counts_numbers, counts_ok, t2_elsewhere}
 
 -- one test of both timers and both counts
 abbrev pub timed : ℕ → ℕ → ℕ → ℕ → Bool

@@ -2,10 +2,10 @@
 use Prim.Native.Nat.{ℕ, suc, ◌+◌, ◌-◌, ◌≤◌}
 use native.Mathlib.Nat.{add-zero, zero-add}
 use native.Mathlib.Omega.{arith}
-use mathlib.Core.Path.{◌≡◌, refl, sym, ap, ◌∙◌}
-use mathlib.Core.List.{List, [], ◌∷◌, ◌++◌, append_assoc}
-use lib.ListN.{length, take, drop, get_or, set, length-append, length-drop, get_or-eq_default}
-use lib.Seq.{get_or-drop, sets, sets-eq, take_at, drop_at, drop-drop}
+use mathlib.Core.Path.{◌≡◌, sym, ap, ◌∙◌}
+use mathlib.Core.List.{List, [], ◌∷◌, ◌++◌}
+use lib.ListN.{length, take, drop, set, length-append, get_or-eq_default}
+use lib.Seq.{get_or-drop, sets, sets-eq}
 use Rattle.checks.proofs.Laws.{part_from_lem}
 use Rattle.octets.specs.Numbers.{word16, word32}
 use Rattle.octets.specs.Buffer.{over}

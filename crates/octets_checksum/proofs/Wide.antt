@@ -10,7 +10,7 @@ use mathlib.Core.List.{List, [], ◌∷◌, ◌++◌}
 use lib.ListN.{length, take, drop, get_or, length-drop, length-set, drop_of_length-le}
 use lib.Seq.{get_or-drop, drop-drop, take-append_seam, drop-append_seam}
 use Rattle.octets.specs.Numbers.{pair_of, quad_of, word16, word32, Octets}
-use Rattle.octets_checksum.specs.Checksum.{ones_sum, blanked, checksum_of, word_total, folded, FoldLaws}
+use Rattle.octets_checksum.specs.Checksum.{blanked, checksum_of, word_total, folded}
 use Rattle.octets_checksum.specs.Wide.{wide_total, kept_sum, WideLaws, EveryLength}
 use Rattle.octets_checksum.proofs.Laws.{six_or_more, fold_positive, fold_sum, folds}
 

@@ -1,11 +1,10 @@
 -- Laws of numbers in octets: lengths, parts, and that reading and writing undo each other. Assumes nothing.
-use Prim.Native.Nat.{ℕ, zero, suc, ◌+◌, ◌*◌, ◌-◌, ◌/◌, ◌%◌, ◌≤◌, ◌<◌}
-use native.Mathlib.Nat.{zero-add}
+use Prim.Native.Nat.{ℕ, zero, suc, ◌*◌, ◌/◌, ◌%◌, ◌<◌}
 use native.Mathlib.Omega.{arith}
-use mathlib.Core.Path.{◌≡◌, refl, sym, ap, ◌∙◌}
+use mathlib.Core.Path.{◌≡◌, refl, ap, ◌∙◌}
 use mathlib.Core.List.{List, [], ◌∷◌, ◌++◌}
-use lib.ListN.{length, take, drop, get_or, replicate, length-append}
-use lib.Seq.{take-nil, drop-nil}
+use lib.ListN.{length, take, drop, get_or, replicate}
+use lib.Seq.{drop-nil}
 use Rattle.octets.specs.Numbers.{Octets, quad_of, word32, octets32}
 use Rattle.octets.proofs.Back.{quad_back, first_of, second_of, third_of, fourth_of}
 use Rattle.octets_words.specs.Words.{words_of, word_octets}

@@ -5,7 +5,7 @@ use mathlib.Core.Path.{◌≡◌, refl, sym, ap, ◌∙◌}
 use mathlib.Core.Bool.{true, false}
 use mathlib.Core.List.{List, []}
 use lib.ListN.{length, take, drop, replicate, length-append, length-replicate}
-use lib.Seq.{take-nil, drop-nil, take-append_seam}
+use lib.Seq.{take-append_seam}
 use Rattle.octets.specs.Buffer.{over}
 use Rattle.update_rows.specs.Storing.{zeros}
 use Rattle.text_values.specs.Hex.{is_hex, hex_octets}

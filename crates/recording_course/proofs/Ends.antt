@@ -13,15 +13,15 @@ use Rattle.checks.proofs.Laws.{and_left, and_right, cond_elim}
 use Rattle.octets.specs.Buffer.{over}
 use Rattle.update_rows.specs.Storing.{zeros}
 use Rattle.recording_player.specs.declared.Player.{Player}
-use Rattle.recording_player.specs.Player.{beginning, Step, roomy, call_checks, given, tick_step, free_step, turn_checked, turn_step, only_holds, held_of, close_step}
-use Rattle.recording_theorem.specs.Theorem.{Deck, Lent, fresh_deck, step_on, after_turn, Driven, drive, is_done, is_plenty, plenty}
+use Rattle.recording_player.specs.Player.{beginning, Step, roomy, call_checks, given, tick_step, free_step, turn_checked, turn_step, only_holds, held_of}
+use Rattle.recording_theorem.specs.Theorem.{Deck, Lent, fresh_deck, step_on, after_turn, drive, is_done, is_plenty, plenty}
 use Rattle.recording_theorem.proofs.Turns.{used_within}
 use Rattle.recording_theorem.proofs.Ends.{every_recording_ends}
 use Rattle.recording_course.specs.declared.Stage.{Stage}
 use Rattle.recording_course.specs.declared.Stage.TheVariants.{Read, Play, Close, List as Listing, Over}
 use Rattle.recording_course.specs.declared.Course.{Course}
 use Rattle.recording_course.specs.Course.{is_read, is_over, staged, set_out, given_of, is_due, wrote_of, Stepped, rest_of, used_up, next_stage, turned_to, play_on, play_step, ended_by, close_on, list_on, still_on, course_at, course_step}
-use Rattle.recording_course.specs.Theorem.{Host, read_next, read_on, gathered, shown, showing, go_on, play_all, host_of, is_some, CourseEnding, EveryCourseEnds}
+use Rattle.recording_course.specs.Theorem.{Host, read_next, read_on, gathered, shown, showing, go_on, play_all, host_of, is_some, EveryCourseEnds}
 use Rattle.recording_course.proofs.Laws.{given_some}
 use Rattle.recording_course.proofs.Whole.{onward, drive_onward, rest_on, rest_read, zeros_fit}
 

@@ -12,7 +12,7 @@ use Rattle.recording_player.specs.declared.Told.{Told}
 use Rattle.recording_player.specs.Player.{Step, roomy, told_of, turn_step, held_of}
 use Rattle.recording_theorem.proofs.Turns.{used_within}
 use Rattle.recording_course.specs.declared.Stage.{Stage}
-use Rattle.recording_course.specs.declared.Stage.TheVariants.{Read, Play, Close, List as Listing, Over}
+use Rattle.recording_course.specs.declared.Stage.TheVariants.{Read, Play, Close, Over}
 use Rattle.recording_course.specs.declared.Course.{Course}
 use Rattle.recording_course.specs.declared.Went.{Went}
 use Rattle.recording_course.specs.Course.{staged, given_of, wrote_of, Stepped, went_of, rest_of, used_up, next_stage, turned_to, play_on, play_step, ended_by, course_at, course_step}

@@ -3,13 +3,13 @@ use Prim.Native.Nat.{ℕ, zero, suc, ◌≤◌, ◌<◌}
 use native.Mathlib.Numerals.{add-one}
 use native.Mathlib.Omega.{arith}
 use mathlib.Core.Path.{◌≡◌, refl, sym, ap, ◌∙◌}
-use mathlib.Core.Bool.{true, false, ◌&&◌, false≢true}
+use mathlib.Core.Bool.{true, ◌&&◌, false≢true}
 use mathlib.Core.List.{List, [], ◌∷◌, ◌++◌}
 use borrow.Author.Tests.{lt-ltb, ltb-true, le-leb, leb-true, eq-eqb, ne_eqb, eqb-true, eqb-false}
 use lib.Dec.{leb, ltb, eqb}
 use lib.ListN.{length, take, drop, get_or, length-append}
 use lib.Seq.{split_at, take-append_seam, drop-append_seam, drop-append-add}
-use Rattle.checks.specs.Lists.{first, every}
+use Rattle.checks.specs.Lists.{every}
 use Rattle.checks.proofs.Laws.{and_left, and_right, and_both, cond_elim}
 use Rattle.text.specs.Text.{text, decimal, dotted}
 use Rattle.text.proofs.Laws.{decimal_most, dotted_length}

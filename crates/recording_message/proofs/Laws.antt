@@ -18,7 +18,6 @@ use Rattle.text_values.specs.Places.{index_of}
 use Rattle.text_values.specs.Hex.{hex_text}
 use Rattle.message.specs.declared.Message.{Message}
 use Rattle.message.specs.declared.Message.TheVariants as M
-use Rattle.message.specs.contracts.Message as MessageType
 use Rattle.codec.specs.declared.Meaning.{Meaning}
 use Rattle.codec.specs.Reading.{read_number}
 use Rattle.recording_bad_line.proofs.Laws.{long_length}

@@ -3,7 +3,7 @@ use Prim.Native.Nat.{ℕ, ◌≤◌, ◌<◌, ◌-◌}
 use native.Mathlib.Omega.{arith}
 use mathlib.Core.Path.{◌≡◌, refl, sym, ap, ◌∙◌}
 use mathlib.Core.Bool.{Bool, true, false, cond, not, ◌&&◌, ◌||◌, false≢true}
-use mathlib.Core.List.{List, [], ◌∷◌}
+use mathlib.Core.List.{List, []}
 use lib.Dec.{leb, ltb, eqb}
 use lib.ListN.{length, take, drop}
 use lib.Seq.{take-append_seam}
@@ -38,8 +38,7 @@ use Rattle.text_values.specs.Hex.{is_hex, hex_octets}
 use Rattle.text_values.proofs.Readings.{decimal_bound}
 use Rattle.recording_lines.specs.declared.Read.{Read}
 use Rattle.recording_lines.specs.declared.Read.TheVariants as R
-use Rattle.recording_lines.specs.contracts.Read.{the_type}
-use Rattle.recording_lines.specs.Lines.{Event, bad, add, remove, start, stop, tick, rx, behind, own_as_of, own_of, capability_of, net_of, quiet_of, event_of}
+use Rattle.recording_lines.specs.Lines.{add, remove, start, stop, tick, behind, own_as_of, own_of, capability_of, net_of, quiet_of, event_of}
 use Rattle.recording_lines.specs.Meant.{meant}
 use Rattle.recording_lines.specs.Steps.{stands_on}
 use Rattle.gateway_rules.specs.Calls.{lent_checks}

@@ -15,8 +15,7 @@ use Rattle.gateway_state.specs.Formed.{state_formed}
 use Rattle.gateway_slots.specs.Calls.{fresh_of}
 use Rattle.text_values.specs.declared.Number.{Number}
 use Rattle.text_values.specs.declared.Number.TheVariants.{Bad, Is}
-use Rattle.text_values.specs.Numbers.{when_number}
-use Rattle.recording_lines.specs.Lines.{Event, bad, add, remove, start, stop, tick, rx, event_of, net_of, quiet_of}
+use Rattle.recording_lines.specs.Lines.{Event, bad, add, remove, start, stop, tick, rx, event_of, quiet_of}
 use Rattle.recording_lines.proofs.Events.{quiet_no_event}
 use Rattle.recording_gather.specs.Gathering.{gathered}
 use Rattle.model.specs.Model as M
@@ -24,10 +23,10 @@ use Rattle.model.specs.Theorem.{outcome_of}
 use Rattle.recording_call.specs.Told.{on}
 use Rattle.gateway_rules.specs.Calls.{lent_checks}
 use Rattle.recording_player.specs.declared.Player.{Player}
-use Rattle.recording_player.specs.Player.{next_line, Step, line_fits, call_checks, report_check, given, with_used, silent_step, bad_step, broken_step, with_net, fresh_step, net_step, quiet_line_step, head_step, is_setting, call_step, only_step, event_step, event_checked, line_step, line_checked, ended_line, free_step, turn_checked, turn_step}
+use Rattle.recording_player.specs.Player.{next_line, Step, line_fits, call_checks, report_check, given, with_used, silent_step, bad_step, broken_step, with_net, fresh_step, head_step, is_setting, call_step, only_step, event_step, event_checked, line_step, line_checked, ended_line, free_step, turn_checked, turn_step}
 use Rattle.recording_player.proofs.Laws.{head_net, head_quiet, setting_early, setting_late, setting_none, setting_quiet}
 use Rattle.recording_theorem.specs.Output.{calls_of}
-use Rattle.recording_theorem.specs.Answers.{TakesLine, checks_room, Answers, EveryAnswer}
+use Rattle.recording_theorem.specs.Answers.{TakesLine, checks_room, EveryAnswer}
 
 on_true : {A : Type 0} (b : Bool) (x y : A) → b ≡ true → cond b x y ≡ x
 on_true b x y e = rw e

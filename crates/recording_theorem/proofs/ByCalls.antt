@@ -14,7 +14,7 @@ use Rattle.recording_trace.specs.declared.Telling.{Telling}
 use Rattle.recording_trace.specs.Trace.{Happened}
 use Rattle.recording_call.specs.Told.{tell_text, passed_after, happened_by}
 use Rattle.recording_player.specs.Player.{listed_in}
-use Rattle.recording_theorem.specs.Output.{RecordedLine, lines_of, event_in, Opening, broken, opened, opening_of, calls_of, good_calls, telling}
+use Rattle.recording_theorem.specs.Output.{RecordedLine, event_in, Opening, broken, opened, calls_of, good_calls, telling}
 
 -- ---- what is told, in order
 

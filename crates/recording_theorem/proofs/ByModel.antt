@@ -1,12 +1,12 @@
 -- What the calls' definitions show is what the model says, by the theorem about lists of calls; and no recording has
 -- more lines than can be counted.
 -- Assumes nothing.
-use Prim.Native.Nat.{ℕ, zero, suc, ◌+◌, ◌≤◌, ◌<◌}
+use Prim.Native.Nat.{ℕ, suc, ◌+◌, ◌≤◌, ◌<◌}
 use native.Mathlib.Omega.{arith}
 use mathlib.Core.Path.{◌≡◌, refl, sym, ap, ◌∙◌}
-use mathlib.Core.Bool.{Bool, true, false, cond}
+use mathlib.Core.Bool.{Bool, true}
 use mathlib.Core.List.{List, [], ◌∷◌, ◌++◌, map, append_assoc}
-use lib.Dec.{ltb, leb, eqb}
+use lib.Dec.{eqb}
 use lib.ListN.{length, take, drop, length-append}
 use lib.Seq.{take-append_seam, drop-append_seam}
 use borrow.Author.Tests.{lt-ltb, eqb-true, eqb-false}
@@ -24,7 +24,7 @@ use Rattle.text_values.specs.declared.Number.TheVariants.{Bad, Is}
 use Rattle.text_values.specs.Numbers.{when_number}
 use Rattle.recording_lines.specs.Lines.{Event, bad, add, remove, start, stop, tick, rx, own_as_of, own_of, capability_of, net_of, quiet_of}
 use Rattle.recording_lines.proofs.Events.{settings}
-use Rattle.recording_bad_line.specs.BadLine.{bad_text, one_more}
+use Rattle.recording_bad_line.specs.BadLine.{one_more}
 use Rattle.model.specs.Model as M
 use Rattle.model.specs.Theorem.{Gateway, Seen, seen_of, seen_from, gateway_step, gateway_from, outcome_of, begun, run, seen_by, state_of, shown_in, shown, buffer_of, carries_octets}
 use Rattle.model.proofs.Theorem.{list_of_calls}
@@ -32,7 +32,7 @@ use Rattle.recording_trace.specs.Trace.{Happened}
 use Rattle.recording_trace.specs.Steps.{happened_in}
 use Rattle.recording_call.specs.Told.{addressed_to, deed_of, message_in, tell_text, passed_after, happened_by}
 use Rattle.recording_player.specs.Player.{listed_in}
-use Rattle.recording_theorem.specs.Output.{RecordedLine, ended, unended, lines_from, lines_of, event_in, value_in, Opening, broken, opened, from_quiet, taken_by, from_net, from_capability, from_own, opening_of, calls_of, good_calls, happened, bad_line, called, telling, calls_told, event_told, told_from, told_text, events_text, opening_text}
+use Rattle.recording_theorem.specs.Output.{RecordedLine, ended, unended, lines_from, lines_of, event_in, value_in, Opening, broken, opened, from_quiet, taken_by, from_net, from_capability, from_own, opening_of, calls_of, good_calls, happened, telling, calls_told, event_told, told_from, told_text, events_text, opening_text}
 use Rattle.recording_theorem.proofs.ByCalls as C
 use Rattle.recording_theorem.proofs.Laws.{join_append, quiet_taken}
 use Rattle.recording_theorem.proofs.OneByOne.{in_octets, from_octets}

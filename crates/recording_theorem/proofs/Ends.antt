@@ -1,16 +1,16 @@
 -- Every recording comes to its end, in pieces of whatever sizes: each turn with room and an octet does some of the work
 -- that is left. Assumes nothing.
-use Prim.Native.Nat.{ℕ, zero, suc, ◌+◌, ◌*◌, ◌-◌, min, ◌≤◌, ◌<◌}
+use Prim.Native.Nat.{ℕ, zero, suc, ◌+◌, ◌*◌, min, ◌≤◌, ◌<◌}
 use native.Mathlib.Nat.{le_refl}
 use native.Mathlib.Omega.{arith}
 use mathlib.Core.Path.{◌≡◌, refl, sym, ap, subst, ◌∙◌}
-use mathlib.Core.Bool.{Bool, true, false, cond, ◌&&◌, ◌||◌, false≢true}
+use mathlib.Core.Bool.{Bool, true, false, cond, ◌&&◌, ◌||◌}
 use mathlib.Core.List.{List, [], ◌∷◌}
-use lib.Dec.{leb, ltb, eqb}
+use lib.Dec.{ltb, eqb}
 use lib.ListN.{length, take, drop, length-take, length-drop}
 use borrow.Author.Tests.{lt-ltb, ltb-true, ltb-false, le-leb, eqb-false, eq-eqb}
 use Rattle.checks.specs.Checks.{check, if_ok}
-use Rattle.checks.proofs.Laws.{and_left, and_right, cond_elim}
+use Rattle.checks.proofs.Laws.{cond_elim}
 use Rattle.gateway_state.specs.declared.State.{State}
 use Rattle.gateway_state.specs.Formed.{state_formed}
 use Rattle.recording_lines.specs.Lines.{Event, bad, add, remove, start, stop, tick, rx, event_of}
@@ -26,7 +26,7 @@ use Rattle.recording_theorem.specs.Theorem as T
 use Rattle.recording_theorem.specs.Theorem.{Deck, Lent, step_on, after_turn, writing, drive, is_done, is_plenty, plenty, EveryRecordingEnds}
 use Rattle.recording_theorem.proofs.Held.{used_most, used_some}
 use Rattle.recording_theorem.proofs.LineEnds.{Stands, Kept, no_setting}
-use Rattle.recording_theorem.proofs.Turns.{Sound, deck_of, Turned, free_turned, turned, used_within}
+use Rattle.recording_theorem.proofs.Turns.{Sound, deck_of, free_turned, turned}
 use Rattle.recording_theorem.proofs.Playing.{start_sound}
 
 -- ---- a turn with room is not refused

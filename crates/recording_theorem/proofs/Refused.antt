@@ -4,12 +4,12 @@ use mathlib.Core.Path.{◌≡◌, refl}
 use mathlib.Core.Bool.{Bool, true, false, cond}
 use mathlib.Core.List.{List}
 use mathlib.Core.Logic.{◌⊎◌, inl, inr}
-use lib.Dec.{ltb, eqb}
+use lib.Dec.{ltb}
 use borrow.Author.Tests.{ne_eqb}
 use Rattle.checks.specs.Checks.{check, if_ok}
 use Rattle.checks.proofs.Laws.{cond_elim}
 use Rattle.recording_player.specs.declared.Player.{Player}
-use Rattle.recording_player.specs.Player.{Step, report_check, given, with_used, reported, silent_step, bad_step, broken_step, turn_checked, turn_step, close_step, finish_step}
+use Rattle.recording_player.specs.Player.{Step, report_check, given, reported, silent_step, bad_step, broken_step, turn_checked, turn_step, close_step, finish_step}
 use Rattle.recording_theorem.specs.Theorem.{as_given, Refusals}
 use Rattle.recording_theorem.proofs.Turns.{refused_holds}
 

@@ -2,11 +2,11 @@
 use Prim.Native.Nat.{ℕ, suc, ◌+◌, ◌≤◌, ◌<◌}
 use native.Mathlib.Omega.{arith}
 use mathlib.Core.Path.{◌≡◌, refl, sym, ap, ◌∙◌}
-use mathlib.Core.Bool.{Bool, true, false, cond, not, ◌&&◌, true≢false, false≢true}
+use mathlib.Core.Bool.{Bool, true, false, cond, not, ◌&&◌, false≢true}
 use mathlib.Core.List.{List, [], ◌∷◌}
-use lib.Dec.{ltb, eqb}
+use lib.Dec.{eqb}
 use lib.ListN.{length}
-use borrow.Author.Tests.{lt-ltb, eqb-true, eq-eqb}
+use borrow.Author.Tests.{lt-ltb, eqb-true}
 use Rattle.checks.proofs.Laws.{and_left, and_right}
 use Rattle.neighbour.specs.declared.Settings.{Settings}
 use Rattle.neighbour.specs.declared.Phase.{Phase}
@@ -14,11 +14,10 @@ use Rattle.neighbour.specs.declared.Phase.TheVariants as P
 use Rattle.neighbour.specs.Record.{phase_number}
 use Rattle.neighbour_seconds.specs.Seconds.{seconds_sum}
 use Rattle.gateway_state.specs.declared.State.{State}
-use Rattle.gateway_state.specs.declared.Slot.{Slot}
 use Rattle.gateway_state.specs.Slots.{slot_at, slot_of}
 use Rattle.gateway_slots.specs.Calls.{fresh_of}
 use Rattle.model.specs.Model as M
-use Rattle.model.specs.Theorem.{state_of, run}
+use Rattle.model.specs.Theorem.{state_of}
 use Rattle.model.specs.Ticks.{ticks_since}
 use Rattle.model.proofs.Theorem.{list_of_calls}
 use Rattle.recording_bad_line.specs.BadLine.{one_more}
@@ -27,8 +26,7 @@ use Rattle.recording_trace.specs.declared.Deed.TheVariants as D
 use Rattle.recording_trace.specs.declared.Telling.{Telling}
 use Rattle.recording_trace.specs.Trace.{Happened, slot_for, is_tick, is_unchanged, is_quiet_tick, is_passed_over, trace_text}
 use Rattle.recording_call.specs.Told.{tell_text, passed_after}
-use Rattle.recording_theorem.specs.Output.{RecordedLine, happened, telling, calls_told}
-use Rattle.recording_theorem.specs.Theorem.{calls_in, said_in}
+use Rattle.recording_theorem.specs.Output.{happened, telling, calls_told}
 use Rattle.recording_theorem.specs.Trace.{tally, QuietTick, Traces}
 use Rattle.recording_theorem.proofs.Laws.{no_length}
 use Rattle.recording_theorem.proofs.OneByOne.{one_by_one}

@@ -6,7 +6,7 @@ use native.Mathlib.Omega.{arith}
 use mathlib.Core.Path.{◌≡◌, refl, sym, ap, subst, ◌∙◌}
 use mathlib.Core.Bool.{Bool, true, false, cond, not, ◌&&◌}
 use mathlib.Core.List.{List, [], ◌∷◌, ◌++◌}
-use lib.Dec.{leb, ltb, eqb}
+use lib.Dec.{ltb, eqb}
 use lib.ListN.{length, take, drop}
 use borrow.Author.Tests.{ltb-true, ltb-false, lt-ltb, le-leb, eqb-false, ne_eqb}
 use Rattle.checks.specs.Checks.{check, if_ok}
@@ -23,7 +23,7 @@ use Rattle.recording_theorem.specs.Output.{RecordedLine, ended, lines_from, tick
 use Rattle.recording_theorem.specs.Theorem.{Deck}
 use Rattle.recording_theorem.proofs.Held.{used_most, line_in, lines_after, lines_after_lem, Holds, holds_none, holds_piece, holds_line, holds_front}
 use Rattle.recording_theorem.proofs.Due.{Due, saying, calls_due, remaining, remaining_broken, remaining_late, call_due}
-use Rattle.recording_theorem.proofs.LineEnds.{Stands, stands_call, Kept, kept_late, Follows, line_follows}
+use Rattle.recording_theorem.proofs.LineEnds.{stands_call, Kept, kept_late, Follows, line_follows}
 
 -- a refused turn has not touched the line buffer
 pub refused_holds : (room : Bool) (p : Player) (line table piece : List ℕ) → (turn_checked room p line table piece ≡ 0 → ⊥) → held_of p line piece ≡ line

@@ -20,7 +20,6 @@ use Rattle.listing_lines.specs.Lines.{mode_word}
 use Rattle.recording_trace.specs.declared.Telling.{Telling}
 use Rattle.recording_trace.specs.declared.Deed.{Deed}
 use Rattle.recording_trace.specs.declared.Deed.TheVariants.{Add, Remove, Start, Stop, Tick, Receive}
-use Rattle.recording_trace.specs.contracts.Deed.{the_type}
 use Rattle.recording_message.specs.Message.{fields, message_text}
 use Rattle.recording_trace.specs.Trace.{received_text, sent_text, slot_for, told_slot, slot_word, record_keys, record_numbers, record_text, front_text, messages_text, slots_text, trace_text, is_tick, is_unchanged, is_quiet_tick}
 use Rattle.recording_trace.specs.Steps.{happened_in}

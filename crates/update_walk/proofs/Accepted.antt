@@ -1,5 +1,5 @@
 -- What an accepted Update says: its blocks are whole, its rows are good and no more than its octets. Assumes nothing.
-use Prim.Native.Nat.{ℕ, ◌+◌, ◌-◌, ◌^◌, ◌≤◌, ◌<◌}
+use Prim.Native.Nat.{ℕ, ◌+◌, ◌^◌, ◌≤◌, ◌<◌}
 use native.Mathlib.Omega.{arith}
 use borrow.Author.Tests.{ltb-false, leb-true, le-leb, eqb-true}
 use mathlib.Core.Path.{◌≡◌, refl, ap, subst}

@@ -1,7 +1,6 @@
 use Rattle.codec_writing.proofs.Laws.{room_most}
 use Rattle.codec.proofs.Laws.{allowed_fits}
 use mathlib.Core.Path.{◌∙◌, sym}
-use borrow.Author.Tests.{not-true, not-false}
 use Rattle.codec.proofs.Laws.{octets_short, write_3, write_16, write_0, write_rows_lem}
 use native.Mathlib.Omega.{arith}
 use Rattle.codec.proofs.write.Goals as goal

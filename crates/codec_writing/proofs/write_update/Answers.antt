@@ -16,10 +16,10 @@ seal_front-requires c =
 
 pub returns-clause-value : goal.returns-clause-value
 returns-clause-value c = c.seal_front.ensures.value
-      ∙ update_end c.args.buffer.now _ _ c.args.rows.now c.args.asn c.args.sequence c.args.status c.args.net _ _ _
-      c.requires.net_value.0 c.requires.net_value.1 c.requires.in_bounds c.write_blocks-blocks.ensures.out_after c.write_blocks-blocks.ensures.end_value c.write_blocks-blocks.ensures.internal_value c.write_blocks-blocks.ensures.external_value c.store_head.ensures
+    ∙ update_end c.args.buffer.now _ _ c.args.rows.now c.args.asn c.args.sequence c.args.status c.args.net _ _ _
+    c.requires.net_value.0 c.requires.net_value.1 c.requires.in_bounds c.write_blocks-blocks.ensures.out_after c.write_blocks-blocks.ensures.end_value c.write_blocks-blocks.ensures.internal_value c.write_blocks-blocks.ensures.external_value c.store_head.ensures
 
 pub returns-clause-buffer_after : goal.returns-clause-buffer_after
 returns-clause-buffer_after c = c.seal_front.ensures.buffer_after
-      ∙ update_written c.args.buffer.now _ _ c.args.rows.now c.args.asn c.args.sequence c.args.status c.args.net _ _ _
-      c.requires.net_value.0 c.requires.net_value.1 c.requires.in_bounds c.write_blocks-blocks.ensures.out_after c.write_blocks-blocks.ensures.end_value c.write_blocks-blocks.ensures.internal_value c.write_blocks-blocks.ensures.external_value c.store_head.ensures
+    ∙ update_written c.args.buffer.now _ _ c.args.rows.now c.args.asn c.args.sequence c.args.status c.args.net _ _ _
+    c.requires.net_value.0 c.requires.net_value.1 c.requires.in_bounds c.write_blocks-blocks.ensures.out_after c.write_blocks-blocks.ensures.end_value c.write_blocks-blocks.ensures.internal_value c.write_blocks-blocks.ensures.external_value c.store_head.ensures

@@ -1,9 +1,6 @@
-use mathlib.Core.Path.{◌≡◌, refl, sym, ap, ◌∙◌}
-use Prim.Native.Nat.{◌+◌, ◌*◌, ◌-◌, ◌≤◌}
+use mathlib.Core.Path.{refl, sym, ◌∙◌}
 use native.Mathlib.Omega.{arith}
-use lib.ListN.{length, drop, length-set}
-use lib.Seq.{sets, length-sets}
-use Rattle.driver_records.specs.Filled.{filled}
+use lib.ListN.{length-set}
 use Rattle.driver_records.proofs.Laws.{fill_turn, fill_done, fill_all}
 use Rattle.driver_records.proofs.fill.Goals as goal
 

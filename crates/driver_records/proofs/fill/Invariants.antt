@@ -1,10 +1,8 @@
-use mathlib.Core.Path.{◌≡◌, refl, sym, ap, ◌∙◌}
-use Prim.Native.Nat.{◌+◌, ◌*◌, ◌-◌, ◌≤◌}
-use native.Mathlib.Omega.{arith}
-use lib.ListN.{length, drop, length-set}
-use lib.Seq.{sets, length-sets}
+use mathlib.Core.Path.{◌≡◌}
+use Prim.Native.Nat.{◌-◌, ◌≤◌}
+use lib.ListN.{length}
+use lib.Seq.{sets}
 use Rattle.driver_records.specs.Filled.{filled}
-use Rattle.driver_records.proofs.Laws.{fill_turn, fill_done, fill_all}
 use Rattle.driver_records.proofs.fill.Given as goal
 
 abbrev pub invariant-loop-i : goal.invariant-loop-i

@@ -1,12 +1,11 @@
 use native.Mathlib.Omega.{arith}
 use mathlib.Core.Path.{refl, sym, ◌∙◌}
 use mathlib.Core.List.{[]}
-use borrow.Author.Tests.{not-true, not-false}
 use Rattle.neighbour.specs.Record.{idle}
 use Rattle.gateway_state.specs.Slots.{free_slot, slot_at, with_slot}
 use Rattle.gateway_state.proofs.Theorems.{formed_slot}
 use Rattle.gateway_calls.proofs.Checks.{event_lent, event_5, event_22, event_0, event_met}
-use Rattle.gateway_calls.proofs.Calls.{Happened, event_refused, event_asked, event_done, event_counted}
+use Rattle.gateway_calls.proofs.Calls.{event_refused, event_asked, event_done, event_counted}
 use Rattle.gateway_calls.proofs.happen.Goals as goal
 
 pub returns-then-lent-ne0 : goal.returns-then-lent-ne0

@@ -1,5 +1,4 @@
 -- `gateway_calls::lent_answer` meets its contract, check by check. Assumes nothing.
-use borrow.Author.Tests.{not-true, not-false}
 use mathlib.Core.Path.{sym, ◌∙◌}
 use Rattle.gateway_calls.proofs.Checks.{lent_1, lent_2, lent_3, lent_0}
 use Rattle.gateway_calls.proofs.lent_answer.Goals as goal

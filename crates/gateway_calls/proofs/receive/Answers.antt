@@ -1,6 +1,5 @@
 -- `gateway_calls::receive` meets its contract: a refusal, or the ruling carried out. Assumes nothing.
 use native.Mathlib.Omega.{arith}
-use borrow.Author.Tests.{not-true, not-false}
 use mathlib.Core.Path.{refl, sym, ap, ◌∙◌}
 use Rattle.message_reading.specs.Reading.{decoded_number}
 use Rattle.neighbour.specs.Record.{idle}

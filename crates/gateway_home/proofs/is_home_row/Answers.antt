@@ -1,5 +1,5 @@
 -- `gateway_home::is_home_row` meets its contract, test by test. Assumes nothing.
-use borrow.Author.Tests.{not-true, not-false, le-leb, lt-leb}
+use borrow.Author.Tests.{le-leb, lt-leb}
 use Rattle.gateway_rules.specs.Home.{home_row}
 use Rattle.gateway_home.proofs.is_home_row.Goals as goal
 

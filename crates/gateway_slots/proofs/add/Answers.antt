@@ -1,5 +1,4 @@
 use mathlib.Core.Path.{sym, ◌∙◌}
-use borrow.Author.Tests.{not-true, not-false}
 use Rattle.gateway_slots.proofs.CallLaws.{add_1, add_16, add_present, add_17, add_done}
 use Rattle.gateway_slots.proofs.add.Goals as goal
 

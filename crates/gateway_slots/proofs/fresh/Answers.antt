@@ -1,5 +1,4 @@
 use mathlib.Core.Path.{sym, ◌∙◌}
-use borrow.Author.Tests.{not-true, not-false}
 use Rattle.gateway_slots.specs.Calls.{zero_state}
 use Rattle.gateway_slots.proofs.CallLaws.{fresh_16, fresh_done}
 use Rattle.gateway_slots.proofs.fresh.Goals as goal

@@ -1,5 +1,4 @@
 use mathlib.Core.Path.{sym, ◌∙◌}
-use borrow.Author.Tests.{not-true, not-false}
 use Rattle.gateway_slots.proofs.CallLaws.{remove_1, remove_5, remove_18, remove_done}
 use Rattle.gateway_slots.proofs.remove.Goals as goal
 

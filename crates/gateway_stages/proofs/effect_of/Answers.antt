@@ -1,4 +1,3 @@
-use borrow.Author.Tests.{not-true, not-false}
 use Rattle.gateway_rules.specs.Ruling.{leaving, effect_of}
 use Rattle.gateway_stages.proofs.effect_of.Goals as goal
 

@@ -1,5 +1,4 @@
 use borrow.Author.Tests.{eq-eqb, ne_eqb}
-use borrow.Author.Tests.{not-true, not-false}
 use Rattle.gateway_rules.specs.Number.{error_to}
 use Rattle.gateway_stages.proofs.error_to.Goals as goal
 

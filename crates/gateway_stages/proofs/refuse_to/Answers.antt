@@ -1,5 +1,4 @@
 use borrow.Author.Tests.{le-leb, lt-leb, eq-eqb, ne_eqb}
-use borrow.Author.Tests.{not-true, not-false}
 use Rattle.message.specs.Kinds.{plain_status}
 use Rattle.gateway_rules.specs.Number.{refuse_to}
 use Rattle.gateway_stages.proofs.refuse_to.Goals as goal

@@ -1,4 +1,3 @@
-use borrow.Author.Tests.{not-true, not-false}
 use mathlib.Core.Path.{◌∙◌, sym, ap}
 use Rattle.gateway_rules.specs.Ruling.{verdict_of}
 use Rattle.gateway_stages.proofs.Laws.{taken_13, taken_21, taken_update_lem, taken_step_lem}

@@ -1,5 +1,5 @@
 -- `gateway_stages::tells_reach` meets its contract. Assumes nothing.
-use borrow.Author.Tests.{eqb-true, not-true, not-false}
+use borrow.Author.Tests.{eqb-true, not-true}
 use mathlib.Core.Path.{sym, ◌∙◌}
 use mathlib.Core.Bool.{false≢true}
 use Rattle.gateway_stages.proofs.Reaching.{reach_hello, reach_heard}

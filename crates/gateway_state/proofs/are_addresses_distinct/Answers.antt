@@ -1,11 +1,8 @@
 use native.Mathlib.Omega.{arith}
-use Prim.Native.Nat.{◌-◌, ◌≤◌}
 use mathlib.Core.Path.{◌≡◌, refl, sym, ◌∙◌}
-use lib.ListN.{length, drop}
-use borrow.Author.Tests.{not-true, not-false}
-use Rattle.checks.specs.Lists.{distinct}
+use lib.ListN.{length}
 use Rattle.neighbour.specs.Record.{idle}
-use Rattle.gateway_state.specs.Slots.{free_slot, slot_at, addresses, apart}
+use Rattle.gateway_state.specs.Slots.{free_slot, slot_at}
 use Rattle.gateway_state.proofs.ListLaws.{unmapped}
 use Rattle.gateway_state.proofs.SlotLaws.{distinct_slot_here, distinct_slot_next, distinct_slot_end}
 use borrow.Author.Rules.{rules}

@@ -1,9 +1,6 @@
 use native.Mathlib.Omega.{arith}
-use Prim.Native.Nat.{◌-◌, ◌≤◌}
 use mathlib.Core.Path.{◌≡◌, refl, sym, ◌∙◌}
-use lib.ListN.{length, drop}
-use borrow.Author.Tests.{not-true, not-false}
-use Rattle.checks.specs.Lists.{every}
+use lib.ListN.{length}
 use Rattle.neighbour.specs.Record.{idle}
 use Rattle.gateway_state.specs.Slots.{free_slot}
 use Rattle.gateway_state.specs.Formed.{slot_formed}

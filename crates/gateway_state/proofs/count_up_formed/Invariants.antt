@@ -1,14 +1,8 @@
-use native.Mathlib.Omega.{arith}
 use Prim.Native.Nat.{◌-◌, ◌≤◌}
-use mathlib.Core.Path.{◌≡◌, refl, ◌∙◌}
-use lib.ListN.{length, drop}
-use borrow.Author.Tests.{not-false}
+use mathlib.Core.Path.{◌≡◌}
+use lib.ListN.{drop}
 use Rattle.checks.specs.Lists.{every}
-use Rattle.neighbour.specs.Record.{idle}
-use Rattle.gateway_state.specs.Slots.{free_slot}
 use Rattle.gateway_state.specs.Formed.{slot_formed}
-use Rattle.gateway_state.proofs.ListLaws.{unmapped, every_next}
-use borrow.Author.Rules.{rules}
 use Rattle.gateway_state.proofs.count_up_formed.Given as goal
 
 abbrev pub invariant-loop-i : goal.invariant-loop-i

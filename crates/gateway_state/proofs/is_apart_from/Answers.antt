@@ -1,10 +1,8 @@
 use native.Mathlib.Omega.{arith}
-use Prim.Native.Nat.{◌-◌, ◌≤◌}
 use mathlib.Core.Path.{◌≡◌, refl, sym, ◌∙◌}
-use lib.ListN.{length, drop}
-use Rattle.checks.specs.Lists.{every}
+use lib.ListN.{length}
 use Rattle.neighbour.specs.Record.{idle}
-use Rattle.gateway_state.specs.Slots.{free_slot, slot_at, addresses, apart}
+use Rattle.gateway_state.specs.Slots.{free_slot, slot_at}
 use Rattle.gateway_state.proofs.ListLaws.{unmapped}
 use Rattle.gateway_state.proofs.SlotLaws.{clash_is, clash_not, apart_zero, apart_here, apart_next, apart_end}
 use borrow.Author.Rules.{rules}

@@ -1,4 +1,4 @@
-use borrow.Author.Tests.{eq-eqb, ne_eqb, not-true, not-false}
+use borrow.Author.Tests.{eq-eqb, ne_eqb}
 use mathlib.Core.Path.{sym, ◌∙◌}
 use Rattle.gateway_state.specs.Formed.{free_formed}
 use Rattle.gateway_state.proofs.FormedLaws.{idle_zero}

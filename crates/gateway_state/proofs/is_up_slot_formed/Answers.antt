@@ -1,6 +1,6 @@
 use mathlib.Core.Path.{sym, ◌∙◌}
 use mathlib.Core.Bool.{false≢true}
-use borrow.Author.Tests.{not-false, le-leb}
+use borrow.Author.Tests.{le-leb}
 use Rattle.gateway_state.proofs.FormedLaws.{is_up_lem, up_slot}
 use Rattle.gateway_state.proofs.is_up_slot_formed.Goals as goal
 

@@ -1,4 +1,3 @@
-use borrow.Author.Tests.{not-true, not-false}
 use mathlib.Core.Path.{sym, ◌∙◌}
 use Rattle.gateway_state.specs.Formed.{used_formed}
 use Rattle.gateway_state.proofs.is_used_formed.Goals as goal

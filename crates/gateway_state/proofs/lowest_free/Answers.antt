@@ -1,11 +1,9 @@
 use native.Mathlib.Omega.{arith}
-use Prim.Native.Nat.{◌+◌, ◌-◌, ◌≤◌}
 use mathlib.Core.Path.{◌≡◌}
-use lib.ListN.{length, drop}
+use lib.ListN.{length}
 use borrow.Author.Tests.{eq-eqb, ne_eqb}
-use Rattle.checks.specs.Lists.{first}
 use Rattle.neighbour.specs.Record.{idle}
-use Rattle.gateway_state.specs.Slots.{free_slot, slot_at, addresses, is_none, lowest_free}
+use Rattle.gateway_state.specs.Slots.{free_slot, slot_at, is_none, lowest_free}
 use Rattle.gateway_state.proofs.ListLaws.{unmapped}
 use Rattle.gateway_state.proofs.SlotLaws.{find_here, find_next, find_end}
 use borrow.Author.Rules.{rules}

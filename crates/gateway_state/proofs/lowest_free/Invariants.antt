@@ -1,14 +1,8 @@
-use native.Mathlib.Omega.{arith}
 use Prim.Native.Nat.{◌+◌, ◌-◌, ◌≤◌}
 use mathlib.Core.Path.{◌≡◌}
-use lib.ListN.{length, drop}
-use borrow.Author.Tests.{eq-eqb, ne_eqb}
+use lib.ListN.{drop}
 use Rattle.checks.specs.Lists.{first}
-use Rattle.neighbour.specs.Record.{idle}
-use Rattle.gateway_state.specs.Slots.{free_slot, slot_at, addresses, is_none, lowest_free}
-use Rattle.gateway_state.proofs.ListLaws.{unmapped}
-use Rattle.gateway_state.proofs.SlotLaws.{find_here, find_next, find_end}
-use borrow.Author.Rules.{rules}
+use Rattle.gateway_state.specs.Slots.{addresses, is_none}
 use Rattle.gateway_state.proofs.lowest_free.Given as goal
 
 abbrev pub invariant-loop-free : goal.invariant-loop-free

@@ -1,4 +1,3 @@
-
 use Rattle.gateway_state.proofs.new_slot.Goals as goal
 
 pub returns : goal.returns

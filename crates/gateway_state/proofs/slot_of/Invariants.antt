@@ -1,13 +1,8 @@
-use native.Mathlib.Omega.{arith}
 use Prim.Native.Nat.{◌+◌, ◌-◌, ◌≤◌}
 use mathlib.Core.Path.{◌≡◌}
-use lib.ListN.{length, drop}
+use lib.ListN.{drop}
 use Rattle.checks.specs.Lists.{first}
-use Rattle.neighbour.specs.Record.{idle}
-use Rattle.gateway_state.specs.Slots.{free_slot, slot_at, addresses, clash, slot_of}
-use Rattle.gateway_state.proofs.ListLaws.{unmapped}
-use Rattle.gateway_state.proofs.SlotLaws.{clash_is, clash_not, find_zero, find_here, find_next, find_end}
-use borrow.Author.Rules.{rules}
+use Rattle.gateway_state.specs.Slots.{addresses, clash}
 use Rattle.gateway_state.proofs.slot_of.Given as goal
 
 abbrev pub invariant-loop-i : goal.invariant-loop-i

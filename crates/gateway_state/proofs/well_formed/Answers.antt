@@ -1,4 +1,3 @@
-use borrow.Author.Tests.{not-true, not-false}
 use mathlib.Core.Path.{sym, ◌∙◌}
 use Rattle.gateway_state.specs.Formed.{state_formed}
 use Rattle.gateway_state.proofs.well_formed.Goals as goal

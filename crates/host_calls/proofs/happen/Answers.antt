@@ -1,7 +1,6 @@
 -- `host_calls::happen` meets its contract: a refusal, a tick that only counts, or the ruling carried out. Assumes nothing.
 use native.Mathlib.Omega.{arith}
 use mathlib.Core.Path.{refl, sym, ◌∙◌}
-use borrow.Author.Tests.{not-true, not-false}
 use Rattle.host_calls.proofs.Lent.{lent_long}
 use Rattle.host_calls.proofs.Events.{happen_lent, happen_5, happen_22, found_formed, found_room, happen_counted, happen_asked, happen_done}
 use Rattle.host_calls.proofs.happen.Goals as goal

@@ -1,5 +1,4 @@
 -- `host_calls::lent_answer` meets its contract. Assumes nothing.
-use borrow.Author.Tests.{not-true, not-false}
 use mathlib.Core.Path.{sym, ◌∙◌}
 use Rattle.host_calls.proofs.Lent.{lent_20, lent_1, lent_2, lent_3, lent_0}
 use Rattle.host_calls.proofs.lent_answer.Goals as goal

@@ -8,7 +8,7 @@ use Rattle.neighbour_machine.specs.declared.Reply.TheVariants.{One}
 use Rattle.gateway_rules.specs.Carried.{buffer_after}
 use Rattle.gateway_carry.specs.Asked.{lengths_of}
 use Rattle.host_home.specs.Home.{home_in}
-use Rattle.host_calls.proofs.Sending.{Rowless, two_rowless, one_rowless, rowless_lengths, rowless_buffer, update_asked, update_short, update_lengths, update_buffer}
+use Rattle.host_calls.proofs.Sending.{two_rowless, one_rowless, rowless_lengths, rowless_buffer, update_asked, update_short, update_lengths, update_buffer}
 use Rattle.host_calls.proofs.send.Goals as goal
 
 pub send-requires : goal.send-requires

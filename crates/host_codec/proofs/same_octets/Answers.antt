@@ -1,9 +1,6 @@
 -- `host_codec::same_octets` meets its contract. The loop keeps: what is left of both decides. Assumes nothing.
-use Prim.Native.Nat.{◌-◌, ◌≤◌}
 use native.Mathlib.Omega.{arith}
-use mathlib.Core.Path.{◌≡◌, refl, sym, ◌∙◌}
-use lib.ListN.{length, drop}
-use Rattle.host_codec.specs.Codec.{same_octets}
+use mathlib.Core.Path.{refl, sym, ◌∙◌}
 use Rattle.host_codec.proofs.Same.{same_apart, same_not, same_next, same_end}
 use Rattle.host_codec.proofs.same_octets.Goals as goal
 

@@ -1,10 +1,8 @@
 -- `host_codec::same_octets` meets its contract. The loop keeps: what is left of both decides. Assumes nothing.
 use Prim.Native.Nat.{◌-◌, ◌≤◌}
-use native.Mathlib.Omega.{arith}
-use mathlib.Core.Path.{◌≡◌, refl, sym, ◌∙◌}
+use mathlib.Core.Path.{◌≡◌}
 use lib.ListN.{length, drop}
 use Rattle.host_codec.specs.Codec.{same_octets}
-use Rattle.host_codec.proofs.Same.{same_apart, same_not, same_next, same_end}
 use Rattle.host_codec.proofs.same_octets.Given as goal
 
 abbrev pub invariant-loop-i : goal.invariant-loop-i

@@ -1,9 +1,7 @@
 use mathlib.Core.Path.{ap, ◌∙◌}
-use borrow.Author.Tests.{not-true, not-false}
 use Rattle.octets.specs.Buffer.{over}
 use Rattle.message.specs.declared.Message.{Message}
 use Rattle.codec.specs.Writing.{write_of, write_octets}
-use Rattle.host_codec.specs.Codec.{}
 use Rattle.host_codec.proofs.WriteLaws.{is_told, write_3, write_16, write_done}
 use Rattle.octets_words.specs.Words.{row_numbers}
 use Rattle.host_codec.proofs.write.Goals as goal

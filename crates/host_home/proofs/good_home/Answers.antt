@@ -1,5 +1,4 @@
 -- `host_home::good_home` meets its contract, test by test. Assumes nothing.
-use borrow.Author.Tests.{not-true, not-false}
 use mathlib.Core.Path.{sym, ◌∙◌}
 use Rattle.host_home.proofs.Home.{not_whole, long, rows_bad, rows_good}
 use Rattle.host_home.proofs.good_home.Goals as goal

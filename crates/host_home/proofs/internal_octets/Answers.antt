@@ -1,12 +1,8 @@
 -- `host_home::internal_octets` meets its contract. The loop keeps: the octets counted and those of the internal rows
 -- left are all of them. Assumes nothing.
-use Prim.Native.Nat.{◌+◌, ◌*◌, ◌≤◌}
 use native.Mathlib.Omega.{arith}
-use mathlib.Core.Path.{◌≡◌}
-use lib.ListN.{length, length-drop}
+use lib.ListN.{length-drop}
 use Rattle.checks.proofs.Laws.{part_from_lem}
-use Rattle.update_writing.specs.Blocks.{side_rows}
-use Rattle.host_home.specs.Home.{rows_in}
 use Rattle.host_home.proofs.Loops.{internal_end, internal_more, internal_same}
 use Rattle.host_home.proofs.internal_octets.Goals as goal
 use Rattle.host_home.proofs.internal_octets.Goals.{then-third_of-lt256, else-third_of-lt256}
@@ -23,10 +19,10 @@ loop-rest-smaller c = rw (part_from_lem 12 c.loop-rest.rest.now) (simp length-dr
 pub loop-rest-preserved : goal.loop-rest-preserved
 loop-rest-preserved c = rw (part_from_lem 12 c.loop-rest.rest.now)
     (elim c.if-third_of-lt256.branch [
-      then-third_of-lt256 w ↦
-        (omega (arith, w.taken-is, internal_more c.loop-rest.rest.now c.loop-rest-test.true (rw c.third_of.ensures at w.if-third_of-lt256.true)), simp length-drop (omega (arith, w.taken-is)))
-    | else-third_of-lt256 w ↦
-        (omega (arith, w.taken-is, internal_same c.loop-rest.rest.now c.loop-rest-test.true (rw c.third_of.ensures at w.if-third_of-lt256.false)), simp length-drop (omega (arith, w.taken-is)))
+      | then-third_of-lt256 w ↦
+          (omega (arith, w.taken-is, internal_more c.loop-rest.rest.now c.loop-rest-test.true (rw c.third_of.ensures at w.if-third_of-lt256.true)), simp length-drop (omega (arith, w.taken-is)))
+      | else-third_of-lt256 w ↦
+          (omega (arith, w.taken-is, internal_same c.loop-rest.rest.now c.loop-rest-test.true (rw c.third_of.ensures at w.if-third_of-lt256.false)), simp length-drop (omega (arith, w.taken-is)))
     ])
 
 pub returns : goal.returns

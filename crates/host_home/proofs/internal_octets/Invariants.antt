@@ -1,14 +1,10 @@
 -- `host_home::internal_octets` meets its contract. The loop keeps: the octets counted and those of the internal rows
 -- left are all of them. Assumes nothing.
 use Prim.Native.Nat.{◌+◌, ◌*◌, ◌≤◌}
-use native.Mathlib.Omega.{arith}
-use mathlib.Core.Logic.{⊎_elim}
 use mathlib.Core.Path.{◌≡◌}
-use lib.ListN.{length, length-drop}
-use Rattle.checks.proofs.Laws.{part_from_lem}
+use lib.ListN.{length}
 use Rattle.update_writing.specs.Blocks.{side_rows}
 use Rattle.host_home.specs.Home.{rows_in}
-use Rattle.host_home.proofs.Loops.{internal_end, internal_more, internal_same}
 use Rattle.host_home.proofs.internal_octets.Given as goal
 
 abbrev pub invariant-loop-rest : goal.invariant-loop-rest

@@ -1,11 +1,10 @@
 -- `host_home::past_same` meets its contract. The loop keeps: the rows left decide for all. Assumes nothing.
 use native.Mathlib.Omega.{arith}
-use borrow.Author.Tests.{not-false}
 use mathlib.Core.Path.{sym, ap, ◌∙◌}
-use lib.ListN.{length, length-drop}
+use lib.ListN.{length-drop}
 use Rattle.checks.proofs.Laws.{part_from_lem}
 use Rattle.nets.specs.Classes.{good_net}
-use Rattle.host_home.proofs.Home.{Past, past_start, past_turn}
+use Rattle.host_home.proofs.Home.{past_start, past_turn}
 use Rattle.host_home.proofs.past_same.Goals as goal
 
 pub loop-rest-init : goal.loop-rest-init

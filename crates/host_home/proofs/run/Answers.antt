@@ -1,12 +1,10 @@
 -- `host_home::run` meets its contract. The loop keeps: the octets passed and those of the rows that still agree are the
 -- first run's. Assumes nothing.
-use Prim.Native.Nat.{◌+◌, ◌*◌}
 use native.Mathlib.Omega.{arith}
-use mathlib.Core.Path.{◌≡◌, sym, ◌∙◌}
-use lib.ListN.{length, length-drop}
+use mathlib.Core.Path.{sym, ◌∙◌}
+use lib.ListN.{length-drop}
 use Rattle.checks.proofs.Laws.{part_from_lem}
-use Rattle.update_writing.specs.Steps.{column, agreeing, run_length}
-use Rattle.host_home.specs.Home.{rows_in}
+use Rattle.update_writing.specs.Steps.{column}
 use Rattle.host_home.proofs.Loops.{run_end, run_start, run_same, run_other}
 use Rattle.host_home.proofs.run.Goals as goal
 

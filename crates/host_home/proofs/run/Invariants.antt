@@ -1,13 +1,10 @@
 -- `host_home::run` meets its contract. The loop keeps: the octets passed and those of the rows that still agree are the
 -- first run's. Assumes nothing.
 use Prim.Native.Nat.{◌+◌, ◌*◌}
-use native.Mathlib.Omega.{arith}
-use mathlib.Core.Path.{◌≡◌, sym, ◌∙◌}
-use lib.ListN.{length, length-drop}
-use Rattle.checks.proofs.Laws.{part_from_lem}
+use mathlib.Core.Path.{◌≡◌}
+use lib.ListN.{length}
 use Rattle.update_writing.specs.Steps.{column, agreeing, run_length}
 use Rattle.host_home.specs.Home.{rows_in}
-use Rattle.host_home.proofs.Loops.{run_end, run_start, run_same, run_other}
 use Rattle.host_home.proofs.run.Given as goal
 
 abbrev pub invariant-loop-rest : goal.invariant-loop-rest

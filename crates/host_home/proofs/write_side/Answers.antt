@@ -2,9 +2,8 @@
 -- nothing.
 use native.Mathlib.Omega.{arith}
 use mathlib.Core.Path.{sym}
-use lib.ListN.{length}
 use Rattle.update_writing.specs.Blocks.{block_octets, side_octets}
-use Rattle.host_home.proofs.Loops.{Filling, fill_start, fill_long, fill_most, fill_done, fill_count, taking, count_more, taken_in, taken_length, taken_less, taken_asked, taken_turned}
+use Rattle.host_home.proofs.Loops.{fill_start, fill_long, fill_most, fill_done, fill_count, taking, count_more, taken_in, taken_length, taken_less, taken_asked, taken_turned}
 use Rattle.host_home.proofs.write_side.Goals as goal
 
 pub loop-rest-init : goal.loop-rest-init

@@ -1,10 +1,8 @@
 -- `host_home::write_side` meets its contract. The loop keeps what is left to write and to count, run by run. Assumes
 -- nothing.
-use native.Mathlib.Omega.{arith}
-use mathlib.Core.Path.{sym}
 use lib.ListN.{length}
-use Rattle.update_writing.specs.Blocks.{block_octets, side_octets}
-use Rattle.host_home.proofs.Loops.{Filling, fill_start, fill_long, fill_most, fill_done, fill_count, taking, count_more, taken_in, taken_length, taken_less, taken_asked, taken_turned}
+use Rattle.update_writing.specs.Blocks.{block_octets}
+use Rattle.host_home.proofs.Loops.{Filling}
 use Rattle.host_home.proofs.write_side.Given as goal
 
 abbrev pub invariant-loop-rest : goal.invariant-loop-rest

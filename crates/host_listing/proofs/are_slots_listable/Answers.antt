@@ -1,14 +1,11 @@
 -- `host_listing::are_slots_listable` meets its contract. The loop keeps: the used slots left decide for all. Assumes
 -- nothing.
 use Rattle.host_listing.proofs.Laws.{eight}
-use Rattle.checks.specs.Lists.{every}
 use Rattle.listing.proofs.Laws.{left, listable_not, listable_more, listable_end}
-use Rattle.listing_lines.specs.Listing.{entries, listable}
+use Rattle.listing_lines.specs.Listing.{entries}
 use Rattle.host_state_block.specs.Block.{state_in}
 use Rattle.octets_words.specs.Words.{words_of}
-use mathlib.Core.Path.{◌≡◌, refl, sym, ◌∙◌}
-use Prim.Native.Nat.{◌-◌, ◌≤◌}
-use borrow.Author.Tests.{not-true, not-false}
+use mathlib.Core.Path.{refl, sym, ◌∙◌}
 use native.Mathlib.Omega.{arith}
 use Rattle.host_listing.proofs.are_slots_listable.Goals as goal
 

@@ -1,7 +1,6 @@
 -- `host_listing::listing_answer` meets its contract: the first check that fails answers. Assumes nothing.
 use Rattle.host_listing.proofs.Calls.{other_length, unformed, unfit, lent, unmarked, short_buffer, all_passed}
 use mathlib.Core.Path.{sym, ◌∙◌}
-use borrow.Author.Tests.{not-true, not-false}
 use Rattle.host_listing.proofs.listing_answer.Goals as goal
 
 pub returns-then-block-ne-BLOCK : goal.returns-then-block-ne-BLOCK

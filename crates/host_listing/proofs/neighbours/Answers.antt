@@ -5,10 +5,8 @@ use Rattle.listing.proofs.Laws.{left, count_free, count_used, count_end}
 use Rattle.listing_lines.specs.Listing.{entries}
 use Rattle.gateway_state.specs.Slots.{address_of}
 use Rattle.host_state_block.specs.Block.{state_in}
-use lib.ListN.{length}
-use mathlib.Core.List.{List}
 use mathlib.Core.Path.{◌≡◌, sym, ap, ◌∙◌}
-use Prim.Native.Nat.{ℕ, ◌+◌, ◌-◌, ◌≤◌}
+use Prim.Native.Nat.{◌+◌}
 use native.Mathlib.Omega.{arith}
 use Rattle.host_listing.proofs.neighbours.Goals as goal
 use Rattle.host_listing.proofs.neighbours.Goals.{then-slot-ne0, else-slot-ne0}
@@ -21,13 +19,13 @@ slot_at-slot-requires c = (omega (arith, c.requires), c.loop-i-test.true)
 
 pub loop-i-preserved : goal.loop-i-preserved
 loop-i-preserved c = let e = eight c.args.block.now in let a = ap address_of c.slot_at-slot.ensures in elim c.if-slot-ne0.branch [
-      then-slot-ne0 w ↦
-        let k : c.if-slot-ne0.count ≡ c.loop-i.count + 1 = w.count-is in
-        (omega arith, omega arith, λ table. omega (arith, c.loop-i.invariant.2 table, count_used (state_in c.args.block.now) table c.loop-i.i (omega arith) (λ z. w.if-slot-ne0.true (a ∙ z))))
-    | else-slot-ne0 w ↦
-        let k : c.if-slot-ne0.count ≡ c.loop-i.count = w.count-is in
-        (omega arith, omega arith, λ table. omega (arith, c.loop-i.invariant.2 table, count_free (state_in c.args.block.now) table c.loop-i.i (omega arith) (sym a ∙ w.if-slot-ne0.false)))
-    ]
+  | then-slot-ne0 w ↦
+      let k : c.if-slot-ne0.count ≡ c.loop-i.count + 1 = w.count-is in
+      (omega arith, omega arith, λ table. omega (arith, c.loop-i.invariant.2 table, count_used (state_in c.args.block.now) table c.loop-i.i (omega arith) (λ z. w.if-slot-ne0.true (a ∙ z))))
+  | else-slot-ne0 w ↦
+      let k : c.if-slot-ne0.count ≡ c.loop-i.count = w.count-is in
+      (omega arith, omega arith, λ table. omega (arith, c.loop-i.invariant.2 table, count_free (state_in c.args.block.now) table c.loop-i.i (omega arith) (sym a ∙ w.if-slot-ne0.false)))
+]
 
 pub returns : goal.returns
 unfolding entries left

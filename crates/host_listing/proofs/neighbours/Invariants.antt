@@ -1,16 +1,11 @@
 -- `host_listing::neighbours` meets its contract. The loop keeps: used slots counted and those left are all. Assumes
 -- nothing.
-use Rattle.host_listing.proofs.Laws.{eight}
-use Rattle.listing.proofs.Laws.{left, count_free, count_used, count_end}
-use Rattle.listing_lines.specs.Listing.{entries}
-use Rattle.gateway_state.specs.Slots.{address_of}
+use Rattle.listing.proofs.Laws.{left}
 use Rattle.host_state_block.specs.Block.{state_in}
 use lib.ListN.{length}
 use mathlib.Core.List.{List}
-use mathlib.Core.Logic.{⊎_elim}
-use mathlib.Core.Path.{◌≡◌, sym, ap, ◌∙◌}
+use mathlib.Core.Path.{◌≡◌}
 use Prim.Native.Nat.{ℕ, ◌+◌, ◌-◌, ◌≤◌}
-use native.Mathlib.Omega.{arith}
 use Rattle.host_listing.proofs.neighbours.Given as goal
 
 abbrev pub invariant-loop-i : goal.invariant-loop-i

@@ -3,10 +3,10 @@ use Rattle.host_listing.proofs.Laws.{eight}
 use Rattle.listing.proofs.Laws.{left, text_left, text_turn, text_end}
 use Rattle.listing.specs.Steps.{slot_text, slots_text}
 use Rattle.listing_lines.specs.Listing.{entries}
-use Rattle.octets.proofs.Storing.{Writing, start, room, turn, done}
+use Rattle.octets.proofs.Storing.{start, room, turn, done}
 use Rattle.octets_words.specs.Words.{words_of}
 use Rattle.host_state_block.specs.Block.{state_in}
-use Prim.Native.Nat.{◌+◌, ◌-◌, ◌≤◌}
+use Prim.Native.Nat.{◌+◌}
 use native.Mathlib.Omega.{arith}
 use Rattle.host_listing.proofs.put_slots.Goals as goal
 

@@ -1,11 +1,9 @@
 -- `host_rows::clear_from` meets its contract: the zeros ahead leave the same as all of them. Assumes nothing.
-use Rattle.update_rows.proofs.Laws.{clear_turn, clear_done}
 use Rattle.update_rows.specs.Storing.{zeros}
 use lib.Seq.{sets}
-use lib.ListN.{length, length-set}
-use mathlib.Core.Path.{◌≡◌, refl, sym, ◌∙◌}
+use lib.ListN.{length}
+use mathlib.Core.Path.{◌≡◌}
 use Prim.Native.Nat.{◌≤◌, ◌-◌}
-use native.Mathlib.Omega.{arith}
 use Rattle.host_rows.proofs.clear_from.Given as goal
 
 abbrev pub invariant-loop-i : goal.invariant-loop-i

@@ -1,11 +1,9 @@
 -- `host_rows::put_groups` meets its contract: what is left to store leaves the same as the whole. Assumes nothing.
-use Rattle.update_rows.proofs.Laws.{Doing, final, start, done, stored, turn_room, turn_stored, stored_left}
-use Rattle.update_walk.proofs.Laws.{group_sound}
+use Rattle.update_rows.proofs.Laws.{Doing, final}
 use Rattle.update_walk.specs.Body.{many, group_rows}
 use lib.ListN.{length}
 use Rattle.octets_words.specs.Words.{words_of}
-use mathlib.Core.Path.{◌≡◌, refl, ◌∙◌}
-use native.Mathlib.Omega.{arith}
+use mathlib.Core.Path.{◌≡◌}
 use Rattle.host_rows.proofs.put_groups.Given as goal
 
 abbrev pub invariant-loop-k : goal.invariant-loop-k

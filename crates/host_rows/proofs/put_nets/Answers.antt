@@ -1,12 +1,11 @@
 -- `host_rows::put_nets` meets its contract: what is left to store leaves the same as the whole. Assumes nothing.
-use Rattle.update_rows.proofs.Laws.{Doing, fin, final, start, done, stored, net_some, net_fits, net_room, turn_net}
-use Rattle.update_walk.specs.Body.{many, net_row}
+use Rattle.update_rows.proofs.Laws.{fin, start, done, stored, net_some, net_fits, net_room, turn_net}
 use Rattle.octets_words.specs.Words.{words_of}
 use Rattle.octets_words.proofs.Words.{words_length}
 use Rattle.host_rows.proofs.Laws.{row_of}
-use lib.ListN.{length, drop, length-drop}
-use Prim.Native.Nat.{zero-le, ◌≤◌}
-use mathlib.Core.Path.{◌≡◌, refl, ap, ◌∙◌}
+use lib.ListN.{length-drop}
+use Prim.Native.Nat.{zero-le}
+use mathlib.Core.Path.{refl, ap, ◌∙◌}
 use native.Mathlib.Omega.{arith}
 use Rattle.host_rows.proofs.put_nets.Goals as goal
 

@@ -1,7 +1,6 @@
 -- `host_slots::add` meets its contract. Assumes nothing.
-use borrow.Author.Tests.{not-true, not-false}
 use native.Mathlib.Omega.{arith}
-use mathlib.Core.Path.{refl, sym, ◌∙◌}
+use mathlib.Core.Path.{sym, ◌∙◌}
 use Rattle.host_slots.proofs.Laws.{kept_20, add_1, add_16, add_present, add_17, add_done}
 use Rattle.host_slots.proofs.add.Goals as goal
 

@@ -1,6 +1,5 @@
 -- `host_slots::fresh` meets its contract. Assumes nothing.
-use borrow.Author.Tests.{not-true, not-false}
-use mathlib.Core.Path.{refl, sym, ◌∙◌}
+use mathlib.Core.Path.{refl}
 use Rattle.host_slots.proofs.Laws.{fresh_20, fresh_refused, fresh_done}
 use Rattle.host_slots.proofs.fresh.Goals as goal
 

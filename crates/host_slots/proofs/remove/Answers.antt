@@ -1,7 +1,6 @@
 -- `host_slots::remove` meets its contract. Assumes nothing.
-use borrow.Author.Tests.{not-true, not-false}
 use native.Mathlib.Omega.{arith}
-use mathlib.Core.Path.{refl, sym, ◌∙◌}
+use mathlib.Core.Path.{sym, ◌∙◌}
 use Rattle.host_slots.proofs.Laws.{kept_20, remove_1, remove_5, remove_18, remove_done}
 use Rattle.host_slots.proofs.remove.Goals as goal
 

@@ -1,9 +1,6 @@
 use native.Mathlib.Omega.{arith}
 use mathlib.Core.Path.{◌≡◌, refl, sym, ◌∙◌}
-use borrow.Author.Tests.{not-true, not-false}
-use Prim.Native.Nat.{◌-◌, ◌≤◌}
-use lib.ListN.{length, drop}
-use Rattle.checks.specs.Lists.{distinct}
+use lib.ListN.{length}
 use Rattle.gateway_state.specs.Slots.{apart}
 use Rattle.gateway_state.proofs.ListLaws.{distinct_here, distinct_next, distinct_end}
 use borrow.Author.Rules.{rules}

@@ -1,12 +1,8 @@
-use native.Mathlib.Omega.{arith}
-use mathlib.Core.Path.{◌≡◌, refl, sym, ◌∙◌}
-use borrow.Author.Tests.{not-true, not-false}
+use mathlib.Core.Path.{◌≡◌}
 use Prim.Native.Nat.{◌-◌, ◌≤◌}
-use lib.ListN.{length, drop}
+use lib.ListN.{drop}
 use Rattle.checks.specs.Lists.{distinct}
 use Rattle.gateway_state.specs.Slots.{apart}
-use Rattle.gateway_state.proofs.ListLaws.{distinct_here, distinct_next, distinct_end}
-use borrow.Author.Rules.{rules}
 use Rattle.host_state_block.proofs.are_distinct.Given as goal
 
 abbrev pub invariant-loop-i : goal.invariant-loop-i

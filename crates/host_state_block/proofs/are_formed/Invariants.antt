@@ -1,8 +1,5 @@
-use native.Mathlib.Omega.{arith}
-use mathlib.Core.Path.{sym, ◌∙◌}
 use Prim.Native.Nat.{◌≤◌}
-use borrow.Author.Tests.{not-true, not-false}
-use Rattle.host_state_block.proofs.Checked.{Walked, walk_start, walk_room, walk_part, walk_ill, walk_next, walk_end}
+use Rattle.host_state_block.proofs.Checked.{Walked}
 use Rattle.host_state_block.proofs.are_formed.Given as goal
 
 abbrev pub invariant-loop-left : goal.invariant-loop-left

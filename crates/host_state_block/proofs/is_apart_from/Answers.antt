@@ -1,8 +1,6 @@
 use native.Mathlib.Omega.{arith}
 use mathlib.Core.Path.{◌≡◌, refl, sym, ◌∙◌}
-use Prim.Native.Nat.{◌-◌, ◌≤◌}
 use lib.ListN.{length, drop}
-use Rattle.checks.specs.Lists.{every}
 use Rattle.gateway_state.specs.Slots.{apart}
 use Rattle.gateway_state.proofs.ListLaws.{every_here, every_next, every_end, every_always}
 use Rattle.gateway_state.proofs.SlotLaws.{clash_is, clash_not, clash_zero}

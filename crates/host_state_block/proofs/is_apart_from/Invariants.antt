@@ -1,12 +1,8 @@
-use native.Mathlib.Omega.{arith}
-use mathlib.Core.Path.{◌≡◌, refl, sym, ◌∙◌}
+use mathlib.Core.Path.{◌≡◌}
 use Prim.Native.Nat.{◌-◌, ◌≤◌}
-use lib.ListN.{length, drop}
+use lib.ListN.{drop}
 use Rattle.checks.specs.Lists.{every}
 use Rattle.gateway_state.specs.Slots.{apart}
-use Rattle.gateway_state.proofs.ListLaws.{every_here, every_next, every_end, every_always}
-use Rattle.gateway_state.proofs.SlotLaws.{clash_is, clash_not, clash_zero}
-use borrow.Author.Rules.{rules}
 use Rattle.host_state_block.proofs.is_apart_from.Given as goal
 
 abbrev pub invariant-loop-i : goal.invariant-loop-i

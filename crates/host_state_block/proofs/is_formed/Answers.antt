@@ -1,5 +1,4 @@
 use mathlib.Core.Path.{sym, ◌∙◌}
-use borrow.Author.Tests.{not-true, not-false}
 use Rattle.checks.proofs.Laws.{part_from_lem}
 use Rattle.host_state_block.proofs.Checked.{settings_ill, slots_ill, slots_formed}
 use Rattle.host_state_block.proofs.is_formed.Goals as goal

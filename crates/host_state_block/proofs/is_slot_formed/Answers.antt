@@ -1,5 +1,4 @@
 use mathlib.Core.Path.{sym, ap, ◌∙◌}
-use borrow.Author.Tests.{not-true, not-false}
 use Rattle.gateway_state.specs.Formed.{slot_formed}
 use Rattle.host_state_block.specs.Steps.{part_formed}
 use Rattle.host_state_block.proofs.is_slot_formed.Goals as goal

@@ -1,6 +1,5 @@
 use mathlib.Core.Path.{sym, ap, ◌∙◌}
 use mathlib.Core.Bool.{false≢true}
-use borrow.Author.Tests.{not-false}
 use Rattle.checks.proofs.Laws.{and_both}
 use Rattle.gateway_state.specs.Formed.{slot_formed}
 use Rattle.host_state_block.specs.Layout.{numbers_at}

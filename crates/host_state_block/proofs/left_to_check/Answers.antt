@@ -1,7 +1,6 @@
 use native.Mathlib.Omega.{arith}
 use mathlib.Core.Path.{sym}
-use borrow.Author.Tests.{not-false}
-use Rattle.host_state_block.proofs.Checked.{Walked, walk_start, walk_room, walk_part, walk_next, walk_left}
+use Rattle.host_state_block.proofs.Checked.{walk_start, walk_room, walk_part, walk_next, walk_left}
 use Rattle.host_state_block.proofs.left_to_check.Goals as goal
 
 pub loop-left-init : goal.loop-left-init

@@ -1,7 +1,4 @@
-use native.Mathlib.Omega.{arith}
-use mathlib.Core.Path.{sym}
-use borrow.Author.Tests.{not-false}
-use Rattle.host_state_block.proofs.Checked.{Walked, walk_start, walk_room, walk_part, walk_next, walk_left}
+use Rattle.host_state_block.proofs.Checked.{Walked}
 use Rattle.host_state_block.proofs.left_to_check.Given as goal
 
 abbrev pub invariant-loop-left : goal.invariant-loop-left

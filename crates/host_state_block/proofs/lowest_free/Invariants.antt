@@ -1,13 +1,9 @@
-use native.Mathlib.Omega.{arith}
-use mathlib.Core.Path.{◌≡◌, ap}
-use borrow.Author.Tests.{eq-eqb, ne_eqb}
+use mathlib.Core.Path.{◌≡◌}
 use Prim.Native.Nat.{◌+◌, ◌-◌, ◌≤◌}
-use lib.ListN.{length, drop}
+use lib.ListN.{drop}
 use Rattle.checks.specs.Lists.{first}
 use Rattle.gateway_state.specs.Slots.{is_none, lowest_free}
-use Rattle.gateway_state.proofs.ListLaws.{first_here, first_next, first_end}
 use Rattle.host_state_block.specs.Block.{state_in}
-use borrow.Author.Rules.{rules}
 use Rattle.host_state_block.proofs.lowest_free.Given as goal
 
 abbrev pub invariant-loop-i : goal.invariant-loop-i

@@ -1,14 +1,8 @@
-use native.Mathlib.Omega.{arith}
-use mathlib.Core.Path.{◌≡◌, refl, sym, ap, ◌∙◌}
-use Prim.Native.Nat.{ℕ, ◌-◌, ◌≤◌}
-use lib.ListN.{length, drop, get_or}
+use mathlib.Core.Path.{◌≡◌}
+use Prim.Native.Nat.{◌-◌, ◌≤◌}
+use lib.ListN.{length, drop}
 use lib.Seq.{sets}
-use Rattle.neighbour.specs.Record.{idle}
-use Rattle.gateway_state.specs.Slots.{free_slot}
-use Rattle.gateway_state.proofs.ListLaws.{unmapped}
-use Rattle.host_state_block.specs.Block.{slot_start, slot_octets, slots_octets}
-use Rattle.host_state_block.proofs.Written.{slot_kept, slots_next, slots_done}
-use borrow.Author.Rules.{rules}
+use Rattle.host_state_block.specs.Block.{slot_start, slots_octets}
 use Rattle.host_state_block.proofs.put_slots.Given as goal
 
 abbrev pub invariant-loop-i : goal.invariant-loop-i

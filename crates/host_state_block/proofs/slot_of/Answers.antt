@@ -1,7 +1,6 @@
 use native.Mathlib.Omega.{arith}
 use mathlib.Core.Path.{◌≡◌, ap}
-use Prim.Native.Nat.{◌+◌, ◌-◌, ◌≤◌}
-use lib.ListN.{length, drop}
+use lib.ListN.{length}
 use Rattle.checks.specs.Lists.{first}
 use Rattle.gateway_state.specs.Slots.{clash, slot_of}
 use Rattle.gateway_state.proofs.ListLaws.{first_here, first_next, first_end}

@@ -1,14 +1,9 @@
-use native.Mathlib.Omega.{arith}
-use mathlib.Core.Path.{◌≡◌, ap}
+use mathlib.Core.Path.{◌≡◌}
 use Prim.Native.Nat.{◌+◌, ◌-◌, ◌≤◌}
-use lib.ListN.{length, drop}
+use lib.ListN.{drop}
 use Rattle.checks.specs.Lists.{first}
 use Rattle.gateway_state.specs.Slots.{clash, slot_of}
-use Rattle.gateway_state.proofs.ListLaws.{first_here, first_next, first_end}
-use Rattle.gateway_state.proofs.SlotLaws.{clash_is, clash_not, find_zero}
 use Rattle.host_state_block.specs.Block.{state_in}
-use Rattle.host_state_block.proofs.Read.{state_eight}
-use borrow.Author.Rules.{rules}
 use Rattle.host_state_block.proofs.slot_of.Given as goal
 
 abbrev pub invariant-loop-i : goal.invariant-loop-i

@@ -1,11 +1,8 @@
 -- `listing::are_rows_marked` meets its contract. The loop keeps: the rows left decide for all. Assumes nothing.
 use Rattle.checks.proofs.Laws.{part_from_lem}
-use Rattle.checks.specs.Lists.{every}
 use Rattle.listing.proofs.Laws.{marked_not, marked_next, marked_end}
-use Rattle.listing_lines.specs.Listing.{marked_row}
-use Rattle.nets.specs.Rows.{rows_of}
-use lib.ListN.{length, length-drop}
-use mathlib.Core.Path.{◌≡◌, refl, sym, ◌∙◌}
+use lib.ListN.{length-drop}
+use mathlib.Core.Path.{refl, sym, ◌∙◌}
 use native.Mathlib.Omega.{arith}
 use Rattle.listing.proofs.are_rows_marked.Goals as goal
 

@@ -1,14 +1,9 @@
 -- `listing::are_slots_listable` meets its contract. The loop keeps: the used slots left decide for all. Assumes nothing.
 use Rattle.checks.specs.Lists.{every}
-use Rattle.listing.proofs.Laws.{left, listable_not, listable_more, listable_end}
-use Rattle.listing_lines.specs.Listing.{entries, listable}
-use Rattle.gateway_state.proofs.ListLaws.{unmapped}
-use lib.ListN.{length}
-use mathlib.Core.Path.{◌≡◌, refl, sym, ◌∙◌}
+use Rattle.listing.proofs.Laws.{left}
+use Rattle.listing_lines.specs.Listing.{listable}
+use mathlib.Core.Path.{◌≡◌}
 use Prim.Native.Nat.{◌-◌, ◌≤◌}
-use borrow.Author.Tests.{not-true, not-false}
-use native.Mathlib.Omega.{arith}
-use borrow.Author.Rules.{rules}
 use Rattle.listing.proofs.are_slots_listable.Given as goal
 
 abbrev pub invariant-loop-i : goal.invariant-loop-i

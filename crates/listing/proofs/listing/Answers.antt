@@ -1,7 +1,6 @@
 -- `listing::listing` meets its contract: a refusal, or the text written. Assumes nothing.
 use Rattle.listing.proofs.Calls.{refused, text_room, text_word, carried_out_lem}
 use Rattle.listing.proofs.Words.{typed_of}
-use Rattle.listing.specs.Claims.{Typed}
 use mathlib.Core.Path.{refl}
 use Rattle.gateway_state.specs.contracts.Slot as SlotType
 use Rattle.listing.proofs.listing.Goals as goal

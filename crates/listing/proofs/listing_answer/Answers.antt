@@ -1,7 +1,6 @@
 -- `listing::listing_answer` meets its contract: the first check that fails answers. Assumes nothing.
 use Rattle.listing.proofs.Calls.{unformed, unfit, unmarked, short_buffer, all_passed}
 use mathlib.Core.Path.{sym, ◌∙◌}
-use borrow.Author.Tests.{not-true, not-false}
 use Rattle.listing.proofs.listing_answer.Goals as goal
 
 pub returns-then-not-well_formed : goal.returns-then-not-well_formed

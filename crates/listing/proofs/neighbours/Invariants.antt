@@ -1,16 +1,9 @@
 -- `listing::neighbours` meets its contract. The loop keeps: the used slots counted and those left are all. Assumes nothing.
-use Rattle.listing.proofs.Laws.{left, count_free, count_used, count_end}
-use Rattle.listing_lines.specs.Listing.{entries}
-use Rattle.gateway_state.proofs.ListLaws.{unmapped}
-use Rattle.gateway_state.specs.Slots.{free_slot, slot_at}
-use Rattle.neighbour.specs.Record.{idle}
+use Rattle.listing.proofs.Laws.{left}
 use lib.ListN.{length}
 use mathlib.Core.List.{List}
-use mathlib.Core.Logic.{⊎_elim}
 use mathlib.Core.Path.{◌≡◌}
 use Prim.Native.Nat.{ℕ, ◌+◌, ◌-◌, ◌≤◌}
-use native.Mathlib.Omega.{arith}
-use borrow.Author.Rules.{rules}
 use Rattle.listing.proofs.neighbours.Given as goal
 
 abbrev pub invariant-loop-i : goal.invariant-loop-i

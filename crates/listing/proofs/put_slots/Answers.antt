@@ -3,10 +3,10 @@ use Rattle.listing.proofs.Laws.{left, text_left, text_turn, text_end}
 use Rattle.listing.specs.Steps.{slot_text, slots_text}
 use Rattle.listing_lines.specs.Listing.{entries}
 use Rattle.gateway_state.proofs.ListLaws.{unmapped}
-use Rattle.octets.proofs.Storing.{Writing, start, room, turn, done}
+use Rattle.octets.proofs.Storing.{start, room, turn, done}
 use lib.ListN.{length}
 use mathlib.Core.Path.{◌≡◌}
-use Prim.Native.Nat.{◌+◌, ◌-◌, ◌≤◌}
+use Prim.Native.Nat.{◌+◌}
 use native.Mathlib.Omega.{arith}
 use borrow.Author.Rules.{rules}
 use Rattle.listing.proofs.put_slots.Goals as goal

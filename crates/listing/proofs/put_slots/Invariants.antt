@@ -1,14 +1,8 @@
 -- `listing::put_slots` meets its contract. The loop keeps what is left to write. Assumes nothing.
-use Rattle.listing.proofs.Laws.{left, text_left, text_turn, text_end}
-use Rattle.listing.specs.Steps.{slot_text, slots_text}
-use Rattle.listing_lines.specs.Listing.{entries}
-use Rattle.gateway_state.proofs.ListLaws.{unmapped}
-use Rattle.octets.proofs.Storing.{Writing, start, room, turn, done}
-use lib.ListN.{length}
-use mathlib.Core.Path.{◌≡◌}
-use Prim.Native.Nat.{◌+◌, ◌-◌, ◌≤◌}
-use native.Mathlib.Omega.{arith}
-use borrow.Author.Rules.{rules}
+use Rattle.listing.proofs.Laws.{text_left}
+use Rattle.listing.specs.Steps.{slots_text}
+use Rattle.octets.proofs.Storing.{Writing}
+use Prim.Native.Nat.{◌-◌, ◌≤◌}
 use Rattle.listing.proofs.put_slots.Given as goal
 
 abbrev pub invariant-loop-i : goal.invariant-loop-i

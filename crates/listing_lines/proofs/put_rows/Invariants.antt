@@ -1,11 +1,8 @@
 -- `listing_lines::put_rows` meets its contract. The loop keeps what is left to write. Assumes nothing.
-use Rattle.checks.proofs.Laws.{part_from_lem}
-use Rattle.listing_lines.proofs.Laws.{row_room, row_turn, rows_done}
 use Rattle.listing_lines.specs.Steps.{rows_text}
-use Rattle.octets.proofs.Storing.{Writing, start}
+use Rattle.octets.proofs.Storing.{Writing}
 use Rattle.nets.specs.Rows.{rows_of}
-use lib.ListN.{length, length-drop}
-use native.Mathlib.Omega.{arith}
+use lib.ListN.{length}
 use Rattle.listing_lines.proofs.put_rows.Given as goal
 
 abbrev pub invariant-loop-rest : goal.invariant-loop-rest

@@ -1,4 +1,3 @@
-
 use Rattle.message.proofs.length_allowed.Goals as goal
 
 pub returns-in-Request : goal.returns-in-Request

@@ -1,4 +1,3 @@
-use borrow.Author.Tests.{not-true, not-false}
 use Rattle.message_reading.specs.Reading.{decode_as, decode_of}
 use Rattle.message_reading.proofs.decode.Goals as goal
 

@@ -1,4 +1,3 @@
-
 use Rattle.message_writing.proofs.header.Goals as goal
 
 pub returns : goal.returns

@@ -1,4 +1,4 @@
-use Rattle.neighbour.specs.Record.{aged, with_counts}
+use Rattle.neighbour.specs.Record.{aged}
 use Rattle.neighbour.proofs.age.Goals as goal
 
 pub returns : goal.returns

@@ -1,6 +1,5 @@
 use Rattle.neighbour.specs.Rules.{must_carry_s, in_sequence}
 use mathlib.Core.Path.{sym, ◌∙◌, ap}
-use borrow.Author.Tests.{not-true, not-false}
 use Rattle.neighbour.proofs.in_sequence.Goals as goal
 
 pub returns-then-is_idle : goal.returns-then-is_idle

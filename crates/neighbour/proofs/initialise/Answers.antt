@@ -1,4 +1,4 @@
-use Rattle.neighbour.specs.Record.{initialised, with_counts}
+use Rattle.neighbour.specs.Record.{initialised}
 use mathlib.Core.Path.{refl}
 use Rattle.neighbour.proofs.initialise.Goals as goal
 

@@ -1,4 +1,3 @@
-
 use Rattle.neighbour.proofs.is_command.Goals as goal
 
 pub returns-in-Request : goal.returns-in-Request

@@ -1,6 +1,5 @@
 use Rattle.neighbour.proofs.Counts.{quick_outside, quick_hello, quick_poll, quick_other}
 use mathlib.Core.Path.{sym, ◌∙◌}
-use borrow.Author.Tests.{not-true, not-false}
 use Rattle.neighbour.proofs.is_too_quick.Goals as goal
 
 pub returns-then-not-is_acquired : goal.returns-then-not-is_acquired

@@ -1,4 +1,3 @@
-
 use Rattle.neighbour.proofs.must_carry_s.Goals as goal
 
 pub returns-in-Request : goal.returns-in-Request

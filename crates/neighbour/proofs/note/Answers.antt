@@ -1,7 +1,6 @@
 use Rattle.neighbour.specs.Rules.{noted}
 use Rattle.neighbour.specs.Record.{with_timers, with_reach, heard_from}
 use mathlib.Core.Path.{sym, ◌∙◌}
-use borrow.Author.Tests.{not-true, not-false}
 use Rattle.neighbour.proofs.note.Goals as goal
 
 pub returns-then-not-is_acquired : goal.returns-then-not-is_acquired

@@ -1,7 +1,5 @@
-use Rattle.neighbour.specs.Record.{with_counts}
 use Rattle.neighbour.proofs.Counts.{recounted_outside, recounted_hello, recounted_poll, recounted_other}
 use mathlib.Core.Path.{sym, ◌∙◌}
-use borrow.Author.Tests.{not-true, not-false}
 use Rattle.neighbour.proofs.recount.Goals as goal
 
 pub returns-then-not-is_acquired : goal.returns-then-not-is_acquired

@@ -1,7 +1,6 @@
 use Rattle.neighbour.specs.Rules.{is_command, commanded}
 use Rattle.neighbour.specs.Record.{with_numbers}
 use mathlib.Core.Path.{sym, ◌∙◌, ap}
-use borrow.Author.Tests.{not-true, not-false}
 use Rattle.neighbour.proofs.set_r.Goals as goal
 
 pub returns-then-is_idle : goal.returns-then-is_idle

@@ -1,4 +1,3 @@
-
 use Rattle.neighbour_transitions.proofs.on_request.Goals as goal
 
 pub returns-in-Acceptable : goal.returns-in-Acceptable

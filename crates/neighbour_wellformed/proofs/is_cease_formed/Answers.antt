@@ -1,5 +1,4 @@
 use mathlib.Core.Path.{sym, ◌∙◌}
-use borrow.Author.Tests.{not-true, not-false}
 use Rattle.neighbour_wellformed.proofs.ByState.{cease_refused, cease_cause}
 use Rattle.neighbour_wellformed.proofs.is_cease_formed.Goals as goal
 

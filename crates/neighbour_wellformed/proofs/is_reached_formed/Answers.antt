@@ -1,7 +1,6 @@
 use native.Mathlib.Omega.{arith}
 use mathlib.Core.Path.{sym, ◌∙◌}
 use mathlib.Core.Bool.{false≢true}
-use borrow.Author.Tests.{not-true, not-false}
 use Rattle.neighbour_wellformed.proofs.ByState.{timers_all, reached_refused, reached_last}
 use Rattle.neighbour_wellformed.proofs.is_reached_formed.Goals as goal
 

@@ -1,6 +1,5 @@
 use mathlib.Core.Path.{sym, ◌∙◌}
 use mathlib.Core.Bool.{false≢true}
-use borrow.Author.Tests.{not-true, not-false}
 use Rattle.neighbour_wellformed.proofs.ByState.{timers_all, waiting_refused, waiting_last}
 use Rattle.neighbour_wellformed.proofs.is_waiting_formed.Goals as goal
 

@@ -1,6 +1,6 @@
 use Rattle.neighbour_wellformed.specs.Formed.{all_zero}
 use mathlib.Core.Path.{sym, ◌∙◌}
-use borrow.Author.Tests.{eq-eqb, ne_eqb, not-true, not-false}
+use borrow.Author.Tests.{eq-eqb, ne_eqb}
 use Rattle.neighbour_wellformed.proofs.Laws.{zero_last}
 use Rattle.neighbour_wellformed.proofs.is_zero.Goals as goal
 

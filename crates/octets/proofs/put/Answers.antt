@@ -1,9 +1,9 @@
 -- `put` meets its contract. The loop keeps: what is left to store gives what all of it gave at first. Assumes nothing.
-use Prim.Native.Nat.{◌+◌, ◌-◌, ◌≤◌}
+use Prim.Native.Nat.{◌+◌}
 use native.Mathlib.Nat.{add-zero}
 use native.Mathlib.Omega.{arith}
-use mathlib.Core.Path.{◌≡◌, refl, sym, ap, ◌∙◌}
-use lib.ListN.{length, drop, length-set, drop_of_length-le}
+use mathlib.Core.Path.{refl, sym, ap, ◌∙◌}
+use lib.ListN.{length-set, drop_of_length-le}
 use lib.Seq.{sets}
 use Rattle.octets.proofs.Storing.{copy_turn}
 use Rattle.octets.proofs.put.Goals as goal

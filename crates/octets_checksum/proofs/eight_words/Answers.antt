@@ -1,4 +1,3 @@
-use native.Mathlib.Omega.{arith}
 use Rattle.octets_checksum.proofs.Wide.{wide_eight}
 use Rattle.octets_checksum.proofs.eight_words.Goals as goal
 

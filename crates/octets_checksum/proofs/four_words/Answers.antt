@@ -1,4 +1,3 @@
-use native.Mathlib.Omega.{arith}
 use Rattle.octets_checksum.proofs.Wide.{wide_four}
 use Rattle.octets_checksum.proofs.four_words.Goals as goal
 

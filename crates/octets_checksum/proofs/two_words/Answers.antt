@@ -1,4 +1,3 @@
-use native.Mathlib.Omega.{arith}
 use Rattle.octets_checksum.proofs.Wide.{wide_two}
 use Rattle.octets_checksum.proofs.two_words.Goals as goal
 

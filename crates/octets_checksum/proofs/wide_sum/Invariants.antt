@@ -1,12 +1,8 @@
-use native.Mathlib.Omega.{arith}
 use Prim.Native.Nat.{◌+◌, ◌<◌}
-use mathlib.Core.Path.{◌≡◌, refl, sym, ap, ◌∙◌}
-use mathlib.Core.Logic.{⊎_elim}
-use lib.ListN.{length, drop, length-drop}
-use Rattle.checks.proofs.Laws.{part_from_lem}
+use mathlib.Core.Path.{◌≡◌}
+use lib.ListN.{length}
 use Rattle.octets_checksum.specs.Checksum.{folded}
 use Rattle.octets_checksum.specs.Wide.{wide_total}
-use Rattle.octets_checksum.proofs.Wide.{wide_turn, wide_tail, fold_taken, roomy_again, roomy_below}
 use Rattle.octets_checksum.proofs.wide_sum.Given as goal
 
 abbrev pub invariant-loop-rest : goal.invariant-loop-rest

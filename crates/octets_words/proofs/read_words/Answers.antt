@@ -1,9 +1,6 @@
-use mathlib.Core.Path.{◌≡◌, refl, sym, ap, ◌∙◌}
-use Prim.Native.Nat.{◌+◌, ◌*◌, ◌-◌, ◌≤◌}
+use mathlib.Core.Path.{refl, sym, ◌∙◌}
 use native.Mathlib.Omega.{arith}
-use lib.ListN.{length, take, drop, length-set}
-use lib.Seq.{sets, length-sets}
-use Rattle.octets_words.specs.Words.{words_of}
+use lib.ListN.{length-set}
 use Rattle.octets_words.proofs.Loops.{read_rest, read_turn, read_done, read_all}
 use Rattle.octets_words.proofs.read_words.Goals as goal
 

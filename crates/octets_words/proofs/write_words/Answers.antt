@@ -1,9 +1,5 @@
-use mathlib.Core.Path.{◌≡◌, refl, sym, ap, ◌∙◌}
-use Prim.Native.Nat.{◌+◌, ◌*◌, ◌-◌, ◌≤◌}
+use mathlib.Core.Path.{refl, sym, ◌∙◌}
 use native.Mathlib.Omega.{arith}
-use lib.ListN.{length, drop, length-set}
-use lib.Seq.{sets, length-sets}
-use Rattle.octets_words.specs.Words.{word_octets}
 use Rattle.octets_words.proofs.Loops.{write_kept, write_turn, write_done, write_over}
 use Rattle.octets_words.proofs.write_words.Goals as goal
 

@@ -4,7 +4,6 @@ use Rattle.text.specs.Text.{text}
 use Rattle.text.proofs.Laws.{value_room, end_room, line_done}
 use Rattle.recording_bad_line.specs.BadLine.{bad_text}
 use Rattle.recording_bad_line.proofs.Laws.{report_fits, report_done}
-use borrow.Author.Rules.{rules}
 use Rattle.recording_bad_line.proofs.put_bad.Goals as goal
 
 pub put_long-end-requires : goal.put_long-end-requires

@@ -1,6 +1,6 @@
 -- `recording_course::given` meets its contract. Assumes nothing.
 use mathlib.Core.Path.{sym, ◌∙◌}
-use borrow.Author.Tests.{not-true, not-false, eq-eqb, ne_eqb}
+use borrow.Author.Tests.{eq-eqb, ne_eqb}
 use Rattle.recording_course.proofs.Laws.{given_bad, given_none, given_some}
 use Rattle.recording_course.proofs.given.Goals as goal
 

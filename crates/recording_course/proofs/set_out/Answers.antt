@@ -1,7 +1,6 @@
 -- `recording_course::set_out_lem` meets its contract. Assumes nothing.
 use mathlib.Core.Path.{ap}
 use Rattle.recording_player.specs.declared.Player.{Player}
-use Rattle.recording_course.specs.declared.Course.{Course}
 use Rattle.recording_course.specs.declared.Stage.TheVariants.{Read}
 use Rattle.recording_course.specs.Course.{set_out}
 use Rattle.recording_course.proofs.set_out.Goals as goal

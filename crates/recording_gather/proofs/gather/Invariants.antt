@@ -1,8 +1,7 @@
 -- `recording_gather::gather` meets its contract. The loop keeps: what is left of the piece, from the state reached, gives what the whole gives. Assumes nothing.
 use Prim.Native.Nat.{◌-◌}
-use native.Mathlib.Omega.{arith}
 use lib.ListN.{length}
-use Rattle.recording_gather.proofs.Laws.{Gathering, begins, ends, goes_on, used_up_lem}
+use Rattle.recording_gather.proofs.Laws.{Gathering}
 use Rattle.recording_gather.proofs.gather.Given as goal
 
 abbrev pub invariant-loop-used : goal.invariant-loop-used

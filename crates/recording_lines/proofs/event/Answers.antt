@@ -45,7 +45,7 @@ slice_bounds-add_event-start c = key_fits (text "add=") c.args.line.now (sym c.s
 pub returns-then-starts_with-clause-meaning : goal.returns-then-starts_with-clause-meaning
 unfolding event_of text
 returns-then-starts_with-clause-meaning c = c.add_event.ensures.meaning c.args.line.now ∙ ap (slashed add_event) (part_from_lem 4 c.args.line.now)
-      ∙ sym (with_key (text "add=") (slashed add_event) (from_remove c.args.line.now) c.args.line.now (sym c.starts_with.ensures ∙ c.if-starts_with.true))
+    ∙ sym (with_key (text "add=") (slashed add_event) (from_remove c.args.line.now) c.args.line.now (sym c.starts_with.ensures ∙ c.if-starts_with.true))
 
 pub returns-then-starts_with-clause-stands : goal.returns-then-starts_with-clause-stands
 unfolding event_of text
@@ -62,7 +62,7 @@ slice_bounds-remove_event-start c = key_fits (text "remove=") c.args.line.now (s
 pub returns-then-starts_with-2-clause-meaning : goal.returns-then-starts_with-2-clause-meaning
 unfolding text
 returns-then-starts_with-2-clause-meaning c = c.remove_event.ensures.meaning c.args.line.now ∙ ap (alone remove) (part_from_lem 7 c.args.line.now)
-      ∙ sym (not_add c.args.line.now (sym c.starts_with.ensures ∙ c.if-starts_with.false) ∙ with_key (text "remove=") (alone remove) (from_start c.args.line.now) c.args.line.now (sym c.starts_with-2.ensures ∙ c.if-starts_with-2.true))
+    ∙ sym (not_add c.args.line.now (sym c.starts_with.ensures ∙ c.if-starts_with.false) ∙ with_key (text "remove=") (alone remove) (from_start c.args.line.now) c.args.line.now (sym c.starts_with-2.ensures ∙ c.if-starts_with-2.true))
 
 pub returns-then-starts_with-2-clause-stands : goal.returns-then-starts_with-2-clause-stands
 unfolding text
@@ -79,7 +79,7 @@ slice_bounds-start_event-start c = key_fits (text "start=") c.args.line.now (sym
 pub returns-then-starts_with-3-clause-meaning : goal.returns-then-starts_with-3-clause-meaning
 unfolding text
 returns-then-starts_with-3-clause-meaning c = c.start_event.ensures.meaning c.args.line.now ∙ ap (alone start) (part_from_lem 6 c.args.line.now)
-      ∙ sym (not_remove c.args.line.now (sym c.starts_with.ensures ∙ c.if-starts_with.false) (sym c.starts_with-2.ensures ∙ c.if-starts_with-2.false) ∙ with_key (text "start=") (alone start) (from_stop c.args.line.now) c.args.line.now (sym c.starts_with-3.ensures ∙ c.if-starts_with-3.true))
+    ∙ sym (not_remove c.args.line.now (sym c.starts_with.ensures ∙ c.if-starts_with.false) (sym c.starts_with-2.ensures ∙ c.if-starts_with-2.false) ∙ with_key (text "start=") (alone start) (from_stop c.args.line.now) c.args.line.now (sym c.starts_with-3.ensures ∙ c.if-starts_with-3.true))
 
 pub returns-then-starts_with-3-clause-stands : goal.returns-then-starts_with-3-clause-stands
 unfolding text
@@ -96,7 +96,7 @@ slice_bounds-stop_event-start c = key_fits (text "stop=") c.args.line.now (sym c
 pub returns-then-starts_with-4-clause-meaning : goal.returns-then-starts_with-4-clause-meaning
 unfolding text
 returns-then-starts_with-4-clause-meaning c = c.stop_event.ensures.meaning c.args.line.now ∙ ap (alone stop) (part_from_lem 5 c.args.line.now)
-      ∙ sym (not_start c.args.line.now (sym c.starts_with.ensures ∙ c.if-starts_with.false) (sym c.starts_with-2.ensures ∙ c.if-starts_with-2.false) (sym c.starts_with-3.ensures ∙ c.if-starts_with-3.false) ∙ with_key (text "stop=") (alone stop) (from_tick c.args.line.now) c.args.line.now (sym c.starts_with-4.ensures ∙ c.if-starts_with-4.true))
+    ∙ sym (not_start c.args.line.now (sym c.starts_with.ensures ∙ c.if-starts_with.false) (sym c.starts_with-2.ensures ∙ c.if-starts_with-2.false) (sym c.starts_with-3.ensures ∙ c.if-starts_with-3.false) ∙ with_key (text "stop=") (alone stop) (from_tick c.args.line.now) c.args.line.now (sym c.starts_with-4.ensures ∙ c.if-starts_with-4.true))
 
 pub returns-then-starts_with-4-clause-stands : goal.returns-then-starts_with-4-clause-stands
 unfolding text
@@ -113,7 +113,7 @@ slice_bounds-tick_event-start c = key_fits (text "tick=") c.args.line.now (sym c
 pub returns-then-starts_with-5-clause-meaning : goal.returns-then-starts_with-5-clause-meaning
 unfolding text
 returns-then-starts_with-5-clause-meaning c = c.tick_event.ensures.meaning c.args.line.now ∙ ap (slashed tick_event) (part_from_lem 5 c.args.line.now)
-      ∙ sym (not_stop c.args.line.now (sym c.starts_with.ensures ∙ c.if-starts_with.false) (sym c.starts_with-2.ensures ∙ c.if-starts_with-2.false) (sym c.starts_with-3.ensures ∙ c.if-starts_with-3.false) (sym c.starts_with-4.ensures ∙ c.if-starts_with-4.false) ∙ with_key (text "tick=") (slashed tick_event) (from_rx c.args.line.now) c.args.line.now (sym c.starts_with-5.ensures ∙ c.if-starts_with-5.true))
+    ∙ sym (not_stop c.args.line.now (sym c.starts_with.ensures ∙ c.if-starts_with.false) (sym c.starts_with-2.ensures ∙ c.if-starts_with-2.false) (sym c.starts_with-3.ensures ∙ c.if-starts_with-3.false) (sym c.starts_with-4.ensures ∙ c.if-starts_with-4.false) ∙ with_key (text "tick=") (slashed tick_event) (from_rx c.args.line.now) c.args.line.now (sym c.starts_with-5.ensures ∙ c.if-starts_with-5.true))
 
 pub returns-then-starts_with-5-clause-stands : goal.returns-then-starts_with-5-clause-stands
 unfolding text

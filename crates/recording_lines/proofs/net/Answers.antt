@@ -1,6 +1,5 @@
 -- `recording_lines::net` meets its contract. Assumes nothing.
 use mathlib.Core.Path.{sym, ap, ◌∙◌}
-use borrow.Author.Tests.{not-true, not-false}
 use Rattle.checks.proofs.Laws.{part_from_lem}
 use Rattle.text.specs.Text.{text}
 use Rattle.text_values.specs.declared.Number.TheVariants.{Bad}

@@ -4,7 +4,6 @@ use Prim.Native.Nat.{ℕ, ◌-◌}
 use native.Mathlib.Omega.{arith}
 use mathlib.Core.Path.{sym, ◌∙◌}
 use mathlib.Core.List.{List}
-use borrow.Author.Tests.{not-true, not-false}
 use lib.ListN.{length, take, drop}
 use Rattle.checks.proofs.Laws.{part_from_lem}
 use Rattle.recording_lines.proofs.Reader.{front_fits, rx_no_front, place_fits, rx_too_long, rx_no_hex, rx_said}

@@ -1,5 +1,4 @@
 -- `recording_message::put_body` meets its contract. Assumes nothing.
-use native.Mathlib.Omega.{arith}
 use Rattle.recording_message.specs.Message.{body_fields}
 use Rattle.recording_message.proofs.Laws.{nothing}
 use Rattle.recording_message.proofs.put_body.Goals as goal

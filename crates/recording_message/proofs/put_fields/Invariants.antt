@@ -1,10 +1,7 @@
 -- `recording_message::put_fields` meets its contract. The loop keeps what is written and room for the rest. Assumes nothing.
-use native.Mathlib.Omega.{arith}
-use mathlib.Core.Path.{sym}
 use Prim.Native.Nat.{◌-◌}
 use lib.ListN.{length}
-use Rattle.checks.proofs.Laws.{part_from_lem}
-use Rattle.recording_message.proofs.Laws.{Fields, fields_start, fields_done, size_fits, key_long, key_room, value_room, fields_more}
+use Rattle.recording_message.proofs.Laws.{Fields}
 use Rattle.recording_message.proofs.put_fields.Given as goal
 
 abbrev pub invariant-loop-i : goal.invariant-loop-i

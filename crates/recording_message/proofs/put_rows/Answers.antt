@@ -1,8 +1,8 @@
 -- `recording_message::put_rows` meets its contract. The loop keeps what is written and room for the rest. Assumes nothing.
 use native.Mathlib.Omega.{arith}
-use lib.ListN.{length, length-drop}
+use lib.ListN.{length-drop}
 use Rattle.checks.proofs.Laws.{part_from_lem}
-use Rattle.recording_message.proofs.Laws.{Rows, rows_start, rows_more, rows_done}
+use Rattle.recording_message.proofs.Laws.{rows_start, rows_more, rows_done}
 use Rattle.recording_message.proofs.put_rows.Goals as goal
 
 pub loop-rest-init : goal.loop-rest-init

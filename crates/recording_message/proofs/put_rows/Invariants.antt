@@ -1,8 +1,6 @@
 -- `recording_message::put_rows` meets its contract. The loop keeps what is written and room for the rest. Assumes nothing.
-use native.Mathlib.Omega.{arith}
-use lib.ListN.{length, length-drop}
-use Rattle.checks.proofs.Laws.{part_from_lem}
-use Rattle.recording_message.proofs.Laws.{Rows, rows_start, rows_more, rows_done}
+use lib.ListN.{length}
+use Rattle.recording_message.proofs.Laws.{Rows}
 use Rattle.recording_message.proofs.put_rows.Given as goal
 
 abbrev pub invariant-loop-rest : goal.invariant-loop-rest

@@ -1,6 +1,6 @@
 -- `recording_player::formed_answer` meets its contract. Assumes nothing.
 use mathlib.Core.Path.{sym, ◌∙◌}
-use borrow.Author.Tests.{not-true, not-false, lt-leb, le-leb}
+use borrow.Author.Tests.{lt-leb, le-leb}
 use Rattle.checks.specs.Checks.{check}
 use Rattle.recording_player.specs.Player.{formed_check}
 use Rattle.recording_player.proofs.formed_answer.Goals as goal

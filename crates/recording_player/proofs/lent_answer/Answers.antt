@@ -1,6 +1,6 @@
 -- `recording_player::lent_answer` meets its contract. Assumes nothing.
 use mathlib.Core.Path.{sym, ◌∙◌}
-use borrow.Author.Tests.{not-true, not-false, lt-leb, le-leb}
+use borrow.Author.Tests.{lt-leb, le-leb}
 use lib.Dec.{leb}
 use Rattle.recording_player.proofs.Laws.{lent_1, lent_2, lent_3, lent_0}
 use Rattle.recording_player.proofs.lent_answer.Goals as goal

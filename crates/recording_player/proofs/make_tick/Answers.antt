@@ -1,5 +1,4 @@
 -- `recording_player::make_tick` meets its contract. Assumes nothing.
-use native.Mathlib.Omega.{arith}
 use mathlib.Core.Path.{sym, ◌∙◌}
 use lib.ListN.{length}
 use Rattle.recording_player.specs.Player.{roomy}

@@ -1,5 +1,4 @@
 -- `recording_trace::is_passed_over` meets its contract. Assumes nothing.
-use borrow.Author.Tests.{not-true, not-false}
 use Rattle.recording_trace.specs.Trace.{is_passed_over}
 use Rattle.recording_trace.specs.Steps.{happened_in}
 use Rattle.recording_trace.proofs.is_passed_over.Goals as goal

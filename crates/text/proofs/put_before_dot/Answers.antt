@@ -1,6 +1,5 @@
 -- `text::put_before_dot` meets its contract. Assumes nothing.
 use Rattle.text.proofs.Laws.{number_room, dot_room, dot_done}
-use borrow.Author.Rules.{rules}
 use Rattle.text.proofs.put_before_dot.Goals as goal
 
 pub put_decimal-end-requires : goal.put_decimal-end-requires

@@ -1,9 +1,5 @@
 -- `text_values::index_of` meets its contract. The loop keeps: none of the octets passed is the one looked for. Assumes nothing.
-use Prim.Native.Nat.{◌+◌, ◌-◌, ◌≤◌}
 use native.Mathlib.Omega.{arith}
-use mathlib.Core.Path.{◌≡◌}
-use lib.ListN.{length, drop}
-use Rattle.text_values.specs.Places.{index_of}
 use Rattle.text_values.proofs.Laws.{place_here, place_next, place_end}
 use Rattle.text_values.proofs.index_of.Goals as goal
 

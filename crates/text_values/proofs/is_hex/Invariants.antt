@@ -1,10 +1,7 @@
 -- `text_values::is_hex` meets its contract. The loop keeps: the text left decides for all. Assumes nothing.
-use native.Mathlib.Omega.{arith}
-use mathlib.Core.Path.{◌≡◌, refl, sym, ◌∙◌}
-use lib.ListN.{length, length-drop}
-use Rattle.checks.proofs.Laws.{part_from_lem}
+use mathlib.Core.Path.{◌≡◌}
+use lib.ListN.{length}
 use Rattle.text_values.specs.Hex.{is_hex}
-use Rattle.text_values.proofs.Laws.{hex_first, hex_second, hex_next, hex_end}
 use Rattle.text_values.proofs.is_hex.Given as goal
 
 abbrev pub invariant-loop-rest : goal.invariant-loop-rest

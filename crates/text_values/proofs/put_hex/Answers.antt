@@ -1,9 +1,7 @@
 -- `text_values::put_hex` meets its contract. The loop keeps: what is left to write, and where. Assumes nothing.
-use Prim.Native.Nat.{◌-◌, ◌≤◌}
 use native.Mathlib.Omega.{arith}
-use lib.ListN.{length, drop, length-set}
-use Rattle.octets.proofs.Storing.{Writing, start, done}
-use Rattle.text_values.specs.Hex.{hex_text}
+use lib.ListN.{length-set}
+use Rattle.octets.proofs.Storing.{start, done}
 use Rattle.text_values.proofs.Laws.{digits_room, digits_turn, text_end}
 use Rattle.text_values.proofs.put_hex.Goals as goal
 

@@ -1,10 +1,8 @@
 -- `text_values::read_digits` meets its contract. The loop keeps: the number so far and the digits left give what all give, and it is within the limit. Assumes nothing.
-use Prim.Native.Nat.{◌-◌, ◌≤◌}
 use native.Mathlib.Omega.{arith}
-use mathlib.Core.Path.{◌≡◌, refl, sym, ◌∙◌}
-use lib.ListN.{length, length-drop}
+use mathlib.Core.Path.{refl, sym, ◌∙◌}
+use lib.ListN.{length-drop}
 use Rattle.checks.proofs.Laws.{part_from_lem}
-use Rattle.text_values.specs.Numbers.{digits_of}
 use Rattle.text_values.proofs.Laws.{digits_low, digits_high, digits_above, digits_next, digits_end}
 use Rattle.text_values.proofs.read_digits.Goals as goal
 

@@ -1,11 +1,9 @@
 -- `text_values::read_hex` meets its contract. The loop keeps: the text left is hex, and its octets are what is left to write. Assumes nothing.
 use native.Mathlib.Omega.{arith}
 use mathlib.Core.Bool.{true}
-use mathlib.Core.Path.{◌≡◌}
-use lib.ListN.{length, length-drop}
+use lib.ListN.{length-drop}
 use Rattle.checks.proofs.Laws.{part_from_lem}
-use Rattle.octets.proofs.Storing.{Writing, start, done}
-use Rattle.text_values.specs.Hex.{is_hex, hex_octets}
+use Rattle.octets.proofs.Storing.{start, done}
 use Rattle.text_values.proofs.Laws.{pair_of, octet_room, octet_turn, octets_end, octets_over}
 use Rattle.text_values.proofs.read_hex.Goals as goal
 

@@ -1,9 +1,6 @@
 -- `text_values::starts_with` meets its contract. The loop keeps: what is left of both decides. Assumes nothing.
-use Prim.Native.Nat.{◌-◌, ◌≤◌}
 use native.Mathlib.Omega.{arith}
-use mathlib.Core.Path.{◌≡◌, refl, sym, ◌∙◌}
-use lib.ListN.{length, drop}
-use Rattle.text_values.specs.Places.{starts_with}
+use mathlib.Core.Path.{refl, sym, ◌∙◌}
 use Rattle.text_values.proofs.Laws.{starts_short, starts_not, starts_next, starts_end}
 use Rattle.text_values.proofs.starts_with.Goals as goal
 

@@ -1,10 +1,8 @@
 -- `text_values::starts_with` meets its contract. The loop keeps: what is left of both decides. Assumes nothing.
 use Prim.Native.Nat.{◌-◌, ◌≤◌}
-use native.Mathlib.Omega.{arith}
-use mathlib.Core.Path.{◌≡◌, refl, sym, ◌∙◌}
+use mathlib.Core.Path.{◌≡◌}
 use lib.ListN.{length, drop}
 use Rattle.text_values.specs.Places.{starts_with}
-use Rattle.text_values.proofs.Laws.{starts_short, starts_not, starts_next, starts_end}
 use Rattle.text_values.proofs.starts_with.Given as goal
 
 abbrev pub invariant-loop-i : goal.invariant-loop-i

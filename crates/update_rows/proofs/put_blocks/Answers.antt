@@ -1,9 +1,6 @@
 -- `update_rows::put_blocks` meets its contract: what is left to store leaves the same as the whole. Assumes nothing.
-use Rattle.update_rows.proofs.Laws.{Doing, final, start, done, stored, turn_room, turn_stored, stored_left}
+use Rattle.update_rows.proofs.Laws.{start, done, stored, turn_room, turn_stored, stored_left}
 use Rattle.update_walk.proofs.Laws.{block_sound}
-use Rattle.update_walk.specs.Body.{many, block_rows}
-use lib.ListN.{length}
-use native.Mathlib.Omega.{arith}
 use Rattle.update_rows.proofs.put_blocks.Goals as goal
 
 pub loop-k-init : goal.loop-k-init

@@ -1,8 +1,7 @@
 -- `update_rows::put_nets` meets its contract: what is left to store leaves the same as the whole. Assumes nothing.
-use Rattle.update_rows.proofs.Laws.{Doing, fin, final, start, done, stored, net_some, net_fits, net_room, turn_net}
-use Rattle.update_walk.specs.Body.{many, net_row}
-use lib.ListN.{length, drop, length-drop}
-use Prim.Native.Nat.{zero-le, ◌≤◌}
+use Rattle.update_rows.proofs.Laws.{fin, start, done, stored, net_some, net_fits, net_room, turn_net}
+use lib.ListN.{length-drop}
+use Prim.Native.Nat.{zero-le}
 use mathlib.Core.Path.{ap, ◌∙◌}
 use native.Mathlib.Omega.{arith}
 use Rattle.update_rows.proofs.put_nets.Goals as goal

@@ -1,11 +1,7 @@
 -- `update_walk::skip_blocks` meets its contract: what is left to skip comes to the same as the whole. Assumes nothing.
-use Rattle.update_walk.proofs.Turns.{Skipping, start, passed, stopped, turn_stop, turn_past, turns_done}
+use Rattle.update_walk.proofs.Turns.{start, passed, stopped, turn_stop, turn_past, turns_done}
 use Rattle.update_walk.proofs.Laws.{block_sound}
-use Rattle.update_walk.specs.Walked.{skip_of}
-use Rattle.update_walk.specs.Body.{many, block_rows}
-use lib.ListN.{length}
 use mathlib.Core.Path.{sym, ◌∙◌}
-use Prim.Native.Nat.{ℕ}
 use native.Mathlib.Omega.{arith}
 use Rattle.update_walk.proofs.skip_blocks.Goals as goal
 

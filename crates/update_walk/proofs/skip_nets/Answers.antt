@@ -1,11 +1,8 @@
 -- `update_walk::skip_nets` meets its contract: what is left to skip comes to the same as the whole. Assumes nothing.
 use Rattle.update_walk.proofs.Laws.{class_a_lem, class_b, class_c, classless}
-use Rattle.update_walk.proofs.Turns.{Passing, passing, pass_end, pass_none, pass_net, pass_done}
-use Rattle.update_walk.specs.Walked.{skip_of}
-use Rattle.update_walk.specs.Body.{many, net_row}
+use Rattle.update_walk.proofs.Turns.{passing, pass_end, pass_none, pass_net, pass_done}
 use lib.ListN.{get_or}
 use mathlib.Core.Path.{sym}
-use Prim.Native.Nat.{ℕ}
 use native.Mathlib.Omega.{arith}
 use Rattle.update_walk.proofs.skip_nets.Goals as goal
 

@@ -1,9 +1,8 @@
 -- `update_walk::value` meets its contract: the number so far, continued by the octets ahead, is the number of them all; it is below 256 to the power of the octets passed. Assumes nothing.
-use lib.ListN.{get_or, length, drop}
+use lib.ListN.{get_or, length}
 use Rattle.update_walk.proofs.Digits.{digits_turn, digits_done, one_more_lem, three_octets}
-use Rattle.update_walk.specs.Body.{extended, big_endian}
 use mathlib.Core.Path.{◌≡◌, refl, sym, ◌∙◌}
-use Prim.Native.Nat.{zero-le, ◌≤◌, ◌<◌, ◌-◌, ◌^◌}
+use Prim.Native.Nat.{zero-le}
 use native.Mathlib.Omega.{arith}
 use Rattle.update_walk.proofs.value.Goals as goal
 

@@ -1,12 +1,8 @@
 -- `update_writing::internal_numbers` meets its contract. The loop keeps: the numbers counted and those of the internal rows left are all of them. Assumes nothing.
 use Prim.Native.Nat.{◌+◌, ◌*◌, ◌≤◌}
-use native.Mathlib.Omega.{arith}
-use mathlib.Core.Logic.{⊎_elim}
 use mathlib.Core.Path.{◌≡◌}
-use lib.ListN.{length, length-drop}
-use Rattle.checks.proofs.Laws.{part_from_lem}
+use lib.ListN.{length}
 use Rattle.nets.specs.Rows.{rows_of}
-use Rattle.update_writing.proofs.Loops.{internal_more, internal_same, internal_end}
 use Rattle.update_writing.specs.Blocks.{side_rows}
 use Rattle.update_writing.proofs.internal_numbers.Given as goal
 

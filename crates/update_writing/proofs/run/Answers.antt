@@ -1,12 +1,8 @@
 -- `update_writing::run` meets its contract. The loop keeps: the numbers passed and those of the rows that still agree are the first run's. Assumes nothing.
-use Prim.Native.Nat.{◌+◌, ◌*◌}
 use native.Mathlib.Omega.{arith}
-use mathlib.Core.Path.{◌≡◌}
-use lib.ListN.{length, get_or, length-drop}
+use lib.ListN.{get_or, length-drop}
 use Rattle.checks.proofs.Laws.{part_from_lem}
-use Rattle.nets.specs.Rows.{rows_of}
 use Rattle.update_writing.proofs.Loops.{run_start, run_same, run_other, run_end}
-use Rattle.update_writing.specs.Steps.{column, agreeing, run_length}
 use Rattle.update_writing.proofs.run.Goals as goal
 
 pub loop-rest-init : goal.loop-rest-init

@@ -1,7 +1,6 @@
 -- `update_writing::writable_row` meets its contract, test by test. Assumes nothing.
 use borrow.Author.Tests.{le-leb, lt-leb}
 use Rattle.update_writing.specs.Writable.{writable_row}
-use borrow.Author.Tests.{not-true, not-false}
 use Rattle.update_writing.proofs.writable_row.Goals as goal
 
 pub returns-then-not-good_net : goal.returns-then-not-good_net

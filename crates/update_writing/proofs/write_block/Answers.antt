@@ -1,11 +1,7 @@
 -- `update_writing::write_block` meets its contract: the host, the groups, and between them their number. Assumes nothing.
-use Prim.Native.Nat.{suc, ◌+◌}
 use native.Mathlib.Omega.{arith}
-use mathlib.Core.Path.{◌≡◌}
-use lib.ListN.{length, get_or, length-set}
-use Rattle.nets.specs.Rows.{rows_of}
+use lib.ListN.{length-set}
 use Rattle.update_writing.proofs.Loops.{block_size_lem, block_written}
-use Rattle.update_writing.specs.Blocks.{host_octets, groups_octets, block_octets}
 use Rattle.update_writing.proofs.write_block.Goals as goal
 
 pub write_host-host-requires : goal.write_host-host-requires

@@ -2,7 +2,7 @@
 -- what is known once it is found where the external rows begin
 use native.Mathlib.Omega.{arith}
 use mathlib.Core.Path.{sym, ◌∙◌}
-use Rattle.update_writing.proofs.Loops.{Split, split_found, split_in, split_most, internal_length, internal_asked, external_asked, blocks_written_lem, internal_count, external_count}
+use Rattle.update_writing.proofs.Loops.{split_found, split_in, split_most, internal_length, internal_asked, external_asked, blocks_written_lem, internal_count, external_count}
 use Rattle.update_writing.proofs.Order.{split_asked}
 use Rattle.update_writing.proofs.write_blocks.Goals as goal
 

@@ -1,8 +1,7 @@
 -- `update_writing::write_groups` meets its contract. The loop keeps what is left to write and to count, run by run. Assumes nothing.
 use native.Mathlib.Omega.{arith}
 use mathlib.Core.Path.{refl}
-use lib.ListN.{length}
-use Rattle.update_writing.proofs.Loops.{Grouping, group_start, group_done, count_most, count_done, found, count_more, numbers_in, numbers_most, run_less, run_asked, run_turned}
+use Rattle.update_writing.proofs.Loops.{group_start, group_done, count_most, count_done, found, count_more, numbers_in, numbers_most, run_less, run_asked, run_turned}
 use Rattle.update_writing.specs.Blocks.{group_octets, groups_octets}
 use Rattle.update_writing.proofs.write_groups.Goals as goal
 

@@ -1,12 +1,10 @@
 -- `update_writing::write_nets` meets its contract. The loop keeps what is left to write and to count. Assumes nothing.
 use Prim.Native.Nat.{◌+◌, ◌*◌}
-use native.Mathlib.Omega.{arith}
 use mathlib.Core.Path.{◌≡◌}
-use lib.ListN.{length, length-drop}
-use Rattle.checks.proofs.Laws.{part_from_lem}
-use Rattle.octets.proofs.Storing.{Writing, start, turn, done}
+use lib.ListN.{length}
+use Rattle.octets.proofs.Storing.{Writing}
 use Rattle.nets.specs.Rows.{rows_of}
-use Rattle.update_writing.proofs.Loops.{front, nets_turn, nets_room, nets_other, nets_end, run_same, run_other, run_end}
+use Rattle.update_writing.proofs.Loops.{front}
 use Rattle.update_writing.specs.Blocks.{nets_octets}
 use Rattle.update_writing.specs.Steps.{column, agreeing}
 use Rattle.update_writing.proofs.write_nets.Given as goal

@@ -1,8 +1,7 @@
 -- `update_writing::write_side` meets its contract. The loop keeps what is left to write and to count, run by run. Assumes nothing.
 use native.Mathlib.Omega.{arith}
 use mathlib.Core.Path.{sym}
-use lib.ListN.{length}
-use Rattle.update_writing.proofs.Loops.{Grouping, found, group_start, group_done, count_most, count_done, Turn, count_more, numbers_in, numbers_most, run_length_lem, run_less, run_asked, run_turned}
+use Rattle.update_writing.proofs.Loops.{found, group_start, group_done, count_most, count_done, count_more, numbers_in, numbers_most, run_length_lem, run_less, run_asked, run_turned}
 use Rattle.update_writing.specs.Blocks.{block_octets, side_octets}
 use Rattle.update_writing.proofs.write_side.Goals as goal
 

@@ -41,7 +41,7 @@ fn show(output: &mut impl Write, n: u32) -> bool {
         .is_ok()
 }
 
-// Reads octets from standard input to the front. Where the input ends or fails before, the rest of them stays as it was.
+// Reads octets from standard input to the front. Where the input ends or fails before, the rest stays as it was.
 fn take_octets(input: &mut impl Read, room: &mut [u8], count: usize)
     requires { count ≤ length room.old }
 {

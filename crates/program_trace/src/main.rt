@@ -1,6 +1,6 @@
 // Plays a site's recording back and tells of every call: the trace. docs/RECORDING.md has the format.
 #![tactic(auto)]
 
-fn main() {
-    recording_program::run(true);
+fn main(rt: HostRuntime) {
+    recording_program::run(&rt, true);
 }

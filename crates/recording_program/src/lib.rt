@@ -11,13 +11,18 @@ use recording_course::{Course, Went};
 use std::env::FillError;
 use std::fmt::Write;
 use std::fs::File;
-use std::io::{Error, Read};
+use std::io::{Error, ErrorKind, Read};
+use std::process::ExitCode;
 use std::rt::{Env, Files};
 
 // The system's numbers for a name that is too long, and for one that is no text.
 const TOO_LONG: i32 = 36;
 
 const NO_TEXT: i32 = 84;
+
+// The exit status where nobody reads the output any more: what a shell says of a program that SIGPIPE ended. Any other
+// end has 0.
+const UNREAD: u8 = 141;
 
 // What the system says of an error, without its number.
 fn words_of(text: &str) -> &str {
@@ -35,14 +40,18 @@ fn fail(rt: &impl Eprint, what: &str, error: Error) {
     let _ = eprintln!(rt; "{what}: {reason}");
 }
 
-// Writes the octets at the front.
-fn show(rt: &(impl Print + Eprint), out: &[u8], size: usize) -> bool
+// Writes the octets at the front. That nobody reads them is said by the exit status alone.
+fn show(rt: &(impl Print + Eprint), status: &mut u8, out: &[u8], size: usize) -> bool
     requires { size ≤ length out.now }
 {
     match rt.write_all(&out[..size]) {
         Ok(()) => true,
         Err(error) => {
-            fail(rt, "standard output", error);
+            if error.kind() == ErrorKind::BrokenPipe {
+                *status = UNREAD;
+            } else {
+                fail(rt, "standard output", error);
+            }
             false
         }
     }
@@ -85,7 +94,13 @@ fn go_on(
 }
 
 // Writes what is held, where that is due.
-fn show_held(rt: &(impl Print + Eprint), c: Course, held: usize, out: &[u8]) -> Went
+fn show_held(
+    rt: &(impl Print + Eprint),
+    status: &mut u8,
+    c: Course,
+    held: usize,
+    out: &[u8],
+) -> Went
     requires held_in_bounds { held ≤ length out.now }
     requires in_bounds { 65536 ≤ length out.now }
     ensures { result.written + 65536 ≤ length out.now }
@@ -97,7 +112,7 @@ fn show_held(rt: &(impl Print + Eprint), c: Course, held: usize, out: &[u8]) -> 
         };
     }
     Went {
-        course: recording_course::wrote(c, show(rt, out, held)),
+        course: recording_course::wrote(c, show(rt, status, out, held)),
         written: 0,
     }
 }
@@ -105,6 +120,7 @@ fn show_held(rt: &(impl Print + Eprint), c: Course, held: usize, out: &[u8]) -> 
 // Step after step. Nothing says that an input ends, so they are counted, up to a number that no recording reaches.
 fn play_all(
     rt: &(impl Print + Eprint),
+    status: &mut u8,
     traced: bool,
     input: &mut impl Read,
     name: &str,
@@ -124,21 +140,31 @@ fn play_all(
         c = read_on(rt, c, input, name, piece);
         let w = go_on(c, held, line, table, piece, out);
         c = w.course;
-        let left = show_held(rt, c, held + w.written, out);
+        let left = show_held(rt, status, c, held + w.written, out);
         c = left.course;
         held = left.written;
     }
 }
 
-// Plays all that is read.
-fn play(rt: &(impl Print + Eprint), traced: bool, input: &mut impl Read, name: &str) {
+// Plays all that is read, and says the exit status.
+fn play(rt: &(impl Print + Eprint), traced: bool, input: &mut impl Read, name: &str) -> u8 {
     let mut line = [0u8; 4118];
     let mut table = [0u32; 3072];
     let mut piece = [0u8; 65536];
     let mut out = [0u8; 131072];
+    let mut status = 0;
     play_all(
-        rt, traced, input, name, &mut line, &mut table, &mut piece, &mut out,
+        rt,
+        &mut status,
+        traced,
+        input,
+        name,
+        &mut line,
+        &mut table,
+        &mut piece,
+        &mut out,
     );
+    status
 }
 
 // Whether the program was given an argument of this number.
@@ -151,31 +177,33 @@ fn is_given(rt: &impl Env, number: usize) -> bool {
 }
 
 // Plays the file that the argument names.
-fn play_named(rt: &(impl Print + Eprint + Files + Env), traced: bool) {
+fn play_named(rt: &(impl Print + Eprint + Files + Env), traced: bool) -> u8 {
     let mut path = [0u8; 4096];
     let Ok(size) = rt.arg(1, &mut path) else {
         fail(rt, "file name", Error::from_raw_os_error(TOO_LONG));
-        return;
+        return 0;
     };
     let Ok(name) = str::from_utf8(&path[..size]) else {
         fail(rt, "file name", Error::from_raw_os_error(NO_TEXT));
-        return;
+        return 0;
     };
     match File::open(rt, name) {
         Ok(mut file) => play(rt, traced, &mut file, name),
-        Err(error) => fail(rt, name, error),
+        Err(error) => {
+            fail(rt, name, error);
+            0
+        }
     }
 }
 
 // The whole program.
-pub fn run(rt: &(impl Input + Print + Eprint + Files + Env), traced: bool) {
+pub fn run(rt: &(impl Input + Print + Eprint + Files + Env), traced: bool) -> ExitCode {
     if !is_given(rt, 1) {
-        play(rt, traced, &mut rt.reader(), "standard input");
-        return;
+        return ExitCode::from(play(rt, traced, &mut rt.reader(), "standard input"));
     }
     if is_given(rt, 2) {
         let _ = eprintln!(rt; "usage: one FILE, or none");
-        return;
+        return ExitCode::SUCCESS;
     }
-    play_named(rt, traced);
+    ExitCode::from(play_named(rt, traced))
 }

@@ -5,6 +5,8 @@
 
 ghost use Rattle.std.specs.Prelude.{◌≤◌, length};
 
+use std::io::{Read, Write};
+
 // The sum of the checksums of the messages of size octets that stand in octets.
 fn sum_once(octets: &[u8], size: usize) -> u32 {
     let mut sum = 0u32;
@@ -13,7 +15,7 @@ fn sum_once(octets: &[u8], size: usize) -> u32 {
     }
     let mut rest = octets;
     while size <= rest.len() {
-        sum = std::num::wrapping_add_u32(sum, octets_checksum::checksum(&rest[..size]) as u32);
+        sum = sum.wrapping_add(octets_checksum::checksum(&rest[..size]) as u32);
         rest = &rest[size..];
     }
     sum
@@ -21,32 +23,29 @@ fn sum_once(octets: &[u8], size: usize) -> u32 {
 
 fn sum_often(octets: &[u8], size: usize, times: u32) -> u32 {
     let mut sum = 0u32;
-    let mut left = times;
-    while 0 < left {
-        sum = std::num::wrapping_add_u32(sum, sum_once(octets, size));
-        left -= 1;
+    for _ in 0..times {
+        sum = sum.wrapping_add(sum_once(octets, size));
     }
     sum
 }
 
 // Writes a number of 32 bits.
-fn show(n: u32) -> bool {
-    io::write_all(
-        1,
-        &[
+fn show(output: &mut impl Write, n: u32) -> bool {
+    output
+        .write_all(&[
             octets::first_of(n),
             octets::second_of(n),
             octets::third_of(n),
             octets::fourth_of(n),
-        ],
-    )
+        ])
+        .is_ok()
 }
 
-// Reads octets from standard input to the front.
-fn take_octets(room: &mut [u8], count: usize)
+// Reads octets from standard input to the front. Where the input ends or fails before, the rest stays as it was.
+fn take_octets(input: &mut impl Read, room: &mut [u8], count: usize)
     requires { count ≤ length room.old }
 {
-    io::read_full(0, &mut room[..count]);
+    let _ = input.read_exact(&mut room[..count]);
 }
 
 // The messages at the front, summed up.
@@ -57,36 +56,39 @@ fn sum_front(room: &[u8], count: usize, size: usize, times: u32) -> u32
 }
 
 // The rest of a record whose head is read, and its answer.
-fn serve(room: &mut [u8; 65536], head: &[u8]) -> bool {
+fn serve(
+    input: &mut impl Read,
+    output: &mut impl Write,
+    room: &mut [u8; 65536],
+    head: &[u8],
+) -> bool {
     let times = octets::word32_at(head, 0);
     let size = octets::word16_at(head, 4) as usize;
     let count = octets::word16_at(head, 6) as usize;
-    take_octets(room, count);
-    show(sum_front(room, count, size, times))
+    take_octets(input, room, count);
+    show(output, sum_front(room, count, size, times))
 }
 
 // The next record, if there is one.
-fn turn(room: &mut [u8; 65536]) -> bool {
+fn turn(input: &mut impl Read, output: &mut impl Write, room: &mut [u8; 65536]) -> bool {
     let mut head = [0u8; 8];
-    if io::read_full(0, &mut head) < 8 {
+    if input.read_exact(&mut head).is_err() {
         return false;
     }
-    serve(room, &head)
+    serve(input, output, room, &head)
 }
 
-// Records until the input ends. Nothing says that it ends, so the turns are counted down from a number that no run
-// uses up.
-fn play(room: &mut [u8; 65536]) {
-    let mut turns = u64::MAX;
-    while turns > 0 {
-        if !turn(room) {
+// Records until the input ends. Nothing says that it ends, so the turns are counted, up to a number that no run uses
+// up.
+fn play(input: &mut impl Read, output: &mut impl Write, room: &mut [u8; 65536]) {
+    for _ in 0..u64::MAX {
+        if !turn(input, output, room) {
             return;
         }
-        turns -= 1;
     }
 }
 
-fn main() {
+fn main(rt: HostRuntime) {
     let mut room = [0u8; 65536];
-    play(&mut room);
+    play(&mut rt.stdin(), &mut rt.stdout(), &mut room);
 }

@@ -7,6 +7,7 @@ ghost use Rattle.program_driver.specs.Bounds.{InBounds};
 use codec::Meaning;
 use driver_records::RecordHead;
 use gateway_state::{Outcome, State};
+use std::io::{Read, Write};
 
 // What one record leaves for the next.
 #[derive(Clone, Copy)]
@@ -104,10 +105,8 @@ fn repeat_tick(
     times: u32,
 ) -> Outcome {
     let mut outcome = gateway_state::refused(st, 255);
-    let mut left = times;
-    while 0 < left {
+    for _ in 0..times {
         outcome = gateway_calls::tick(st, table, buffer, address);
-        left -= 1;
     }
     outcome
 }
@@ -123,10 +122,8 @@ fn repeat_receive(
     times: u32,
 ) -> Outcome {
     let mut outcome = gateway_state::refused(st, 255);
-    let mut left = times;
-    while 0 < left {
+    for _ in 0..times {
         outcome = gateway_calls::receive(st, table, buffer, home, address, octets);
-        left -= 1;
     }
     outcome
 }
@@ -141,10 +138,8 @@ fn repeat_call(
     numbers: &[u32],
 ) -> Outcome {
     let mut outcome = gateway_state::refused(st, 255);
-    let mut left = head.times;
-    while 0 < left {
+    for _ in 0..head.times {
         outcome = call(st, table, buffer, head, octets, numbers);
-        left -= 1;
     }
     outcome
 }
@@ -167,14 +162,14 @@ fn repeat(
 }
 
 // Writes the octets at the front.
-fn show_front(octets: &[u8], size: usize) -> bool
+fn show_front(output: &mut impl Write, octets: &[u8], size: usize) -> bool
     requires { size ≤ length octets.now }
 {
-    io::write_all(1, &octets[..size])
+    output.write_all(&octets[..size]).is_ok()
 }
 
 // Writes the answer's head and the state's block.
-fn show_outcome(o: Outcome, room: u32, count: u32, raw: &mut [u8]) -> bool
+fn show_outcome(output: &mut impl Write, o: Outcome, room: u32, count: u32, raw: &mut [u8]) -> bool
     requires { 420 ≤ length raw.old }
 {
     octets::store(
@@ -183,45 +178,52 @@ fn show_outcome(o: Outcome, room: u32, count: u32, raw: &mut [u8]) -> bool
     );
     let st = o.state;
     host_state_block::write_state(&mut raw[16..], st);
-    show_front(raw, 420)
+    show_front(output, raw, 420)
 }
 
 // Writes the numbers of the table.
-fn show_table(table: &[u32], raw: &mut [u8]) -> bool
+fn show_table(output: &mut impl Write, table: &[u32], raw: &mut [u8]) -> bool
     requires { length table.now * 4 ≤ length raw.old }
 {
     octets_words::write_words(raw, table);
-    show_front(raw, table.len() * 4)
+    show_front(output, raw, table.len() * 4)
 }
 
 // Writes what a call left: its outcome, the whole buffer and the whole table.
-fn show(o: Outcome, buffer: &[u8], room: usize, table: &[u32], count: usize) -> bool
+fn show(
+    output: &mut impl Write,
+    o: Outcome,
+    buffer: &[u8],
+    room: usize,
+    table: &[u32],
+    count: usize,
+) -> bool
     requires room_in_bounds { (room ≤ length buffer.now) × (room ≤ 70000) }
     requires count_in_bounds { (count ≤ length table.now) × (count ≤ 4096) }
 {
     let mut raw = [0u8; 16384];
-    if !show_outcome(o, room as u32, count as u32, &mut raw) {
+    if !show_outcome(output, o, room as u32, count as u32, &mut raw) {
         return false;
     }
-    if !show_front(buffer, room) {
+    if !show_front(output, buffer, room) {
         return false;
     }
-    show_table(&table[..count], &mut raw)
+    show_table(output, &table[..count], &mut raw)
 }
 
-// Reads octets from standard input to the front.
-fn take_octets(octets: &mut [u8], size: usize)
+// Reads octets from standard input to the front. Where the input ends or fails before, the rest stays as it was.
+fn take_octets(input: &mut impl Read, octets: &mut [u8], size: usize)
     requires { size ≤ length octets.old }
 {
-    io::read_full(0, &mut octets[..size]);
+    let _ = input.read_exact(&mut octets[..size]);
 }
 
 // Reads numbers from standard input to the front.
-fn take_numbers(numbers: &mut [u32], count: usize)
+fn take_numbers(input: &mut impl Read, numbers: &mut [u32], count: usize)
     requires { (count ≤ length numbers.old) × (count ≤ 4096) }
 {
     let mut raw = [0u8; 16384];
-    take_octets(&mut raw, count * 4);
+    take_octets(input, &mut raw, count * 4);
     octets_words::read_words(&mut numbers[..count], &raw);
 }
 
@@ -246,22 +248,28 @@ fn is_within(head: RecordHead) -> bool
 }
 
 // The next record's head. Where the input ends, one that asks for more than the driver keeps.
-fn next_head() -> RecordHead {
+fn next_head(input: &mut impl Read) -> RecordHead {
     let mut first = [0u8; 32];
-    if io::read_full(0, &mut first) < 32 {
+    if input.read_exact(&mut first).is_err() {
         return driver_records::read_head(&[255u8; 32]);
     }
     driver_records::read_head(&first)
 }
 
 // A record that hands in a table.
-fn hand_in(st: State, table: &mut [u32; 4096], head: RecordHead) -> Turn
+fn hand_in(
+    input: &mut impl Read,
+    output: &mut impl Write,
+    st: State,
+    table: &mut [u32; 4096],
+    head: RecordHead,
+) -> Turn
     requires { InBounds head }
     ensures { result.count ≤ 4096 }
 {
     let count = head.numbers as usize;
-    take_numbers(table, count);
-    let is_open = show(kept(st), b"", 0, table, count);
+    take_numbers(input, table, count);
+    let is_open = show(output, kept(st), b"", 0, table, count);
     Turn {
         state: st,
         count,
@@ -270,12 +278,18 @@ fn hand_in(st: State, table: &mut [u32; 4096], head: RecordHead) -> Turn
 }
 
 // The rest of a record, and the buffer as it is lent.
-fn take_rest(head: RecordHead, octets: &mut [u8], numbers: &mut [u32], buffer: &mut [u8; 70000])
+fn take_rest(
+    input: &mut impl Read,
+    head: RecordHead,
+    octets: &mut [u8],
+    numbers: &mut [u32],
+    buffer: &mut [u8; 70000],
+)
     requires in_bounds { InBounds head }
     requires octets_len { (length octets.old ≡ 4096) × (length numbers.old ≡ 4096) }
 {
-    take_octets(octets, head.octets as usize);
-    take_numbers(numbers, head.numbers as usize);
+    take_octets(input, octets, head.octets as usize);
+    take_numbers(input, numbers, head.numbers as usize);
     lend(buffer, head.room as usize, head.octet);
 }
 
@@ -306,6 +320,8 @@ fn make(
 
 // A record whose head is read: the rest of it, its call and the answer.
 fn serve(
+    input: &mut impl Read,
+    output: &mut impl Write,
     st: State,
     table: &mut [u32; 4096],
     count: usize,
@@ -316,13 +332,13 @@ fn serve(
     ensures { result.count ≤ 4096 }
 {
     if head.kind == 11 {
-        return hand_in(st, table, head);
+        return hand_in(input, output, st, table, head);
     }
     let mut octets = [0u8; 4096];
     let mut numbers = [0u32; 4096];
-    take_rest(head, &mut octets, &mut numbers, buffer);
+    take_rest(input, head, &mut octets, &mut numbers, buffer);
     let o = make(st, table, count, head, &octets, &numbers, buffer);
-    let is_open = show(o, buffer, head.room as usize, table, count);
+    let is_open = show(output, o, buffer, head.room as usize, table, count);
     let after = o.state;
     Turn {
         state: after,
@@ -331,29 +347,32 @@ fn serve(
     }
 }
 
-// Records until the input ends, from the all-zero state. Nothing says that an input ends, so the turns are counted down from a number
-// that no run uses up.
-fn play(table: &mut [u32; 4096], buffer: &mut [u8; 70000]) {
+// Records until the input ends, from the all-zero state. Nothing says that an input ends, so the turns are counted, up
+// to a number that no run uses up.
+fn play(
+    input: &mut impl Read,
+    output: &mut impl Write,
+    table: &mut [u32; 4096],
+    buffer: &mut [u8; 70000],
+) {
     let mut st = host_state_block::read_state(&[0u8; 404]);
     let mut count = 3072;
-    let mut turns = u64::MAX;
-    while turns > 0 {
-        let head = next_head();
+    for _ in 0..u64::MAX {
+        let head = next_head(input);
         if !is_within(head) {
             return;
         }
-        let next = serve(st, table, count, head, buffer);
+        let next = serve(input, output, st, table, count, head, buffer);
         if !next.is_open {
             return;
         }
         st = next.state;
         count = next.count;
-        turns -= 1;
     }
 }
 
-fn main() {
+fn main(rt: HostRuntime) {
     let mut table = [0u32; 4096];
     let mut buffer = [0u8; 70000];
-    play(&mut table, &mut buffer);
+    play(&mut rt.stdin(), &mut rt.stdout(), &mut table, &mut buffer);
 }

@@ -1,6 +1,8 @@
 // Plays a site's recording back: the messages sent, bad lines, and the listing. docs/RECORDING.md has the format.
 #![tactic(auto)]
 
-fn main() {
-    recording_program::run(false);
+use std::process::ExitCode;
+
+fn main(rt: HostRuntime) -> ExitCode {
+    recording_program::run(&rt, false)
 }

@@ -6,31 +6,75 @@ ghost use Rattle.std.specs.Prelude.{◌+◌, ◌≤◌, ◌≡◌, ◌++◌, len
 ghost use Rattle.recording_course.specs.Course.{course_step};
 ghost use Rattle.recording_program.specs.Rooms.{Rooms};
 
-use libc::{STDERR_FILENO, STDIN_FILENO, STDOUT_FILENO};
+use arrayvec::ArrayString;
 use recording_course::{Course, Went};
+use std::env::FillError;
+use std::fmt::Write;
+use std::fs::File;
+use std::io::{Error, ErrorKind, Read};
+use std::process::ExitCode;
+use std::rt::{Env, Files};
 
-// Writes the octets at the front.
-fn show(out: &[u8], size: usize) -> bool
+// The system's numbers for a name that is too long, and for one that is no text.
+const TOO_LONG: i32 = 36;
+
+const NO_TEXT: i32 = 84;
+
+// The exit status where nobody reads the output any more: what a shell says of a program that SIGPIPE ended. Any other
+// end has 0.
+const UNREAD: u8 = 141;
+
+// What the system says of an error, without its number.
+fn words_of(text: &str) -> &str {
+    match text.split_once(" (os error ") {
+        Some((words, _)) => words,
+        None => text,
+    }
+}
+
+// Tells on standard error what failed, and why.
+fn fail(rt: &impl Eprint, what: &str, error: Error) {
+    let mut text = ArrayString::<256>::new();
+    let _ = write!(text, "{error}");
+    let reason = words_of(text.as_str());
+    let _ = eprintln!(rt; "{what}: {reason}");
+}
+
+// Writes the octets at the front. That nobody reads them is said by the exit status alone.
+fn show(rt: &(impl Print + Eprint), status: &mut u8, out: &[u8], size: usize) -> bool
     requires { size ≤ length out.now }
 {
-    let is_written = io::write_all(STDOUT_FILENO, &out[..size]);
-    if !is_written {
-        os::fail(b"standard output");
+    match rt.write_all(&out[..size]) {
+        Ok(()) => true,
+        Err(error) => {
+            if error.kind() == ErrorKind::BrokenPipe {
+                *status = UNREAD;
+            } else {
+                fail(rt, "standard output", error);
+            }
+            false
+        }
     }
-    is_written
 }
 
 // Reads the next piece, where a read comes next.
-fn read_on(c: Course, fd: i32, name: &[u8], piece: &mut [u8]) -> Course {
+fn read_on(
+    rt: &impl Eprint,
+    c: Course,
+    input: &mut impl Read,
+    name: &str,
+    piece: &mut [u8],
+) -> Course {
     if !recording_course::is_read(c) {
         return c;
     }
-    let got = libc::read(fd, piece);
-    if got < 0 {
-        os::fail(name);
-        return recording_course::given(c, false, 0);
+    match input.read(piece) {
+        Ok(got) => recording_course::given(c, true, got),
+        Err(error) => {
+            fail(rt, name, error);
+            recording_course::given(c, false, 0)
+        }
     }
-    recording_course::given(c, true, io::count(got, piece))
 }
 
 // One step. What it wrote is gathered: it lies behind what is held already.
@@ -50,7 +94,13 @@ fn go_on(
 }
 
 // Writes what is held, where that is due.
-fn show_held(c: Course, held: usize, out: &[u8]) -> Went
+fn show_held(
+    rt: &(impl Print + Eprint),
+    status: &mut u8,
+    c: Course,
+    held: usize,
+    out: &[u8],
+) -> Went
     requires held_in_bounds { held ≤ length out.now }
     requires in_bounds { 65536 ≤ length out.now }
     ensures { result.written + 65536 ≤ length out.now }
@@ -62,16 +112,18 @@ fn show_held(c: Course, held: usize, out: &[u8]) -> Went
         };
     }
     Went {
-        course: recording_course::wrote(c, show(out, held)),
+        course: recording_course::wrote(c, show(rt, status, out, held)),
         written: 0,
     }
 }
 
-// Step after step. Nothing says that an input ends, so they are counted down, from a number that no recording reaches.
+// Step after step. Nothing says that an input ends, so they are counted, up to a number that no recording reaches.
 fn play_all(
+    rt: &(impl Print + Eprint),
+    status: &mut u8,
     traced: bool,
-    fd: i32,
-    name: &[u8],
+    input: &mut impl Read,
+    name: &str,
     line: &mut [u8],
     table: &mut [u32],
     piece: &mut [u8],
@@ -81,59 +133,77 @@ fn play_all(
 {
     let mut c = recording_course::set_out(traced);
     let mut held = 0;
-    let mut steps = u64::MAX;
-    while steps > 0 {
+    for _ in 0..u64::MAX {
         if recording_course::is_over(c) {
             return;
         }
-        c = read_on(c, fd, name, piece);
+        c = read_on(rt, c, input, name, piece);
         let w = go_on(c, held, line, table, piece, out);
         c = w.course;
-        let left = show_held(c, held + w.written, out);
+        let left = show_held(rt, status, c, held + w.written, out);
         c = left.course;
         held = left.written;
-        steps -= 1;
     }
 }
 
-// Plays all that a file holds.
-fn play(traced: bool, fd: i32, name: &[u8]) {
+// Plays all that is read, and says the exit status.
+fn play(rt: &(impl Print + Eprint), traced: bool, input: &mut impl Read, name: &str) -> u8 {
     let mut line = [0u8; 4118];
     let mut table = [0u32; 3072];
-    let mut piece = io::large_buffer();
+    let mut piece = [0u8; 65536];
     let mut out = [0u8; 131072];
+    let mut status = 0;
     play_all(
-        traced, fd, name, &mut line, &mut table, &mut piece, &mut out,
+        rt,
+        &mut status,
+        traced,
+        input,
+        name,
+        &mut line,
+        &mut table,
+        &mut piece,
+        &mut out,
     );
+    status
+}
+
+// Whether the program was given an argument of this number.
+fn is_given(rt: &impl Env, number: usize) -> bool {
+    match rt.arg(number, &mut [0u8; 1]) {
+        Ok(_) => true,
+        Err(FillError::TooLong) => true,
+        Err(FillError::NotPresent) => false,
+    }
 }
 
 // Plays the file that the argument names.
-fn play_named(traced: bool) {
-    let mut path = io::buffer();
-    let size = os::arg(1, &mut path);
-    if os::errno() != 0 {
-        os::fail(b"file name");
-        return;
+fn play_named(rt: &(impl Print + Eprint + Files + Env), traced: bool) -> u8 {
+    let mut path = [0u8; 4096];
+    let Ok(size) = rt.arg(1, &mut path) else {
+        fail(rt, "file name", Error::from_raw_os_error(TOO_LONG));
+        return 0;
+    };
+    let Ok(name) = str::from_utf8(&path[..size]) else {
+        fail(rt, "file name", Error::from_raw_os_error(NO_TEXT));
+        return 0;
+    };
+    match File::open(rt, name) {
+        Ok(mut file) => play(rt, traced, &mut file, name),
+        Err(error) => {
+            fail(rt, name, error);
+            0
+        }
     }
-    let fd = os::open_read(&path[..size]);
-    if fd < 0 {
-        os::fail(&path[..size]);
-        return;
-    }
-    play(traced, fd, &path[..size]);
-    libc::close(fd);
 }
 
 // The whole program.
-pub fn run(traced: bool) {
-    let given = os::arg_count();
-    if given < 2 {
-        play(traced, STDIN_FILENO, b"standard input");
-        return;
+pub fn run(rt: &(impl Input + Print + Eprint + Files + Env), traced: bool) -> ExitCode {
+    if !is_given(rt, 1) {
+        return ExitCode::from(play(rt, traced, &mut rt.reader(), "standard input"));
     }
-    if 2 < given {
-        io::write_all(STDERR_FILENO, b"usage: one FILE, or none\n");
-        return;
+    if is_given(rt, 2) {
+        let _ = eprintln!(rt; "usage: one FILE, or none");
+        return ExitCode::SUCCESS;
     }
-    play_named(traced);
+    ExitCode::from(play_named(rt, traced))
 }

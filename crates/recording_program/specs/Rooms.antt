@@ -5,5 +5,5 @@ use Rattle.std.specs.Prelude.{ℕ, ◌≡◌, List, length}
 -- listing, so that as much may be gathered before a step still finds room
 pub record Rooms (line table out : List ℕ) : Type 0 where
   pub line_size : length line ≡ 4118
-  pub table_size_lem : length table ≡ 3072
+  pub table_size : length table ≡ 3072
   pub out_size : length out ≡ 131072

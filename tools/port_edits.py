@@ -27,7 +27,7 @@ AT_ONCE = 3  # copies that are turned at a time
 USE = re.compile(r"\s*(pub )?(ghost )?(pub )?(use|mod) ")
 TOKEN = re.compile(r"\\.|◌[^\s◌]+◌|[\w'′·]+(?:-(?=\w)[\w'′·]+)*|\s+|[&|=<>!+:]+|.")
 # edit -> path that OLD's edit names -> what stands for its pairs of that path: path now, old text, new text;
-# or path now, (word, other word), which is a pair for each line that has the word
+# or path now, (word, other word), which is a pair for each line that has the word. "+": pairs that no path of OLD had
 HAND = {
     # the search finds what this pair had told it
     "crates/host_state_block/must-fail/more/block_slot_written_one_octet_late.edit": {"proofs/put_slot/Proof.antt": []},
@@ -49,6 +49,27 @@ HAND = {
             ),
         ],
     },
+    "wrong-rules/eleven_before_ten.edit": {
+        "crates/message_reading/src/lib.rt": [
+            (
+                "crates/message_reading/src/lib.rt",
+                "        return Decoded::UnknownKind;",
+                "        if 130 < octets::octet(message, 3) { return Decoded::BadStatus; } return Decoded::UnknownKind;",
+            ),
+        ],
+        "crates/message_reading/proofs/decode/Proof.antt": [
+            (
+                "crates/message_reading/src/lib.rt",
+                "// The kind stage: 10, 11 and 12, or the message's meaning.",
+                "#[tactic(auto, unfolding(crate::specs::Reading::decode_of, crate::specs::Reading::decode_as))]",
+            ),
+            (
+                "crates/message_reading/proofs/decode/Answers.antt",
+                "c.in_default.is)",
+                "c.in_default.is, ← c.octet-in_default.ensures, borrow.Author.Tests.le-leb _ _ c.if-octet-gt130.false)",
+            ),
+        ],
+    },
     "wrong-rules/home_list_of_13_octets_as_one_row.edit": {
         "crates/host_home/proofs/write_blocks/Proof.antt": [
             ("crates/host_home/proofs/write_blocks/Answers.antt", "pub split_of-split-requires : goal.split_of-split-requires", ""),
@@ -58,6 +79,10 @@ HAND = {
                 "",
             ),
             ("crates/host_home/proofs/write_blocks/Answers.antt", ("c.split_of-split", "c.internal_octets-split")),
+        ],
+        "+": [
+            ("crates/host_home/proofs/Loops.antt", "→ good_net net ≡ true → length l % 12 ≡ 0 →", "→ good_net net ≡ true → length l % 12 ≤ 3 →"),
+            ("crates/host_home/proofs/good_home/Answers.antt", ("home-ne0", "home-gt3")),
         ],
     },
     "wrong-rules/quiet_before_the_net_in_the_block.edit": {
@@ -367,22 +392,29 @@ def relaid(lines, new):
 
 
 def became(base, parts):
-    """line number -> new line, in the turned text, for the differences of one edit; and the imports that go where a remark stood"""
-    notes, imports, kept = [], [], []
+    """line number -> new line, in the turned text, for the differences of one edit; and the lines that find no remark to stand for"""
+    notes, moved, kept = [], [], []
     for start, end, new in parts:
-        if not any(is_note(it) for it in new) and (end - start != len(new) or any(USE.match(it) for it in new)):
-            while start < end and is_note(base[start]):
-                notes.append(start)
-                start += 1
-            while start < end and is_note(base[end - 1]):
-                end -= 1
-                notes.append(end)
-        if start == end:
-            lost = [it for it in new if USE.match(it)]
-            imports += lost
-            new = [it for it in new if not USE.match(it) and it.strip()]
-            if not new:
+        # an import of a file that was not imported before
+        heads = {it.split("{")[0] for it in base[start:end] if USE.match(it)}
+        fresh = [it for it in new if USE.match(it) and "{" in it and it.split("{")[0] not in heads]
+        if fresh and end - start != len(new):
+            moved += fresh
+            new = [it for it in new if it not in fresh]
+        lines = [it for it in new if it.strip()]
+        if start == end and not lines:
+            continue
+        if not any(is_note(it) for it in lines) and end - start != len(new):
+            # an edit of OLD can put a line in only where a remark stands
+            had = [it for it in range(start, end) if is_note(base[it])]
+            rest = [it for it in range(start, end) if it not in had and base[it].strip()]
+            if not rest and (had or all(USE.match(it) for it in lines)):
+                notes += had
+                moved += lines
                 continue
+            notes += [it for it in had if it < rest[0] or it > rest[-1]] if rest else []
+            if rest:
+                start, end = rest[0], rest[-1] + 1
         kept.append((start, end, new))
     found = {}
     for start, end, new in whole(kept, base):
@@ -398,9 +430,8 @@ def became(base, parts):
             rows = relaid(lines, new)
         for row, it in rows.items():
             found[start + row] = it
-    for note, line in zip(sorted(notes), imports):
-        found[note] = line
-    return found, imports[len(notes) :]
+    found.update(zip(sorted(notes), moved))
+    return found, moved[len(notes) :] + [it for row, it in found.items() if is_note(base[row]) and is_note(it)]
 
 
 def turned_edits(old, room):
@@ -621,6 +652,7 @@ def port(old, room, words):
                 if fault:
                     why.append(f"{path}: {fault}")
                 pairs += [(path[len(folder_of(edit)) :], *it) for it in made or []]
+        pairs += spelled_out(edit, hand.get("+", []))
         if not why:
             why = [it for it in [applied(ROOT, edit, pairs)[1]] if it]
         if why:

@@ -29,12 +29,23 @@ TOKEN = re.compile(r"\\.|◌[^\s◌]+◌|[\w'′·]+(?:-(?=\w)[\w'′·]+)*|\s+|
 # edit -> path that OLD's edit names -> what stands for its pairs of that path: path now, old text, new text;
 # or path now, (word, other word), which is a pair for each line that has the word. "+": pairs that no path of OLD had
 HAND = {
+    "wrong-rules/count_of_121.edit": {"+": [("crates/neighbour_wellformed/proofs/are_timers_formed/Answers.antt", ("hello-gt-HOLDS_AT", "hello-gt121"))]},
+    "wrong-rules/hello_interval_of_120_refused.edit": {"+": [("crates/neighbour/proofs/is_unacceptable/Answers.antt", ("hello-gt120", "hello-gt119"))]},
+    "wrong-rules/larger_as_active.edit": {"+": [("crates/neighbour/proofs/mode_of/Answers.antt", ("own-peer", "peer-own"))]},
+    "wrong-rules/quiet_2_let_through.edit": {"+": [("crates/gateway_state/proofs/good_settings/Answers.antt", ("settings-gt1", "settings-gt2-2"))]},
+    "wrong-rules/quiet_taken_on_the_sixth_line.edit": {"+": [("crates/recording_player/proofs/is_setting/Answers.antt", ("lines-ne4", "lines-ne5"))]},
+    "wrong-rules/t1_of_123.edit": {"+": [("crates/neighbour_wellformed/proofs/are_timers_formed/Answers.antt", ("t1-gt122", "t1-gt123"))]},
+    # said in one place, so that the names that the proof cites stay
+    "crates/gateway_calls/must-fail/three_before_two.edit": {
+        "src/lib.rt": [("src/lib.rt", "        return 2;", "        if octets < 2048 { return 3; } return 2;")],
+    },
     # the search finds what this pair had told it
     "crates/host_state_block/must-fail/more/block_slot_written_one_octet_late.edit": {"proofs/put_slot/Proof.antt": []},
     "wrong-rules/add_starts_with_a_second.edit": {
         "crates/gateway_state/proofs/free_slot/Proof.antt": [
             ("crates/gateway_state/proofs/free_slot/Answers.antt", "returns c = c.new_slot.ensures", "returns c = rw c.new_slot-s.ensures"),
         ],
+        "+": [("crates/gateway_state/proofs/new_slot/Answers.antt", ("c.none.", "c.none-s."))],
     },
     "wrong-rules/counts_exchanged_in_the_block.edit": {
         "crates/host_state_block/proofs/read_neighbour/Proof.antt": [

@@ -1,39 +1,64 @@
 #!/usr/bin/env python3
-"""Brings the edits that the check must refuse over to today's text: crates/*/must-fail/*.edit, crates/*/must-fail-more/*.edit, wrong-rules/*.edit.
+"""Brings the edits that the check must refuse over to today's text: crates/*/must-fail/*.edit,
+crates/*/must-fail-more/*.edit and wrong-rules/*.edit.
 
-usage: tools/port_edits.py OLD [--room DIR] [WORD..]     OLD: a checkout of the last commit before the port; WORD: only edits whose path has it
-       tools/port_edits.py --fit                         whether every edit stands once and changes something; writes nothing
+usage: tools/port_edits.py OLD [--room DIR] [WORD..]
+           OLD: a checkout of the last commit before the port; WORD: only edits whose path has it
+       tools/port_edits.py --fit
+           says whether every edit stands once and changes something; writes nothing
 
-The edits of OLD are put into copies of OLD, many to a copy and no two near one another, and each copy is turned by the port's own scripts (port.py
-of the kit, then tools/port_names.py). Where it then differs from OLD turned alike, that is what an edit has become. It is looked up in the files as
-they are now, and written as pairs of one line each that stand once there. DIR keeps the turned copies, which take an hour: a second run takes seconds.
-HAND has the pairs for which this is not enough.
+The edits of OLD are put into copies of OLD, many to a copy and no two near one another, and each copy is turned by the
+port's own scripts (port.py of the kit, then tools/port_names.py). Where it then differs from OLD turned alike, that is
+what an edit has become. It is looked up in the files as they are now, and written as pairs of one line each that stand
+once there. DIR keeps the turned copies, which take an hour: a second run takes seconds. HAND has the pairs for which
+this is not enough.
 """
 import collections
 import difflib
 import glob
 import hashlib
 import importlib.util
-import json
 import os
 import re
 import shutil
 import subprocess
 import sys
+import tempfile
 
 ROOT = os.path.dirname(os.path.dirname(os.path.abspath(__file__)))
 NEAR = 4  # lines between two edits of one copy
 AT_ONCE = 3  # copies that are turned at a time
 USE = re.compile(r"\s*(pub )?(ghost )?(pub )?(use|mod) ")
 TOKEN = re.compile(r"\\.|◌[^\s◌]+◌|[\w'′·]+(?:-(?=\w)[\w'′·]+)*|\s+|[&|=<>!+:]+|.")
-# edit -> path that OLD's edit names -> what stands for its pairs of that path: path now, old text, new text;
-# or path now, (word, other word), which is a pair for each line that has the word. "+": pairs that no path of OLD had
+# edit -> path that OLD's edit names -> what stands for its pairs of that path: path now, old text, new text; or path
+# now, (word, other word), which is a pair for each line that has the word. "+": pairs that no path of OLD had. A step
+# of a proof is named by the code's own text today, so where an edit turns a test, the answers name the turned one.
 HAND = {
-    # the search finds what this pair had told it
-    "crates/host_state_block/must-fail/more/block_slot_written_one_octet_late.edit": {"proofs/put_slot/Proof.antt": []},
+    # said in one place, so that the names that the proof cites stay
+    "crates/gateway_calls/must-fail/three_before_two.edit": {
+        "src/lib.rt": [
+            ("src/lib.rt", "        return 2;", "        if octets < 2048 { return 3; } return 2;"),
+        ],
+    },
+    # the search finds what the pair had told
+    "crates/host_state_block/must-fail/more/block_slot_written_one_octet_late.edit": {
+        "proofs/put_slot/Proof.antt": [],
+    },
     "wrong-rules/add_starts_with_a_second.edit": {
         "crates/gateway_state/proofs/free_slot/Proof.antt": [
-            ("crates/gateway_state/proofs/free_slot/Answers.antt", "returns c = c.new_slot.ensures", "returns c = rw c.new_slot-s.ensures"),
+            (
+                "crates/gateway_state/proofs/free_slot/Answers.antt",
+                "returns c = c.new_slot.ensures",
+                "returns c = rw c.new_slot-s.ensures",
+            ),
+        ],
+        "+": [
+            ("crates/gateway_state/proofs/new_slot/Answers.antt", ("c.none.", "c.none-s.")),
+        ],
+    },
+    "wrong-rules/count_of_121.edit": {
+        "+": [
+            ("crates/neighbour_wellformed/proofs/are_timers_formed/Answers.antt", ("hello-gt-HOLDS_AT", "hello-gt121")),
         ],
     },
     "wrong-rules/counts_exchanged_in_the_block.edit": {
@@ -70,9 +95,18 @@ HAND = {
             ),
         ],
     },
+    "wrong-rules/hello_interval_of_120_refused.edit": {
+        "+": [
+            ("crates/neighbour/proofs/is_unacceptable/Answers.antt", ("hello-gt120", "hello-gt119")),
+        ],
+    },
     "wrong-rules/home_list_of_13_octets_as_one_row.edit": {
         "crates/host_home/proofs/write_blocks/Proof.antt": [
-            ("crates/host_home/proofs/write_blocks/Answers.antt", "pub split_of-split-requires : goal.split_of-split-requires", ""),
+            (
+                "crates/host_home/proofs/write_blocks/Answers.antt",
+                "pub split_of-split-requires : goal.split_of-split-requires",
+                "",
+            ),
             (
                 "crates/host_home/proofs/write_blocks/Answers.antt",
                 "split_of-split-requires c = (c.requires.net_value.1, (split_asked _ _ c.requires.net_value.2).1)",
@@ -81,24 +115,55 @@ HAND = {
             ("crates/host_home/proofs/write_blocks/Answers.antt", ("c.split_of-split", "c.internal_octets-split")),
         ],
         "+": [
-            ("crates/host_home/proofs/Loops.antt", "→ good_net net ≡ true → length l % 12 ≡ 0 →", "→ good_net net ≡ true → length l % 12 ≤ 3 →"),
+            (
+                "crates/host_home/proofs/Loops.antt",
+                "→ good_net net ≡ true → length l % 12 ≡ 0 →",
+                "→ good_net net ≡ true → length l % 12 ≤ 3 →",
+            ),
             ("crates/host_home/proofs/good_home/Answers.antt", ("home-ne0", "home-gt3")),
+        ],
+    },
+    "wrong-rules/larger_as_active.edit": {
+        "+": [
+            ("crates/neighbour/proofs/mode_of/Answers.antt", ("own-peer", "peer-own")),
+        ],
+    },
+    "wrong-rules/quiet_2_let_through.edit": {
+        "+": [
+            ("crates/gateway_state/proofs/good_settings/Answers.antt", ("settings-gt1", "settings-gt2-2")),
         ],
     },
     "wrong-rules/quiet_before_the_net_in_the_block.edit": {
         "crates/host_state_block/proofs/read_settings/Proof.antt": [
-            ("crates/host_state_block/proofs/read_settings/Answers.antt", "quiet = get_or c.args.part.now 11 0", "quiet = get_or c.args.part.now 7 0"),
+            (
+                "crates/host_state_block/proofs/read_settings/Answers.antt",
+                "quiet = get_or c.args.part.now 11 0",
+                "quiet = get_or c.args.part.now 7 0",
+            ),
         ],
         "crates/host_state_block/proofs/settings_octets/Proof.antt": [
             ("crates/host_state_block/proofs/settings_octets/Answers.antt", "∷ c.args.s.quiet ∷ []", "∷ []"),
-            ("crates/host_state_block/proofs/settings_octets/Answers.antt", "∷ c.args.s.capability", "∷ c.args.s.capability ∷ c.args.s.quiet"),
+            (
+                "crates/host_state_block/proofs/settings_octets/Answers.antt",
+                "∷ c.args.s.capability",
+                "∷ c.args.s.capability ∷ c.args.s.quiet",
+            ),
+        ],
+    },
+    "wrong-rules/quiet_taken_on_the_sixth_line.edit": {
+        "+": [
+            ("crates/recording_player/proofs/is_setting/Answers.antt", ("lines-ne4", "lines-ne5")),
         ],
     },
     "wrong-rules/seven_before_six.edit": {
         "crates/message_reading/src/lib.rt": [
             ("crates/message_reading/src/lib.rt", "        return 7;", ""),
             ("crates/message_reading/src/lib.rt", "    if octets::octet(message, 0) != 2 {", "    {"),
-            ("crates/message_reading/src/lib.rt", "    if message.len() < 10 {", "    if octets::octet(message, 0) != 2 { return 7; } if message.len() < 10 {"),
+            (
+                "crates/message_reading/src/lib.rt",
+                "    if message.len() < 10 {",
+                "    if octets::octet(message, 0) != 2 { return 7; } if message.len() < 10 {",
+            ),
         ],
         "crates/message_reading/proofs/read_header/Proof.antt": [
             (
@@ -145,6 +210,11 @@ HAND = {
                 "add_17 c.args.st c.args.address c.args.asn (sym c.well_formed-2.ensures ∙ c.if-not-well_formed.false) (sym c.good_peer.ensures ∙ c.if-not-good_peer.false) (rw c.slot_of.ensures at c.if-slot_of-lt-SLOTS.false)",
                 "add_17 c.args.st c.args.address c.args.asn (sym c.well_formed-2.ensures ∙ c.if-not-well_formed.false)",
             ),
+        ],
+    },
+    "wrong-rules/t1_of_123.edit": {
+        "+": [
+            ("crates/neighbour_wellformed/proofs/are_timers_formed/Answers.antt", ("t1-gt122", "t1-gt123")),
         ],
     },
 }
@@ -364,7 +434,7 @@ def without_last_commas(words):
 
 
 def relaid(lines, new):
-    """line number -> new line, where other lines came to stand for some: each change is put into the line of its first word"""
+    """line number -> new line, where lines were laid out anew: a change goes into the line of its first word"""
     was = without_last_commas([(word, row, a, b) for row, line in enumerate(lines) for word, a, b in tokens(line)])
     text = " ".join(it.strip() for it in new if it.strip())
     now = without_last_commas(tokens(text))
@@ -392,7 +462,7 @@ def relaid(lines, new):
 
 
 def became(base, parts):
-    """line number -> new line, in the turned text, for the differences of one edit; and the lines that find no remark to stand for"""
+    """line number -> new line, in the turned text, for the differences of one edit; and what finds no place"""
     notes, moved, kept = [], [], []
     for start, end, new in parts:
         # an import of a file that was not imported before
@@ -518,7 +588,7 @@ def carried(base, lines, now):
 
 
 def context(edit_pairs, line):
-    """how many words of context the edit of OLD has on each side of what it changes in such a line; None: the whole line"""
+    """how many words of context the edit of OLD has on each side of what it changes in such a line"""
     best = max(edit_pairs, key=lambda it: difflib.SequenceMatcher(None, plain(it[0]), plain(line)).ratio())
     a, b = [it[0] for it in tokens(best[0])], [it[0] for it in tokens(best[1])]
     left = 0
@@ -685,7 +755,7 @@ def main(words):
         print(__doc__)
         return 2
     old, words = os.path.abspath(words[0]), words[1:]
-    room = os.path.join(ROOT, "target", "port_edits")
+    room = os.path.join(tempfile.gettempdir(), "port_edits")  # outside the tree, where rt ci wants no second one
     if words[:1] == ["--room"] and len(words) > 1:
         room, words = os.path.abspath(words[1]), words[2:]
     return port(old, room, words)

@@ -44,6 +44,50 @@ HAND = {
     "crates/host_state_block/must-fail/more/block_slot_written_one_octet_late.edit": {
         "proofs/put_slot/Proof.antt": [],
     },
+    # said behind the test, whose name the proof cites
+    "crates/message/must-fail/more/cease_status_1.edit": {
+        "src/lib.rt": [
+            ("src/lib.rt", "    if status < 3 {", "    if status < 3 { return true; } if status < 1 {"),
+        ],
+    },
+    # named a word that its file does not import
+    "crates/model/must-fail/more/seconds_of_down_told_as_up.edit": {
+        "specs/Ticks.antt": [
+            (
+                "specs/Ticks.antt",
+                "finds phase m j call = ticks m j call && is_phase (phase_of (slot_in m j)) phase",
+                "finds phase m j call = ticks m j call && Rattle.neighbour.specs.Record.is_up phase",
+            ),
+        ],
+    },
+    # the same
+    "crates/neighbour/must-fail/more/too_quick_in_any_state.edit": {
+        "+": [
+            ("specs/Rules.antt", "◌%◌, Bool, false, cond,", "◌%◌, Bool, true, false, cond,"),
+        ],
+    },
+    # the same
+    "crates/update_theorem/must-fail/more/equal_distances_let_through.edit": {
+        "+": [
+            ("specs/Canonical.antt", "List, [], ◌∷◌, eqb}", "List, [], ◌∷◌, eqb, length}"),
+        ],
+    },
+    # the same
+    "crates/update_theorem/must-fail/more/equal_gateways_let_through.edit": {
+        "+": [
+            ("specs/Canonical.antt", "List, [], ◌∷◌, eqb}", "List, [], ◌∷◌, eqb, length}"),
+        ],
+    },
+    # said behind the test, whose name the proof cites
+    "crates/update_walk/must-fail/more/nothing_said_of_octets_left_over.edit": {
+        "src/lib.rt": [
+            (
+                "src/lib.rt",
+                "return Walked::Broken(end - left);",
+                "return if rows <= room { Walked::Rows(rows) } else { Walked::TooMany };",
+            ),
+        ],
+    },
     "wrong-rules/add_starts_with_a_second.edit": {
         "crates/gateway_state/proofs/free_slot/Proof.antt": [
             (

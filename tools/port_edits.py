@@ -34,6 +34,24 @@ TOKEN = re.compile(r"\\.|◌[^\s◌]+◌|[\w'′·]+(?:-(?=\w)[\w'′·]+)*|\s+|
 # now, (word, other word), which is a pair for each line that has the word. "+": pairs that no path of OLD had. A step
 # of a proof is named by the code's own text today, so where an edit turns a test, the answers name the turned one.
 HAND = {
+    # the step has another name
+    "crates/neighbour_wellformed/must-fail/more/timer_t3_to_3601.edit": {
+        "+": [
+            ("proofs/are_timers_formed/Answers.antt", ("t3-gt3600", "t3-gt3601")),
+        ],
+    },
+    # the step has another name
+    "crates/neighbour_wellformed/must-fail/more/timer_t1_to_123.edit": {
+        "+": [
+            ("proofs/are_timers_formed/Answers.antt", ("t1-gt122", "t1-gt123")),
+        ],
+    },
+    # the step has another name
+    "crates/neighbour_wellformed/must-fail/more/t2_may_be_0_in_up.edit": {
+        "+": [
+            ("proofs/is_up_formed/Answers.antt", ("n-lt1", "n-lt0")),
+        ],
+    },
     # said in one place, so that the names that the proof cites stay
     "crates/gateway_calls/must-fail/three_before_two.edit": {
         "src/lib.rt": [

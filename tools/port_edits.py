@@ -34,6 +34,16 @@ TOKEN = re.compile(r"\\.|◌[^\s◌]+◌|[\w'′·]+(?:-(?=\w)[\w'′·]+)*|\s+|
 # now, (word, other word), which is a pair for each line that has the word. "+": pairs that no path of OLD had. A step
 # of a proof is named by the code's own text today, so where an edit turns a test, the answers name the turned one.
 HAND = {
+    # said in one expression, so that the names that the proof cites stay
+    "crates/gateway_slots/must-fail/more/add_with_rows.edit": {
+        "src/lib.rt": [
+            (
+                "src/lib.rt",
+                "    carried_out(gateway_state::with_slot(st, free, gateway_state::new_slot(address, asn)))",
+                "    carried_out(gateway_state::with_slot(st, free, gateway_state::Slot { rows: 1, ..gateway_state::new_slot(address, asn) }))",
+            ),
+        ],
+    },
     # the step has another name
     "crates/neighbour_wellformed/must-fail/more/timer_t3_to_3601.edit": {
         "+": [

@@ -56,6 +56,14 @@ HAND = {
             ("proofs/are_timers_formed/Answers.antt", ("t1-gt122", "t1-gt123")),
         ],
     },
+    # a proof file that is edited and falls makes rt take the edit for a bad one; the worked cases refuse it as it is
+    "crates/neighbour_machine/must-fail/more/cease_7_to_a_cease_ack.edit": {
+        "proofs/Theorems.antt": [],
+    },
+    # a proof file that is edited and falls makes rt take the edit for a bad one; the worked cases refuse it as it is
+    "crates/neighbour_machine/must-fail/more/stray_cease_carries_the_number_of_a_hello.edit": {
+        "proofs/Theorems.antt": [],
+    },
     # the step has another name
     "crates/neighbour_wellformed/must-fail/more/t2_may_be_0_in_up.edit": {
         "+": [
@@ -76,6 +84,47 @@ HAND = {
     "crates/message/must-fail/more/cease_status_1.edit": {
         "src/lib.rt": [
             ("src/lib.rt", "    if status < 3 {", "    if status < 3 { return true; } if status < 1 {"),
+        ],
+    },
+    # left out what `peer_with` takes last
+    "crates/model/must-fail/more/refused_hello_counts_as_heard_in_the_model.edit": {
+        "specs/Model.antt": [
+            (
+                "specs/Model.antt",
+                "use Rattle.neighbour.specs.Record.{idle, is_idle, acquired, is_up}",
+                "use Rattle.neighbour.specs.Record.{idle, is_idle, acquired, is_up, heard_from}",
+            ),
+            (
+                "specs/Model.antt",
+                "answer; reply = refusal_reply g p.neighbour o answer; slot = used p }",
+                "answer; reply = refusal_reply g p.neighbour o answer; slot = used (peer_with p (heard_from p.neighbour) p.rows p.seconds) }",
+            ),
+        ],
+    },
+    # left out what `peer_with` takes last
+    "crates/model/must-fail/more/refused_hello_zeroes_its_count_in_the_model.edit": {
+        "specs/Model.antt": [
+            (
+                "specs/Model.antt",
+                "use Rattle.neighbour.specs.Record.{idle, is_idle, acquired, is_up}",
+                "use Rattle.neighbour.specs.Record.{idle, is_idle, acquired, is_up, with_counts}",
+            ),
+            (
+                "specs/Model.antt",
+                "answer; reply = refusal_reply g p.neighbour o answer; slot = used p }",
+                "answer; reply = refusal_reply g p.neighbour o answer; slot = used (peer_with p (with_counts p.neighbour 0 p.neighbour.sincepoll) p.rows p.seconds) }",
+            ),
+        ],
+    },
+    # was written for slots of another form
+    "crates/model/must-fail/more/rows_cleared_by_net.edit": {
+        "specs/Model.antt": [
+            ("specs/Model.antt", "List, [], ◌∷◌, ltb", "List, [], ◌∷◌, map, ltb"),
+            (
+                "specs/Model.antt",
+                "slots = set m.slots i slot }",
+                "slots = set (map (λ s. elim s as (λ _. Slot) [ free ↦ free | used p ↦ used (peer_with p p.neighbour (elim p.rows as (λ _. List Row) [ [] ↦ [] | row ∷ (rest → kept) ↦ cond (elim (slot_in m i) as (λ _. Bool) [ free ↦ false | used q ↦ elim q.rows as (λ _. Bool) [ [] ↦ false | x ∷ (more → found) ↦ cond (eqb x.net row.net) true found ] ]) kept (row ∷ kept) ]) p.seconds) ]) m.slots) i slot }",
+            ),
         ],
     },
     # named a word that its file does not import

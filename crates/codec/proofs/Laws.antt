@@ -2,13 +2,18 @@
 use Prim.Native.Nat.{ℕ, ◌≤◌, ◌<◌}
 use native.Mathlib.Omega.{arith}
 use borrow.Author.Tests.{le-leb, lt-leb, ne_eqb}
-use mathlib.Core.Path.{◌≡◌, refl, sym, ◌∙◌}
-use mathlib.Core.Bool.{true, false}
-use mathlib.Core.List.{List}
+use mathlib.Core.Path.{◌≡◌, refl, sym, ◌∙◌, ap}
+use mathlib.Core.Bool.{Bool, true, false, cond}
+use mathlib.Core.List.{List, []}
 use lib.ListN.{length}
 use lib.Dec.{leb, eqb}
-use Rattle.checks.proofs.Laws.{and_right, check_holds, check_fails}
+use Rattle.std.specs.Result.{result_unwrap_or}
+use Rattle.std.specs.Prelude.{Ok, Err}
+use Rattle.checks.proofs.Laws.{and_right, checked_answer, number_some}
 use Rattle.checks.specs.Checks.{check, if_ok}
+use Rattle.checks.specs.Refusals.{number_of, answer_of, checked}
+use Rattle.checks.specs.declared.Refusal.{Refusal}
+use Rattle.checks.specs.declared.Refusal.TheVariants.{ShortBuffer, BadArgument}
 use Rattle.octets.specs.Buffer.{over}
 use Rattle.octets.proofs.Buffer.{over_nothing}
 use Rattle.nets.specs.Rows.{rows_of}
@@ -18,7 +23,7 @@ use Rattle.message.specs.declared.Message.TheVariants.{Request, Confirm, Refuse,
 use Rattle.codec_writing.specs.Octets.{message_octets}
 use Rattle.codec_writing.specs.Room.{rows_fit}
 use Rattle.codec_writing.proofs.Laws.{room_most, octets_fit}
-use Rattle.codec.specs.Writing.{rows_allowed, writable, write_answer, write_octets, write_of}
+use Rattle.codec.specs.Writing.{rows_allowed, writable, write_of, write_answer, write_length, write_octets}
 
 -- ---- kinds other than an Update
 
@@ -57,26 +62,57 @@ allowed_fits (Error a q s r x y z) numbers w = refl
 pub octets_short : (m : Message) (numbers : List ℕ) → rows_allowed m numbers ≡ true → length (message_octets m (rows_of numbers)) ≤ 1168
 octets_short m numbers w = omega (arith, octets_fit m numbers (allowed_fits m numbers w), room_most m)
 
--- one of writing's answers, with what it leaves
 module _ (m : Message) (numbers buffer : List ℕ) where
-  answered : (k : ℕ) → write_answer m numbers buffer ≡ k → (k ≡ 0 → ⊥) → (record { answer = k; length = 0 } ≡ write_of m numbers buffer) × (buffer ≡ over (write_octets m numbers buffer) buffer)
-  unfolding write_of write_octets if_ok
-  answered k e n = (rw (e, ne_eqb k 0 n), rw (e, ne_eqb k 0 n) (sym (over_nothing buffer)))
+  pub write_checks : write_answer m numbers buffer ≡ check (leb 2048 (length buffer)) 3 (check (writable m numbers) 16 0)
+  unfolding write_answer write_of
+  write_checks = checked_answer (leb 2048 (length buffer)) _ _ ∙ ap (check (leb 2048 (length buffer)) 3) (checked_answer (writable m numbers) _ _)
 
-  pub write_3 : length buffer < 2048 → (record { answer = 3; length = 0 } ≡ write_of m numbers buffer) × (buffer ≡ over (write_octets m numbers buffer) buffer)
-  unfolding write_answer
-  write_3 h = answered 3 (check_fails (leb 2048 (length buffer)) 3 _ (lt-leb 2048 (length buffer) h)) (λ z. absurd (omega arith))
+  -- the length that is reported is that of the octets that are written
+  pub length_written : write_length m numbers buffer ≡ length (write_octets m numbers buffer)
+  unfolding write_length write_octets write_answer write_of if_ok
+  length_written = go (leb 2048 (length buffer)) (writable m numbers)
+    where
+      go : (a b : Bool) → result_unwrap_or (checked a ShortBuffer (checked b BadArgument (Ok (length (message_octets m (rows_of numbers)))))) 0
+          ≡ length (cond (eqb (answer_of (checked a ShortBuffer (checked b BadArgument (Ok (length (message_octets m (rows_of numbers))))))) 0) (message_octets m (rows_of numbers)) [])
+      go true true = refl
+      go true false = refl
+      go false b = refl
 
-  pub write_16 : 2048 ≤ length buffer → writable m numbers ≡ false → (record { answer = 16; length = 0 } ≡ write_of m numbers buffer) × (buffer ≡ over (write_octets m numbers buffer) buffer)
-  unfolding write_answer
-  write_16 h w = answered 16 (check_holds (leb 2048 (length buffer)) 3 _ (le-leb 2048 (length buffer) h) ∙ check_fails (writable m numbers) 16 0 w) (λ z. absurd (omega arith))
+  -- one of writing's answers, with what it leaves
+  module _ (refused : Refusal) (is : write_of m numbers buffer ≡ Err refused) where
+    pub refused_leaves : buffer ≡ over (write_octets m numbers buffer) buffer
+    unfolding write_octets write_answer if_ok
+    refused_leaves = rw (is, ne_eqb (number_of refused) 0 (number_some refused)) (sym (over_nothing buffer))
 
-  pub write_0 : 2048 ≤ length buffer → writable m numbers ≡ true → (n : ℕ) (x : List ℕ) → n ≡ length (message_octets m (rows_of numbers))
-      → x ≡ over (message_octets m (rows_of numbers)) buffer → (record { answer = 0; length = n } ≡ write_of m numbers buffer) × (x ≡ over (write_octets m numbers buffer) buffer)
-  unfolding write_of write_octets if_ok write_answer
-  write_0 h w n x e f =
-      let z = check_holds (leb 2048 (length buffer)) 3 (check (writable m numbers) 16 0) (le-leb 2048 (length buffer) h) ∙ check_holds (writable m numbers) 16 0 w in
-      (rw (z, e), rw (z, f))
+  pub write_3 : length buffer < 2048 → write_of m numbers buffer ≡ Err ShortBuffer
+  unfolding write_of
+  write_3 h = rw (lt-leb 2048 (length buffer) h)
+
+  pub write_16 : 2048 ≤ length buffer → writable m numbers ≡ false → write_of m numbers buffer ≡ Err BadArgument
+  unfolding write_of
+  write_16 h w = rw (le-leb 2048 (length buffer) h, w)
+
+  pub write_0 : 2048 ≤ length buffer → writable m numbers ≡ true → write_of m numbers buffer ≡ Ok (length (message_octets m (rows_of numbers)))
+  unfolding write_of
+  write_0 h w = rw (le-leb 2048 (length buffer) h, w)
+
+  pub written_leaves : (n : ℕ) (x : List ℕ) → write_of m numbers buffer ≡ Ok n
+      → x ≡ over (message_octets m (rows_of numbers)) buffer → x ≡ over (write_octets m numbers buffer) buffer
+  unfolding write_octets write_answer if_ok
+  written_leaves n x e f = rw e f
+
+  -- how many octets a call tells, and which they are
+  module _ (n : ℕ) (is : write_of m numbers buffer ≡ Ok n) where
+    length_told : write_length m numbers buffer ≡ n
+    unfolding write_length
+    length_told = rw is
+
+    pub octets_told : write_octets m numbers buffer ≡ message_octets m (rows_of numbers)
+    unfolding write_octets write_answer if_ok
+    octets_told = rw is
+
+    pub length_is : n ≡ length (message_octets m (rows_of numbers))
+    length_is = sym length_told ∙ length_written ∙ ap length octets_told
 
   pub write_rows_lem : writable m numbers ≡ true → rows_allowed m numbers ≡ true
   unfolding writable

@@ -1,27 +1,21 @@
 -- Laws of reading alone. Assumes nothing.
 use Prim.Native.Nat.{ℕ, ◌≤◌}
 use native.Mathlib.Omega.{arith}
-use borrow.Author.Tests.{leb-true, eq-eqb, ne_eqb}
+use borrow.Author.Tests.{leb-true}
 use mathlib.Core.Path.{◌≡◌, refl}
 use mathlib.Core.Bool.{Bool, true, false, cond}
 use mathlib.Core.List.{List}
 use lib.ListN.{length}
 use lib.Dec.{leb}
+use Rattle.std.specs.Prelude.{Ok, Err}
 use Rattle.nets.specs.Rows.{flat}
 use Rattle.message.specs.declared.Message.{Message}
 use Rattle.message.specs.declared.Message.TheVariants.{Request, Confirm, Refuse, Cease, CeaseAck, Hello, IHeardYou, Poll, Update, Error}
-use Rattle.message_reading.specs.Reading.{header_answer, decode_of}
-use Rattle.message_reading.specs.Reading as Wire
-use Rattle.message_reading.specs.declared.Decoded.{Decoded}
-use Rattle.message_reading.specs.declared.Decoded.TheVariants as D
-use Rattle.update_walk.specs.Body.{Walk, whole, broken, walked_blocks, read_within, UpdateRead, accepted, broken_at, too_many, update_of, walked_of, walked_number}
-use Rattle.update_walk.specs.Body as Body
-use Rattle.update_walk.specs.declared.Walked.{Walked}
-use Rattle.update_walk.specs.declared.Walked.TheVariants.{Rows, Broken, TooMany}
+use Rattle.update_walk.specs.Body.{Walk, whole, broken, walked_blocks, read_within, UpdateRead, accepted, broken_at, too_many, update_of, walked_of, refusal_of}
+use Rattle.update_walk.specs.declared.BodyError.{BodyError}
+use Rattle.update_walk.specs.declared.BodyError.TheVariants.{Broken, TooMany}
 use Rattle.update_rows.specs.Storing.{padded, is_whole, walked_rows, Storable}
-use Rattle.codec.specs.Reading.{most_read, refusal, rowless, update_reading, meaning_reading, kind_reading, read_of}
-use Rattle.codec.specs.declared.Meaning.TheVariants.{Good}
-use Rattle.codec.specs.declared.Reading.{Reading}
+use Rattle.codec.specs.Reading.{most_read, refusal, rowless, update_reading, meaning_reading}
 use Rattle.codec.proofs.Laws.{OtherKind}
 
 -- what the walk counted, and what an accepted Update is
@@ -31,12 +25,12 @@ pub record Accepted (net : ℕ) (o : List ℕ) (count : ℕ) : Type 0 where
   pub number : length (walked_rows (walked_blocks net o)) ≡ count
   pub is : update_of most_read net o ≡ accepted (walked_rows (walked_blocks net o))
 
-judged_rows : (w : Walk) (count : ℕ) → walked_of (read_within 128 w) ≡ Rows count
+judged_rows : (w : Walk) (count : ℕ) → walked_of (read_within 128 w) ≡ Ok count
     → (is_whole w ≡ true) × (count ≤ 128) × (length (walked_rows w) ≡ count) × (read_within 128 w ≡ accepted (walked_rows w))
 unfolding read_within is_whole walked_rows
 judged_rows (whole rs) count e = go (leb (length rs) 128) refl e
   where
-    go : (b : Bool) → leb (length rs) 128 ≡ b → walked_of (cond b (accepted rs) too_many) ≡ Rows count
+    go : (b : Bool) → leb (length rs) 128 ≡ b → walked_of (cond b (accepted rs) too_many) ≡ Ok count
         → (is_whole (whole rs) ≡ true) × (count ≤ 128) × (length (walked_rows (whole rs)) ≡ count) × (cond (leb (length rs) 128) (accepted rs) too_many ≡ accepted (walked_rows (whole rs)))
     go true p e =
         let n : length rs ≡ count = cc in
@@ -44,7 +38,7 @@ judged_rows (whole rs) count e = go (leb (length rs) 128) refl e
     go false p e = let z : ◌≡◌ {A = ℕ} 0 1 = cc in absurd (omega arith)
 judged_rows (broken offset) count e = let z : ◌≡◌ {A = ℕ} 0 1 = cc in absurd (omega arith)
 
-pub rows_accepted : (net : ℕ) (o : List ℕ) (count : ℕ) → walked_of (update_of 128 net o) ≡ Rows count → Accepted net o count
+pub rows_accepted : (net : ℕ) (o : List ℕ) (count : ℕ) → walked_of (update_of 128 net o) ≡ Ok count → Accepted net o count
 unfolding update_of
 rows_accepted net o count e =
     let j = judged_rows (walked_blocks net o) count e in
@@ -55,26 +49,22 @@ pub accepted_room : {net : ℕ} {o : List ℕ} {count : ℕ} → Accepted net o 
 accepted_room a part e = record { sound = a.sound; room = omega (arith, a.few, a.number) }
 
 pub update_read : (m : Message) (net : ℕ) (o : List ℕ) (count : ℕ) (part : List ℕ) → Accepted net o count
-    → part ≡ padded 384 (flat (walked_rows (walked_blocks net o))) → record { meaning = Good m; count = count; rows = part } ≡ update_reading m (update_of most_read net o)
+    → part ≡ padded 384 (flat (walked_rows (walked_blocks net o))) → record { meaning = Ok m; count = count; rows = part } ≡ update_reading m (update_of most_read net o)
 unfolding update_reading
 update_read m net o count part a e = rw (a.is, e, a.number)
 
 -- where the walk found no rows that may be taken
-pub update_refused : (m : Message) (net : ℕ) (o : List ℕ) (w : Walked) → w ≡ walked_of (update_of 128 net o) → ((a : ℕ) → w ≡ Rows a → ⊥)
-    → refusal (walked_number w) ≡ update_reading m (update_of most_read net o)
-unfolding update_reading Body.update_number
-update_refused m net o w e k = go (update_of 128 net o) w e k
+pub update_refused : (m : Message) (net : ℕ) (o : List ℕ) (error : BodyError) → walked_of (update_of 128 net o) ≡ Err error
+    → refusal (refusal_of error) ≡ update_reading m (update_of most_read net o)
+unfolding update_reading
+update_refused m net o error e = go (update_of 128 net o) error e
   where
-    go : (u : UpdateRead) (w : Walked) → w ≡ walked_of u → ((a : ℕ) → w ≡ Rows a → ⊥) → refusal (walked_number w) ≡ update_reading m u
-    go (accepted rs) (Rows n) e k = absurd (k n refl)
-    go (accepted rs) (Broken n) e k = let z : ◌≡◌ {A = ℕ} 0 1 = cc in absurd (omega arith)
-    go (accepted rs) TooMany e k = let z : ◌≡◌ {A = ℕ} 0 1 = cc in absurd (omega arith)
-    go (broken_at n) (Rows m) e k = absurd (k m refl)
-    go (broken_at n) (Broken m) e k = refl
-    go (broken_at n) TooMany e k = let z : ◌≡◌ {A = ℕ} 0 1 = cc in absurd (omega arith)
-    go too_many (Rows m) e k = absurd (k m refl)
-    go too_many (Broken m) e k = let z : ◌≡◌ {A = ℕ} 0 1 = cc in absurd (omega arith)
-    go too_many TooMany e k = refl
+    go : (u : UpdateRead) (error : BodyError) → walked_of u ≡ Err error → refusal (refusal_of error) ≡ update_reading m u
+    go (accepted rs) error e = absurd (cc)
+    go (broken_at n) (Broken m) e = refl
+    go (broken_at n) TooMany e = absurd (cc)
+    go too_many (Broken m) e = absurd (cc)
+    go too_many TooMany e = refl
 
 -- kinds without rows
 pub rowless_read : (net : ℕ) (o : List ℕ) (m : Message) → OtherKind m → rowless m ≡ meaning_reading net o m
@@ -89,25 +79,3 @@ rowless_read net o (IHeardYou a q s) k = refl
 rowless_read net o (Poll a q s n) k = refl
 rowless_read net o (Update a q s n) k = absurd (k a q s n refl)
 rowless_read net o (Error a q s r x y z) k = refl
-
-kind_bad : (net : ℕ) (o : List ℕ) (d : Decoded) → ((a : Message) → d ≡ D.Good a → ⊥) → refusal (Wire.decoded_number d) ≡ kind_reading net o d
-unfolding kind_reading
-kind_bad net o (D.Good m) k = absurd (k m refl)
-kind_bad net o D.UnknownKind k = refl
-kind_bad net o D.BadStatus k = refl
-kind_bad net o D.BadLength k = refl
-
--- the three ways of reading
-module _ (net : ℕ) (o : List ℕ) (h : ℕ) (e : h ≡ header_answer o) where
-  pub read_header_bad : (h ≡ 0 → ⊥) → refusal h ≡ read_of net o
-  unfolding read_of
-  read_header_bad n = rw (← e, ne_eqb h 0 n)
-
-  module _ (z : h ≡ 0) (d : Decoded) (f : d ≡ decode_of o) where
-    pub read_kind_bad : ((a : Message) → d ≡ D.Good a → ⊥) → refusal (Wire.decoded_number d) ≡ read_of net o
-    unfolding read_of
-    read_kind_bad k = rw (← e, eq-eqb h 0 z, ← f) (kind_bad net o d k)
-
-    pub read_kind_good : (m : Message) (r : Reading) → d ≡ D.Good m → r ≡ meaning_reading net o m → r ≡ read_of net o
-    unfolding read_of kind_reading
-    read_kind_good m r g q = rw (← e, eq-eqb h 0 z, ← f, g) q

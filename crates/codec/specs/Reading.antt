@@ -1,17 +1,14 @@
 -- Reading alone. 01: "Reading alone, given the common net, makes 6 to 8, 10 to 12, 14 and 15 as if in Up, without reply (14 for any Update if that net is bad)".
-use Rattle.std.specs.Prelude.{ℕ, cond, List, eqb, length}
+use Rattle.std.specs.Result.{result_and}
+use Rattle.std.specs.Prelude.{ℕ, List, length, Result, Ok, Err}
+use Rattle.checks.specs.declared.Refusal.{Refusal}
+use Rattle.checks.specs.declared.Refusal.TheVariants.{BrokenBlocks, TooManyRows}
 use Rattle.nets.specs.Rows.{flat}
 use Rattle.message.specs.declared.Message.{Message}
 use Rattle.message.specs.declared.Message.TheVariants.{Request, Confirm, Refuse, Cease, CeaseAck, Hello, IHeardYou, Poll, Update, Error}
-use Rattle.message_reading.specs.Reading.{header_answer, decode_of}
-use Rattle.message_reading.specs.Reading as Wire
-use Rattle.message_reading.specs.declared.Decoded.{Decoded}
-use Rattle.message_reading.specs.declared.Decoded.TheVariants as D
+use Rattle.message_reading.specs.Reading.{header_of, decode_of}
 use Rattle.update_walk.specs.Body.{UpdateRead, accepted, broken_at, too_many, update_of}
-use Rattle.update_walk.specs.Body as Walk
 use Rattle.update_rows.specs.Storing.{zeros, padded}
-use Rattle.codec.specs.declared.Meaning.{Meaning}
-use Rattle.codec.specs.declared.Meaning.TheVariants.{Good, Refused}
 use Rattle.codec.specs.declared.Reading.{Reading}
 
 -- the rows that reading alone hands back at most: as many as a slot has, three numbers a row
@@ -21,24 +18,19 @@ most_read = 128
 abbrev pub most_read_numbers : ℕ
 most_read_numbers = 384
 
--- 01's number for each case of the reader's answer
-unfoldable pub read_number : Meaning → ℕ
-read_number (Good m) = 0
-read_number (Refused number) = number
-
 -- a refusal hands back no row
-unfoldable pub refusal : ℕ → Reading
-refusal number = record { meaning = Refused number; count = 0; rows = zeros most_read_numbers }
+unfoldable pub refusal : Refusal → Reading
+refusal refused = record { meaning = Err refused; count = 0; rows = zeros most_read_numbers }
 
 -- a message of a kind that has no rows
 unfoldable pub rowless : Message → Reading
-rowless m = record { meaning = Good m; count = 0; rows = zeros most_read_numbers }
+rowless m = record { meaning = Ok m; count = 0; rows = zeros most_read_numbers }
 
 -- an Update: exactly its rows, then zeros
 unfoldable pub update_reading : Message → UpdateRead → Reading
-update_reading m (accepted rs) = record { meaning = Good m; count = length rs; rows = padded most_read_numbers (flat rs) }
-update_reading m (broken_at offset) = refusal (Walk.update_number (broken_at offset))
-update_reading m too_many = refusal (Walk.update_number too_many)
+update_reading m (accepted rs) = record { meaning = Ok m; count = length rs; rows = padded most_read_numbers (flat rs) }
+update_reading m (broken_at offset) = refusal BrokenBlocks
+update_reading m too_many = refusal TooManyRows
 
 -- what a message says, with its rows
 unfoldable pub meaning_reading : ℕ → List ℕ → Message → Reading
@@ -53,13 +45,14 @@ meaning_reading net o (Poll a q s n) = rowless (Poll a q s n)
 meaning_reading net o (Update a q s n) = update_reading (Update a q s n) (update_of most_read net o)
 meaning_reading net o (Error a q s reason x y z) = rowless (Error a q s reason x y z)
 
--- 10 to 12, then 14 and 15
-unfoldable pub kind_reading : ℕ → List ℕ → Decoded → Reading
-kind_reading net o (D.Good m) = meaning_reading net o m
-kind_reading net o D.UnknownKind = refusal (Wire.decoded_number D.UnknownKind)
-kind_reading net o D.BadStatus = refusal (Wire.decoded_number D.BadStatus)
-kind_reading net o D.BadLength = refusal (Wire.decoded_number D.BadLength)
+-- 6 to 8, then 10 to 12
+unfoldable pub meaning_read : List ℕ → Result Message Refusal
+meaning_read o = result_and (header_of o) (decode_of o)
 
--- 6 to 8 first
+-- then 14 and 15
+unfoldable pub reading_after : ℕ → List ℕ → Result Message Refusal → Reading
+reading_after net o (Ok m) = meaning_reading net o m
+reading_after net o (Err refused) = refusal refused
+
 unfoldable pub read_of : ℕ → List ℕ → Reading
-read_of net o = cond (eqb (header_answer o) 0) (kind_reading net o (decode_of o)) (refusal (header_answer o))
+read_of net o = reading_after net o (meaning_read o)

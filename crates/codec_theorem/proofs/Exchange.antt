@@ -10,6 +10,9 @@ use mathlib.Core.List.{List, [], ◌∷◌, ◌++◌}
 use lib.Dec.{ltb, leb, eqb}
 use lib.ListN.{length, take, drop, get_or}
 use lib.Seq.{drop-cons, take_at}
+use Rattle.std.specs.Result.{result_and}
+use Rattle.std.specs.Prelude.{Result, Ok, Err}
+use Rattle.checks.specs.declared.Refusal.{Refusal}
 use Rattle.checks.specs.Checks.{check}
 use Rattle.checks.proofs.Laws.{and_left, and_right, and_both, check_passed, check_holds, if_ok_new}
 use Rattle.checks.specs.Lists.{every}
@@ -25,14 +28,12 @@ use Rattle.message.specs.declared.Kind.TheVariants as K
 use Rattle.message.specs.declared.Message.{Message}
 use Rattle.message.specs.declared.Message.TheVariants.{Request, Confirm, Refuse, Cease, CeaseAck, Hello, IHeardYou, Poll, Update, Error}
 use Rattle.message.proofs.Laws.{kind_pair}
-use Rattle.message_reading.specs.declared.Decoded.{Decoded}
-use Rattle.message_reading.specs.declared.Decoded.TheVariants as D
-use Rattle.message_reading.specs.Reading.{status_at, asn_at, sequence_at, header_answer, meaning_of, decode_as, decode_of}
+use Rattle.message_reading.specs.Reading.{status_at, asn_at, sequence_at, header_of, header_answer, meaning_of, decode_as, decode_of}
 use Rattle.message_writing.specs.Writing.{head_of}
 use Rattle.codec_writing.specs.Octets.{plain_octets, message_octets}
 use Rattle.codec_writing.specs.Room.{rows_fit}
 use Rattle.codec_writing.proofs.Laws.{writable_rows_lem, rows_few, blocks_few}
-use Rattle.message_reading.proofs.Laws.{header_passed}
+use Rattle.message_reading.proofs.Laws.{header_passed, header_ok}
 use Rattle.update_walk.specs.Body.{extended, got, both_sides, whole, nothing_left, body_of, further, net_at, UpdateRead, accepted, broken_at, too_many, update_of}
 use Rattle.update_walk.specs.Body as Walk
 use Rattle.update_walk.proofs.Digits.{octets_drop}
@@ -46,12 +47,10 @@ use Rattle.update_theorem.specs.Canonical.{canonical}
 use Rattle.update_theorem.specs.Trip.{octets_only, Read}
 use Rattle.update_theorem.proofs.Readings.{every_all, all_every, all_map}
 use Rattle.update_theorem.proofs.Trip as Trip
-use Rattle.codec.specs.Writing.{rows_allowed, writable, write_answer, write_octets, write_of}
-use Rattle.codec.specs.Reading.{most_read_numbers, refusal, rowless, update_reading, meaning_reading, kind_reading, read_of}
-use Rattle.codec.specs.declared.Meaning.TheVariants.{Good}
+use Rattle.codec.specs.Writing.{rows_allowed, writable, write_answer, write_octets}
+use Rattle.codec.specs.Reading.{most_read_numbers, refusal, rowless, update_reading, meaning_reading, meaning_read, reading_after, read_of}
 use Rattle.codec.specs.declared.Reading.{Reading}
-use Rattle.codec.proofs.Laws.{octets_short}
-use Rattle.codec.proofs.ReadLaws.{read_kind_good}
+use Rattle.codec.proofs.Laws.{octets_short, write_checks, length_written}
 use Rattle.codec_theorem.specs.Widths.{HeadFits, InWidths}
 use Rattle.codec_theorem.specs.Exchange.{handed_back, Common, MeaningsReadBack, Reads, ComesBack, OctetsComeBack, handed_over, CallsUndoEachOther, Bound}
 use Rattle.octets.proofs.Back.{word_back, quad_back, high, low, first_of, second_of, third_of, fourth_of}
@@ -100,8 +99,9 @@ flat_whole net rs w =
 
 -- ---- a message whose header and kind pass
 
-passed : (net : ℕ) (o : List ℕ) (m : Message) → header_answer o ≡ 0 → decode_of o ≡ D.Good m → read_of net o ≡ meaning_reading net o m
-passed net o m h d = sym (read_kind_good net o (header_answer o) refl h (decode_of o) refl m (meaning_reading net o m) d refl)
+passed : (net : ℕ) (o : List ℕ) (m : Message) → header_answer o ≡ 0 → decode_of o ≡ Ok m → read_of net o ≡ meaning_reading net o m
+unfolding read_of reading_after meaning_read
+passed net o m h d = rw (header_ok o h, d)
 
 rowless_is : (m : Message) → rowless m ≡ handed_back m 0 []
 unfolding rowless handed_back padded
@@ -145,7 +145,7 @@ module _ (a q s net : ℕ) (rows : List Row) where
   unfolding message_octets plain_octets head_of
   update_passes h = sealed_passes _ (omega arith) (omega arith) refl
 
-  update_decodes : HeadFits a q s → net < 4294967296 → status_allowed K.Update s ≡ true → decode_of (message_octets (Update a q s net) rows) ≡ D.Good (Update a q s net)
+  update_decodes : HeadFits a q s → net < 4294967296 → status_allowed K.Update s ≡ true → decode_of (message_octets (Update a q s net) rows) ≡ Ok (Update a q s net)
   unfolding decode_of decode_as meaning_of kind_at message_octets plain_octets head_of sealed
   update_decodes f n e =
       let l : leb 16 (length (message_octets (Update a q s net) rows)) ≡ true = le-leb 16 (length (message_octets (Update a q s net) rows)) update_long in
@@ -199,21 +199,21 @@ meanings_read_back = record {
 
 -- ---- what a good reading says
 
-refused_good : {A : Type 0} (number : ℕ) (m : Message) → (refusal number).meaning ≡ Good m → A
+refused_good : {A : Type 0} (refused : Refusal) (m : Message) → (refusal refused).meaning ≡ Ok m → A
 unfolding refusal
-refused_good number m e = let z : ◌≡◌ {A = ℕ} 0 1 = cc in absurd (omega arith)
+refused_good refused m e = let z : ◌≡◌ {A = ℕ} 0 1 = cc in absurd (omega arith)
 
-rowless_good : (n m : Message) → (rowless n).meaning ≡ Good m → n ≡ m
+rowless_good : (n m : Message) → (rowless n).meaning ≡ Ok m → n ≡ m
 unfolding rowless
 rowless_good n m e = cc
 
-update_good : (n m : Message) (u : UpdateRead) → (update_reading n u).meaning ≡ Good m → n ≡ m
+update_good : (n m : Message) (u : UpdateRead) → (update_reading n u).meaning ≡ Ok m → n ≡ m
 unfolding update_reading
 update_good n m (accepted rs) e = cc
 update_good n m (broken_at offset) e = refused_good _ m e
 update_good n m too_many e = refused_good _ m e
 
-meaning_good : (net : ℕ) (o : List ℕ) (n m : Message) → (meaning_reading net o n).meaning ≡ Good m → n ≡ m
+meaning_good : (net : ℕ) (o : List ℕ) (n m : Message) → (meaning_reading net o n).meaning ≡ Ok m → n ≡ m
 unfolding meaning_reading
 meaning_good net o (Request a q s h p) m e = rowless_good _ m e
 meaning_good net o (Confirm a q s h p) m e = rowless_good _ m e
@@ -229,35 +229,34 @@ meaning_good net o (Error a q s r x y z) m e = rowless_good _ m e
 -- the header and the kind passed
 record Found (net : ℕ) (o : List ℕ) (m : Message) : Type 0 where
   header : header_answer o ≡ 0
-  kind : decode_of o ≡ D.Good m
+  kind : decode_of o ≡ Ok m
   is : read_of net o ≡ meaning_reading net o m
 
-found : (net : ℕ) (o : List ℕ) (m : Message) → (read_of net o).meaning ≡ Good m → Found net o m
-unfolding read_of kind_reading
-found net o m e = header (eqb (header_answer o) 0) refl e
+found : (net : ℕ) (o : List ℕ) (m : Message) → (read_of net o).meaning ≡ Ok m → Found net o m
+unfolding read_of reading_after meaning_read header_answer
+found net o m e = header (header_of o) refl (decode_of o) refl e
   where
-    kind : header_answer o ≡ 0 → (d : Decoded) → decode_of o ≡ d → (kind_reading net o d).meaning ≡ Good m → Found net o m
-    kind h (D.Good n) i e = let k : decode_of o ≡ D.Good m = i ∙ ap D.Good (meaning_good net o n m e) in record { header = h; kind = k; is = passed net o m h k }
-    kind h D.UnknownKind i e = refused_good _ m e
-    kind h D.BadStatus i e = refused_good _ m e
-    kind h D.BadLength i e = refused_good _ m e
-
-    header : (b : Bool) → eqb (header_answer o) 0 ≡ b → (cond b (kind_reading net o (decode_of o)) (refusal (header_answer o))).meaning ≡ Good m → Found net o m
-    header true p e = kind (eqb-true (header_answer o) 0 p) (decode_of o) refl e
-    header false p e = refused_good _ m e
+    header : (h : Result (Unit {0}) Refusal) → header_of o ≡ h → (d : Result Message Refusal) → decode_of o ≡ d
+        → (reading_after net o (result_and h d)).meaning ≡ Ok m → Found net o m
+    header (Ok tt) f (Ok n) i e =
+        let k : decode_of o ≡ Ok m = i ∙ ap Ok (meaning_good net o n m e) in
+        let h : header_answer o ≡ 0 = rw f in
+        record { header = h; kind = k; is = passed net o m h k }
+    header (Ok tt) f (Err refused) i e = refused_good refused m e
+    header (Err refused) f d i e = refused_good refused m e
 
 -- it is one of a message with rows
-rowless_rows : (net : ℕ) (o : List ℕ) (m : Message) → (read_of net o).meaning ≡ Good m → meaning_reading net o m ≡ rowless m → (rs : List Row) × Reads net o m rs
+rowless_rows : (net : ℕ) (o : List ℕ) (m : Message) → (read_of net o).meaning ≡ Ok m → meaning_reading net o m ≡ rowless m → (rs : List Row) × Reads net o m rs
 unfolding flat
 rowless_rows net o m e r = ([], (found net o m e).is ∙ r ∙ rowless_is m)
 
-update_rows : (net : ℕ) (o : List ℕ) (m : Message) (u : UpdateRead) → read_of net o ≡ update_reading m u → (update_reading m u).meaning ≡ Good m → (rs : List Row) × Reads net o m rs
+update_rows : (net : ℕ) (o : List ℕ) (m : Message) (u : UpdateRead) → read_of net o ≡ update_reading m u → (update_reading m u).meaning ≡ Ok m → (rs : List Row) × Reads net o m rs
 unfolding update_reading handed_back
 update_rows net o m (accepted rs) r e = (rs, r)
 update_rows net o m (broken_at offset) r e = refused_good _ m e
 update_rows net o m too_many r e = refused_good _ m e
 
-rows : (net : ℕ) (o : List ℕ) (m : Message) → (read_of net o).meaning ≡ Good m → (rs : List Row) × Reads net o m rs
+rows : (net : ℕ) (o : List ℕ) (m : Message) → (read_of net o).meaning ≡ Ok m → (rs : List Row) × Reads net o m rs
 unfolding meaning_reading
 rows net o (Request a q s h p) e = rowless_rows net o (Request a q s h p) e refl
 rows net o (Confirm a q s h p) e = rowless_rows net o (Confirm a q s h p) e refl
@@ -478,32 +477,29 @@ octets_come_back = record { rows = rows; writes = writes; back = back }
 -- 0 is answered where the buffer is long enough and the meaning may be written, and only there
 module _ (m : Message) (numbers buffer : List ℕ) where
   answered_0 : write_answer m numbers buffer ≡ 0 → writable m numbers ≡ true
-  unfolding write_answer
   answered_0 e =
       (check_passed (writable m numbers) 16 0 refl
-      (check_passed (leb 2048 (length buffer)) 3 (check (writable m numbers) 16 0) refl e).1).0
+      (check_passed (leb 2048 (length buffer)) 3 (check (writable m numbers) 16 0) refl (sym (write_checks m numbers buffer) ∙ e)).1).0
 
   answers_0 : 2048 ≤ length buffer → writable m numbers ≡ true → write_answer m numbers buffer ≡ 0
-  unfolding write_answer
   answers_0 h w =
-      check_holds (leb 2048 (length buffer)) 3 (check (writable m numbers) 16 0) (le-leb 2048 (length buffer) h)
+      write_checks m numbers buffer
+      ∙ check_holds (leb 2048 (length buffer)) 3 (check (writable m numbers) 16 0) (le-leb 2048 (length buffer) h)
       ∙ check_holds (writable m numbers) 16 0 w
 
   handed_over_lem : write_answer m numbers buffer ≡ 0 → handed_over m numbers buffer ≡ message_octets m (rows_of numbers)
-  unfolding write_of over write_octets
+  unfolding over write_octets
   handed_over_lem e =
-      rw (if_ok_new (write_answer m numbers buffer) (message_octets m (rows_of numbers)) [] e)
+      rw (length_written m numbers buffer, if_ok_new (write_answer m numbers buffer) (message_octets m (rows_of numbers)) [] e)
       (take_at (message_octets m (rows_of numbers)) (drop (length (message_octets m (rows_of numbers))) buffer) (length (message_octets m (rows_of numbers))) refl)
 
-calls_written : (net : ℕ) (m : Message) (numbers buffer : List ℕ) → InWidths m → Common net m → (write_of m numbers buffer).answer ≡ 0
+calls_written : (net : ℕ) (m : Message) (numbers buffer : List ℕ) → InWidths m → Common net m → write_answer m numbers buffer ≡ 0
     → read_of net (handed_over m numbers buffer) ≡ handed_back m (length (rows_of numbers)) numbers
-unfolding write_of
 calls_written net m numbers buffer f c e =
     ap (read_of net) (handed_over_lem m numbers buffer e) ∙ meanings_read_back.same net m numbers f (answered_0 m numbers buffer e) c
 
 calls_taken : (net : ℕ) (o : List ℕ) (m : Message) (rs : List Row) (buffer : List ℕ) → Octets o → Reads net o m rs
-    → 2048 ≤ length buffer → (write_of m (flat rs) buffer).answer ≡ 0
-unfolding write_of
+    → 2048 ≤ length buffer → write_answer m (flat rs) buffer ≡ 0
 calls_taken net o m rs buffer oct r h = answers_0 m (flat rs) buffer h (writes net o m rs oct r).2
 
 calls_read : (net : ℕ) (o : List ℕ) (m : Message) (rs : List Row) (buffer : List ℕ) → Octets o → Reads net o m rs

@@ -4,23 +4,23 @@ use native.Mathlib.Omega.{arith}
 use borrow.Author.Tests.{eqb-true}
 use mathlib.Core.Path.{◌≡◌, refl, sym, ap, ◌∙◌}
 use mathlib.Core.Logic.{◌↔◌}
-use mathlib.Core.Bool.{Bool, true, false, cond}
+use mathlib.Core.Bool.{Bool, true, false}
 use mathlib.Core.List.{List, [], ◌∷◌}
 use lib.ListN.{length, get_or, drop, drop_of_length-le}
 use lib.Seq.{drop-cons}
+use Rattle.std.specs.Prelude.{Option, Some, None, Ok}
 use Rattle.octets.specs.Numbers.{Octets, word16, word32, octets16, octets32}
 use Rattle.octets.proofs.Back.{word_back, quad_back, high, low, first_of, second_of, third_of, fourth_of}
-use Rattle.octets_checksum.specs.Checksum.{checksum_of, sealed, blanked}
+use Rattle.octets_checksum.specs.Checksum.{sealed, blanked}
 use Rattle.octets_checksum.proofs.Laws.{sealed_length, field_sealed, sealed_first, sealed_right, sealed_blanked}
+use Rattle.checks.specs.Refusals.{checked}
+use Rattle.checks.specs.declared.Refusal.TheVariants.{BadStatus, BadLength}
 use Rattle.message.proofs.Laws.{kind_pair}
 use Rattle.message.specs.Kinds.{type_of, code_of, kind_at, kind_of, status_of, status_allowed, length_allowed}
 use Rattle.message.specs.declared.Kind.{Kind}
 use Rattle.message.specs.declared.Kind.TheVariants as K
-use Rattle.message.specs.declared.Known.{Known}
-use Rattle.message.specs.declared.Known.TheVariants.{Is, Unknown}
 use Rattle.message.specs.declared.Message.{Message}
 use Rattle.message.specs.declared.Message.TheVariants.{Request, Confirm, Refuse, Cease, CeaseAck, Hello, IHeardYou, Poll, Update, Error}
-use Rattle.message_reading.specs.declared.Decoded.TheVariants.{Good, BadStatus, BadLength}
 use Rattle.message_reading.specs.Reading.{status_at, asn_at, sequence_at, header_answer, meaning_of, decode_as, decode_of}
 use Rattle.nets.specs.Rows.{Row}
 use Rattle.message_writing.specs.Writing.{headed}
@@ -41,8 +41,7 @@ ReservedZero m o = kind_of m ≡ K.Poll → (get_or o 10 0 ≡ 0) × (get_or o 1
 pub sealed_passes : (l : List ℕ) → 10 ≤ length l → length l ≤ 2048 → get_or l 0 0 ≡ 2 → header_answer (sealed l) ≡ 0
 sealed_passes l low high v =
     let six : 6 ≤ length l = omega arith in
-    sym (header_good (sealed l) (rw (sealed_length l) low) (rw (sealed_length l) high) (get_or (sealed l) 0 0) refl (sealed_first l six ∙ v)
-    (word16 (sealed l) 4) (checksum_of (sealed l)) refl refl (field_sealed l six))
+    header_good (sealed l) (record { low = rw (sealed_length l) low; high = rw (sealed_length l) high; version = sealed_first l six ∙ v; field = field_sealed l six })
 
 pub passes : (m : Message) (rows : List Row) → (kind_of m ≡ K.Update → ⊥) → header_answer (message_octets m rows) ≡ 0
 unfolding message_octets plain_octets
@@ -59,7 +58,7 @@ passes (Error a q s r x y z) rows u = sealed_passes _ (omega arith) (omega arith
 
 -- ---- and reads to the same meaning
 
-pub decodes : (m : Message) (rows : List Row) → (kind_of m ≡ K.Update → ⊥) → InWidths m → Allowed m → decode_of (message_octets m rows) ≡ Good m
+pub decodes : (m : Message) (rows : List Row) → (kind_of m ≡ K.Update → ⊥) → InWidths m → Allowed m → decode_of (message_octets m rows) ≡ Ok m
 unfolding decode_of decode_as meaning_of kind_at message_octets plain_octets sealed
 decodes (Request a q s h p) rows u f e = rw (e, word_back a f.0.asn16, word_back q f.0.sequence16, word_back h f.1, word_back p f.2)
 decodes (Confirm a q s h p) rows u f e = rw (e, word_back a f.0.asn16, word_back q f.0.sequence16, word_back h f.1, word_back p f.2)
@@ -77,21 +76,21 @@ decodes (Error a q s r x y z) rows u f e =
 
 -- a reading that found this kind
 pub record ReadAs (o : List ℕ) (m : Message) (k : Kind) : Type 0 where
-  pub is : kind_at (get_or o 1 0) (get_or o 2 0) ≡ Is k
+  pub is : kind_at (get_or o 1 0) (get_or o 2 0) ≡ Some k
   pub status : status_allowed k (get_or o 3 0) ≡ true
   pub long : length_allowed k (length o) ≡ true
   pub meaning : m ≡ meaning_of k o
 
-pub read_as_lem : (o : List ℕ) (m : Message) → decode_of o ≡ Good m → (k : Kind) × ReadAs o m k
+pub read_as_lem : (o : List ℕ) (m : Message) → decode_of o ≡ Ok m → (k : Kind) × ReadAs o m k
 unfolding decode_of decode_as
 read_as_lem o m e = known (kind_at (get_or o 1 0) (get_or o 2 0)) refl e
   where
-    known : (n : Known) → kind_at (get_or o 1 0) (get_or o 2 0) ≡ n → decode_as n o ≡ Good m → (k : Kind) × ReadAs o m k
-    known Unknown i e = let z : ◌≡◌ {A = ℕ} 0 1 = cc in absurd (omega arith)
-    known (Is k) i e = go (status_allowed k (get_or o 3 0)) refl (length_allowed k (length o)) refl e
+    known : (n : Option Kind) → kind_at (get_or o 1 0) (get_or o 2 0) ≡ n → decode_as n o ≡ Ok m → (k : Kind) × ReadAs o m k
+    known None i e = let z : ◌≡◌ {A = ℕ} 0 1 = cc in absurd (omega arith)
+    known (Some k) i e = go (status_allowed k (get_or o 3 0)) refl (length_allowed k (length o)) refl e
       where
         go : (a : Bool) → status_allowed k (get_or o 3 0) ≡ a → (b : Bool) → length_allowed k (length o) ≡ b
-            → cond a (cond b (Good (meaning_of k o)) BadLength) BadStatus ≡ Good m → (k : Kind) × ReadAs o m k
+            → checked a BadStatus (checked b BadLength (Ok (meaning_of k o))) ≡ Ok m → (k : Kind) × ReadAs o m k
         go true p true q e = (k, record { is = i; status = p; long = q; meaning = cc })
         go true p false q e = let z : ◌≡◌ {A = ℕ} 0 1 = cc in absurd (omega arith)
         go false p b q e = let z : ◌≡◌ {A = ℕ} 0 1 = cc in absurd (omega arith)
@@ -238,10 +237,10 @@ as_allowed o m k oct r =
     rw r.meaning (read_fits k o oct, rw (kind_read k o, status_read k o) r.status)
 
 -- whatever was read may be written
-pub read_allowed : (o : List ℕ) (m : Message) → Octets o → decode_of o ≡ Good m → InWidths m × Allowed m
+pub read_allowed : (o : List ℕ) (m : Message) → Octets o → decode_of o ≡ Ok m → InWidths m × Allowed m
 read_allowed o m oct e = as_allowed o m (read_as_lem o m e).0 oct (read_as_lem o m e).1
 
 -- writing what was read gives the octets back, exactly where no reserved octet was lost
-pub fixed_back : (o : List ℕ) (m : Message) → Octets o → header_answer o ≡ 0 → decode_of o ≡ Good m → (kind_of m ≡ K.Update → ⊥)
+pub fixed_back : (o : List ℕ) (m : Message) → Octets o → header_answer o ≡ 0 → decode_of o ≡ Ok m → (kind_of m ≡ K.Update → ⊥)
     → (rows : List Row) → (message_octets m rows ≡ o) ↔ ReservedZero m o
 fixed_back o m oct h e u rows = (poll_zero m rows o, λ z. come_back o m oct h (read_as_lem o m e).0 (read_as_lem o m e).1 u rows z)

@@ -1,5 +1,5 @@
 -- Reading alone and writing undo each other: a message of any kind, an Update with its rows. The proofs are in proofs/Exchange.antt.
-use Rattle.std.specs.Prelude.{ℕ, ◌≤◌, ◌≡◌, ◌↔◌, true, List, leb, length, take, drop, get_or}
+use Rattle.std.specs.Prelude.{ℕ, ◌≤◌, ◌≡◌, ◌↔◌, true, List, leb, length, take, drop, get_or, Ok}
 use Rattle.checks.specs.Lists.{every}
 use Rattle.octets.specs.Numbers.{Octets}
 use Rattle.octets.specs.Buffer.{over}
@@ -10,15 +10,14 @@ use Rattle.update_rows.specs.Storing.{padded}
 use Rattle.update_writing.specs.Blocks.{side_rows, gateway_runs, distance_runs, internal_blocks, external_blocks}
 use Rattle.update_theorem.specs.Canonical.{canonical}
 use Rattle.codec_writing.specs.Octets.{message_octets}
-use Rattle.codec.specs.Writing.{writable, write_of, write_octets}
+use Rattle.codec.specs.Writing.{writable, write_answer, write_length, write_octets}
 use Rattle.codec.specs.Reading.{read_of, most_read_numbers}
-use Rattle.codec.specs.declared.Meaning.TheVariants.{Good}
 use Rattle.codec.specs.declared.Reading.{Reading}
 use Rattle.codec_theorem.specs.Widths.{InWidths}
 
 -- a good reading: this message, the number of its rows, and the rows' numbers with zeros after them
 unfoldable pub handed_back : Message → ℕ → List ℕ → Reading
-handed_back m count numbers = record { meaning = Good m; count = count; rows = padded most_read_numbers numbers }
+handed_back m count numbers = record { meaning = Ok m; count = count; rows = padded most_read_numbers numbers }
 
 -- 01: reading alone is "given the common net": an Update's own; beside any other kind it does not matter
 abbrev pub Common : ℕ → Message → Type 0
@@ -57,7 +56,7 @@ ComesBack net o (Error a q s reason x y z) = Unit {0}
 
 pub record OctetsComeBack : Type 0 where
   -- every good reading is one of a message with rows
-  pub rows : (net : ℕ) (o : List ℕ) (m : Message) → (read_of net o).meaning ≡ Good m → (rs : List Row) × Reads net o m rs
+  pub rows : (net : ℕ) (o : List ℕ) (m : Message) → (read_of net o).meaning ≡ Ok m → (rs : List Row) × Reads net o m rs
   -- 01: the writer refuses what the reader "would refuse or never gives": not what it gave
   pub writes : (net : ℕ) (o : List ℕ) (m : Message) (rs : List Row) → Octets o → Reads net o m rs
       → InWidths m × Common net m × (writable m (flat rs) ≡ true)
@@ -67,16 +66,16 @@ pub record OctetsComeBack : Type 0 where
 
 -- the octets that a call of `write` hands over: of the buffer that it leaves, as many as it answers
 abbrev pub handed_over : Message → List ℕ → List ℕ → List ℕ
-handed_over m numbers buffer = take (write_of m numbers buffer).length (over (write_octets m numbers buffer) buffer)
+handed_over m numbers buffer = take (write_length m numbers buffer) (over (write_octets m numbers buffer) buffer)
 
 -- The round trip through the public calls, in the words of their promises, whatever buffer was lent
 pub record CallsUndoEachOther : Type 0 where
   -- what `write` answered with 0 and left in the buffer, `read` gives back: the message, how many rows, and the rows
-  pub written : (net : ℕ) (m : Message) (numbers buffer : List ℕ) → InWidths m → Common net m → (write_of m numbers buffer).answer ≡ 0
+  pub written : (net : ℕ) (m : Message) (numbers buffer : List ℕ) → InWidths m → Common net m → write_answer m numbers buffer ≡ 0
       → read_of net (handed_over m numbers buffer) ≡ handed_back m (length (rows_of numbers)) numbers
   -- what `read` gave, `write` takes into any buffer of 2,048 octets
   pub taken : (net : ℕ) (o : List ℕ) (m : Message) (rs : List Row) (buffer : List ℕ) → Octets o → Reads net o m rs
-      → 2048 ≤ length buffer → (write_of m (flat rs) buffer).answer ≡ 0
+      → 2048 ≤ length buffer → write_answer m (flat rs) buffer ≡ 0
   -- and leaves the octets that were read, exactly where they come back
   pub read : (net : ℕ) (o : List ℕ) (m : Message) (rs : List Row) (buffer : List ℕ) → Octets o → Reads net o m rs
       → 2048 ≤ length buffer → (handed_over m (flat rs) buffer ≡ o) ↔ ComesBack net o m

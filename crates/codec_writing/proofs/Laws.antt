@@ -1,5 +1,5 @@
 -- Laws of writing a message of any kind. Assumes nothing.
-use Prim.Native.Nat.{ℕ, ◌+◌, ◌%◌, ◌≤◌}
+use Prim.Native.Nat.{ℕ, ◌+◌, ◌/◌, ◌%◌, ◌≤◌}
 use native.Mathlib.Omega.{arith}
 use mathlib.Core.Path.{◌≡◌, refl, sym, ◌∙◌}
 use mathlib.Core.Bool.{true, ◌&&◌}
@@ -20,7 +20,10 @@ use Rattle.message.specs.declared.Message.TheVariants.{Request, Confirm, Refuse,
 use Rattle.message_writing.specs.Writing.{head_of}
 use Rattle.update_writing.specs.Blocks.{blocks_written, internal_blocks, external_blocks}
 use Rattle.update_writing.specs.Writable.{writable_numbers, writable_rows}
+use Rattle.std.proofs.Common.{map}
+use Rattle.std.specs.Simd.{first_chunks}
 use Rattle.update_writing.proofs.Claims.{short, rows_most}
+use Rattle.update_writing.proofs.Lists.{row_at, rows_chunks}
 use Rattle.codec_writing.specs.Octets.{plain_octets, message_octets}
 use Rattle.codec_writing.specs.Room.{rows_fit, room_for}
 
@@ -70,24 +73,24 @@ update_length a q s net rows =
     ∙ rw (head_length (internal_blocks rows) (external_blocks rows) a q s net)
 
 -- the same along the code: what each step leaves in the buffer
-module _ (b x y numbers : List ℕ) (a q s net i e end : ℕ) (g : good_net net ≡ true) (w : writable_numbers net numbers ≡ true) (room : 1168 ≤ length b)
-    (blocks : x ≡ sets b 16 (blocks_written net (rows_of numbers))) (ends : end ≡ 16 + length (blocks_written net (rows_of numbers)))
-    (inside : i ≡ internal_blocks (rows_of numbers)) (outside : e ≡ external_blocks (rows_of numbers)) (head : y ≡ over (head_of i e a q s net) x) where
-  enough : 16 + length (blocks_written net (rows_of numbers)) ≤ length b
-  enough = omega (arith, blocks_few net numbers g w)
+module _ (b x y : List ℕ) (rows : List Row) (a q s net i e end : ℕ) (g : good_net net ≡ true) (w : writable_rows net rows ≡ true) (room : 1168 ≤ length b)
+    (blocks : x ≡ sets b 16 (blocks_written net rows)) (ends : end ≡ 16 + length (blocks_written net rows))
+    (inside : i ≡ internal_blocks rows) (outside : e ≡ external_blocks rows) (head : y ≡ over (head_of i e a q s net) x) where
+  enough : 16 + length (blocks_written net rows) ≤ length b
+  enough = omega (arith, short.most net g rows w)
 
   pub end_fits : end ≤ length y
-  end_fits = rw ends (head_fits b (blocks_written net (rows_of numbers)) (head_of i e a q s net) x y blocks head (head_length i e a q s net) enough)
+  end_fits = rw ends (head_fits b (blocks_written net rows) (head_of i e a q s net) x y blocks head (head_length i e a q s net) enough)
 
-  pub update_end : end ≡ length (message_octets (Update a q s net) (rows_of numbers))
-  update_end = ends ∙ sym (update_length a q s net (rows_of numbers))
+  pub update_end : end ≡ length (message_octets (Update a q s net) rows)
+  update_end = ends ∙ sym (update_length a q s net rows)
 
-  pub update_written : sealed (take end y) ++ drop end y ≡ over (message_octets (Update a q s net) (rows_of numbers)) b
+  pub update_written : sealed (take end y) ++ drop end y ≡ over (message_octets (Update a q s net) rows) b
   unfolding message_octets plain_octets
   update_written =
       let h = head_of i e a q s net in
-      let l = blocks_written net (rows_of numbers) in
-      over_sealed (head_of i e a q s net ++ blocks_written net (rows_of numbers)) b y end
+      let l = blocks_written net rows in
+      over_sealed (head_of i e a q s net ++ blocks_written net rows) b y end
       (assembled b l h x y blocks head (head_length i e a q s net) enough) (ends ∙ sym (long b l h x y blocks head (head_length i e a q s net) enough))
       ∙ rw (inside, outside)
 
@@ -128,3 +131,7 @@ unfolding rows_fit room_for
 update_asked m room numbers a q s net e p =
     let w : (good_net net && writable_numbers net numbers) ≡ true = rw e at p.0 in
     ((and_left (good_net net) (writable_numbers net numbers) w, and_right (good_net net) (writable_numbers net numbers) w), rw e at p.1)
+
+-- the same of its rows as arrays
+pub rows_asked : (net n : ℕ) (numbers : List ℕ) → n ≡ length numbers / 3 → writable_numbers net numbers ≡ true → writable_rows net (map row_at (first_chunks 3 n numbers)) ≡ true
+rows_asked net n numbers e w = rw (rows_chunks n numbers e) (writable_rows_lem net numbers w)

@@ -1,30 +1,31 @@
 // A message of any kind written at the front of a lent buffer. What may be written is judged above.
 #![tactic(auto)]
 
-ghost use Rattle.std.specs.Prelude.{◌≡◌, true, ◌≤◌, length};
+ghost use Rattle.std.specs.Prelude.{◌≡◌, true, ◌≤◌, length, map};
 ghost use Rattle.octets.specs.Buffer.{over};
 ghost use Rattle.nets.specs.Classes.{good_net};
 ghost use Rattle.nets.specs.Rows.{rows_of};
 ghost use Rattle.message.specs.declared.Message.TheVariants.{Update};
-ghost use Rattle.update_writing.specs.Writable.{writable_numbers};
+ghost use Rattle.update_writing.specs.Writable.{writable_rows};
 ghost use Rattle.codec_writing.specs.Octets.{message_octets};
 ghost use Rattle.codec_writing.specs.Room.{rows_fit, room_for};
 
 use message::{Kind, Message};
+use update_writing::LentRow;
 
-// Writes an Update, its rows given as numbers, three a row, and says how long it is.
-fn write_update(
+// Writes an Update with these rows, and says how long it is.
+pub fn write_update<R: LentRow>(
     buffer: &mut [u8],
     asn: u16,
     sequence: u16,
     status: u8,
     net: u32,
-    rows: &[u32],
+    rows: &[R],
 ) -> usize
-    requires net_value { (good_net net ≡ true) × (writable_numbers net rows.now ≡ true) }
+    requires net_value { (good_net net ≡ true) × (writable_rows net (map R.as_row rows.now) ≡ true) }
     requires in_bounds { 1168 ≤ length buffer.old }
-    ensures value { result ≡ length (message_octets (Update asn sequence status net) (rows_of rows.now)) }
-    ensures buffer_after { buffer.new ≡ over (message_octets (Update asn sequence status net) (rows_of rows.now)) buffer.old }
+    ensures value { result ≡ length (message_octets (Update asn sequence status net) (map R.as_row rows.now)) }
+    ensures buffer_after { buffer.new ≡ over (message_octets (Update asn sequence status net) (map R.as_row rows.now)) buffer.old }
 {
     let blocks = update_writing::write_blocks(buffer, 16, net, rows);
     message_writing::store_head(
@@ -113,7 +114,7 @@ pub fn write_message(buffer: &mut [u8], message: Message, rows: &[u32]) -> usize
             sequence,
             status,
             net,
-        } => write_update(buffer, asn, sequence, status, net, rows),
+        } => write_update(buffer, asn, sequence, status, net, rows.as_chunks::<3>().0),
         Message::Error {
             asn,
             sequence,

@@ -1,5 +1,5 @@
 -- The head of a record and the head of an answer.
-use Rattle.std.specs.Prelude.{ℕ, ◌+◌, ◌*◌, ◌/◌, ◌%◌, List, [], ◌∷◌, get_or}
+use Rattle.std.specs.Prelude.{ℕ, List, [], ◌∷◌, get_or}
 use Rattle.octets.specs.Numbers.{word16, word32, octets16, octets32}
 use Rattle.neighbour.specs.declared.Settings.{Settings}
 use Rattle.driver_records.specs.declared.RecordHead.{RecordHead}

@@ -1,12 +1,10 @@
 // Records of calls as octets: what the driver is told, and what it answers. docs/COMPARISON.md has the format.
 #![tactic(auto)]
 
-ghost use Rattle.std.specs.Prelude.{◌≡◌, length};
-ghost use Rattle.driver_records.specs.Filled.{filled};
+ghost use Rattle.std.specs.Prelude.{◌≡◌, length, replicate};
 ghost use Rattle.driver_records.specs.Records.{record_head, settings_in, answer_octets};
 
 use neighbour::Settings;
-use octets::{first_of, fourth_of, high, low, second_of, third_of};
 
 // A record's head: which call, its plain arguments, and how much follows.
 #[derive(Clone, Copy)]
@@ -63,33 +61,18 @@ pub fn settings_in(head: RecordHead) -> Settings
 pub fn answer_octets(answer: u8, first: u16, second: u16, room: u32, count: u32) -> [u8; 16]
     ensures { result ≡ answer_octets answer first second room count }
 {
-    [
-        0,
-        answer,
-        high(first),
-        low(first),
-        high(second),
-        low(second),
-        0,
-        0,
-        first_of(room),
-        second_of(room),
-        third_of(room),
-        fourth_of(room),
-        first_of(count),
-        second_of(count),
-        third_of(count),
-        fourth_of(count),
-    ]
+    let mut octets = [0; 16];
+    octets[1] = answer;
+    octets::put16(&mut octets, 2, first);
+    octets::put16(&mut octets, 4, second);
+    octets::put32(&mut octets, 8, room);
+    octets::put32(&mut octets, 12, count);
+    octets
 }
 
 // Sets every octet of a buffer.
 pub fn fill(buffer: &mut [u8], octet: u8)
-    ensures { buffer.new ≡ filled (length buffer.old) octet }
+    ensures { buffer.new ≡ replicate (length buffer.old) octet }
 {
-    let mut i = 0;
-    while i < buffer.len() {
-        buffer[i] = octet;
-        i += 1;
-    }
+    buffer.fill(octet);
 }

@@ -6,13 +6,15 @@ use mathlib.Core.List.{List, [], ◌∷◌}
 use lib.Dec.{eqb}
 use lib.ListN.{get_or}
 use borrow.Author.Tests.{eqb-true}
+use Rattle.std.specs.Prelude.{Result, Ok, Err}
+use Rattle.checks.specs.Refusals.{number_of}
+use Rattle.checks.specs.declared.Refusal.{Refusal}
+use Rattle.checks.proofs.Laws.{number_same}
 use Rattle.checks.proofs.Laws.{and_left, and_right}
 use Rattle.nets.specs.Rows.{flat}
 use Rattle.message.specs.declared.Message.{Message}
 use Rattle.message.specs.declared.Message.TheVariants.{Request, Confirm, Refuse, Cease, CeaseAck, Hello, IHeardYou, Poll, Update, Error}
 use Rattle.update_rows.specs.Storing.{padded}
-use Rattle.codec.specs.declared.Meaning.{Meaning}
-use Rattle.codec.specs.declared.Meaning.TheVariants.{Good, Refused}
 use Rattle.codec.specs.declared.Reading.{Reading}
 use Rattle.codec.specs.Reading.{read_of}
 use Rattle.codec_writing.specs.Octets.{message_octets}
@@ -128,12 +130,12 @@ same_neighbour_lem m n e =
 
 -- ---- what is made of them
 
-same_meaning_lem : (a b : Meaning) → same_meaning a b ≡ true → a ≡ b
+same_meaning_lem : (a b : Result Message Refusal) → same_meaning a b ≡ true → a ≡ b
 unfolding same_meaning
-same_meaning_lem (Good m) (Good n) e = ap Good (same_message_lem m n e)
-same_meaning_lem (Good m) (Refused k) e = never e
-same_meaning_lem (Refused k) (Good n) e = never e
-same_meaning_lem (Refused k) (Refused l) e = ap Refused (eqb-true k l e)
+same_meaning_lem (Ok m) (Ok n) e = ap Ok (same_message_lem m n e)
+same_meaning_lem (Ok m) (Err k) e = never e
+same_meaning_lem (Err k) (Ok n) e = never e
+same_meaning_lem (Err k) (Err l) e = ap Err (number_same k l (eqb-true (number_of k) (number_of l) e))
 
 same_reading_lem : (a b : Reading) → same_reading a b ≡ true → a ≡ b
 unfolding same_reading
@@ -265,7 +267,7 @@ passing_holds (reads net octets m rows) e =
     let p = both (a && b) (same_numbers (message_octets m rows) octets) e in
     let q = both a b p.0 in
     (same_reading_lem (read_of net octets) (good_reading m rows) q.0, q.1, same_numbers_lem (message_octets m rows) octets p.1)
-passing_holds (refused net octets number) e = same_reading_lem (read_of net octets) (bad_reading number) e
+passing_holds (refused net octets told) e = same_reading_lem (read_of net octets) (bad_reading told) e
 passing_holds (received g asn n octets v) e = same_verdict_lem _ v e
 passing_holds (happens g asn n event v) e = same_verdict_lem _ v e
 passing_holds (called st address octets left) e =

@@ -1,9 +1,9 @@
 -- A case of the bench sheet: what is given and what must come out; and the test that computes the one and compares it with the other.
-use Rattle.std.specs.Prelude.{ℕ, ◌≡◌, Bool, true, ◌&&◌, List, [], length}
+use Rattle.std.specs.Prelude.{ℕ, ◌≡◌, Bool, true, ◌&&◌, List, [], length, Ok, Err}
+use Rattle.checks.specs.declared.Refusal.{Refusal}
 use Rattle.nets.specs.Rows.{Row, flat}
 use Rattle.message.specs.declared.Message.{Message}
 use Rattle.update_rows.specs.Storing.{padded}
-use Rattle.codec.specs.declared.Meaning.TheVariants.{Good, Refused}
 use Rattle.codec.specs.declared.Reading.{Reading}
 use Rattle.codec.specs.Reading.{most_read_numbers, read_of}
 use Rattle.codec_writing.specs.Octets.{message_octets}
@@ -28,8 +28,8 @@ pub record MessageLeft : Type 0 where
 pub data Case : Type 0 where
   -- octets read alone on a common net have this meaning and exactly these rows; both written give these octets
   reads : ℕ → List ℕ → Message → List Row → Case
-  -- octets read alone on a common net are refused with this number
-  refused : ℕ → List ℕ → ℕ → Case
+  -- octets read alone on a common net are refused for this
+  refused : ℕ → List ℕ → Refusal → Case
   -- octets from the neighbour with this AS and record, at a gateway with these settings and with room for 128 rows:
   -- answer, reply, record after it, and whether the rows stay, go or are so many others
   received : Settings → ℕ → Neighbour → List ℕ → Verdict → Case
@@ -40,11 +40,11 @@ pub data Case : Type 0 where
 
 -- what reading alone must give: the meaning and exactly the rows, zeros after them
 unfoldable pub good_reading : Message → List Row → Reading
-good_reading m rows = record { meaning = Good m; count = length rows; rows = padded most_read_numbers (flat rows) }
+good_reading m rows = record { meaning = Ok m; count = length rows; rows = padded most_read_numbers (flat rows) }
 
 -- or a refusal, with no row
-unfoldable pub bad_reading : ℕ → Reading
-bad_reading number = record { meaning = Refused number; count = 0; rows = padded most_read_numbers [] }
+unfoldable pub bad_reading : Refusal → Reading
+bad_reading told = record { meaning = Err told; count = 0; rows = padded most_read_numbers [] }
 
 -- 01: "The lent table is exactly 3,072 32-bit numbers"; "Reply buffer at least 2,048 octets"; both hold zeros
 unfoldable pub zero_table : List ℕ
@@ -64,7 +64,7 @@ leaves st address octets left =
 unfoldable pub passes : Case → Bool
 passes (reads net octets m rows) =
     same_reading (read_of net octets) (good_reading m rows) && writable m (flat rows) && same_numbers (message_octets m rows) octets
-passes (refused net octets number) = same_reading (read_of net octets) (bad_reading number)
+passes (refused net octets told) = same_reading (read_of net octets) (bad_reading told)
 passes (received g asn n octets v) = same_verdict (verdict_of (receive_ruling 128 g asn n octets)) v
 passes (happens g asn n event v) = same_verdict (verdict_of (stepped n (step_of g asn n event no_head))) v
 passes (called st address octets left) = leaves st address octets left
@@ -72,7 +72,7 @@ passes (called st address octets left) = leaves st address octets left
 -- what a case says, as equations: what is computed is what must come out
 abbrev pub Holds : Case → Type 0
 Holds (reads net octets m rows) = (read_of net octets ≡ good_reading m rows) × (writable m (flat rows) ≡ true) × (message_octets m rows ≡ octets)
-Holds (refused net octets number) = read_of net octets ≡ bad_reading number
+Holds (refused net octets told) = read_of net octets ≡ bad_reading told
 Holds (received g asn n octets v) = verdict_of (receive_ruling 128 g asn n octets) ≡ v
 Holds (happens g asn n event v) = verdict_of (stepped n (step_of g asn n event no_head)) ≡ v
 Holds (called st address octets left) =

@@ -1,9 +1,9 @@
 -- Whether two meanings, records, replies or outcomes are the same, field by field, as tests that compute.
-use Rattle.std.specs.Prelude.{ℕ, Bool, true, false, ◌&&◌, List, [], ◌∷◌, eqb}
+use Rattle.std.specs.Prelude.{ℕ, Bool, true, false, ◌&&◌, List, [], ◌∷◌, eqb, Result, Ok, Err}
+use Rattle.checks.specs.Refusals.{number_of}
+use Rattle.checks.specs.declared.Refusal.{Refusal}
 use Rattle.message.specs.declared.Message.{Message}
 use Rattle.message.specs.declared.Message.TheVariants.{Request, Confirm, Refuse, Cease, CeaseAck, Hello, IHeardYou, Poll, Update, Error}
-use Rattle.codec.specs.declared.Meaning.{Meaning}
-use Rattle.codec.specs.declared.Meaning.TheVariants.{Good, Refused}
 use Rattle.codec.specs.declared.Reading.{Reading}
 use Rattle.neighbour.specs.declared.Settings.{Settings}
 use Rattle.neighbour.specs.declared.Neighbour.{Neighbour}
@@ -43,11 +43,11 @@ unfoldable pub same_message : Message → Message → Bool
 same_message m n = same_numbers (message_numbers m) (message_numbers n)
 
 -- the same message, or refused with the same number
-unfoldable pub same_meaning : Meaning → Meaning → Bool
-same_meaning (Good m) (Good n) = same_message m n
-same_meaning (Good m) (Refused k) = false
-same_meaning (Refused k) (Good n) = false
-same_meaning (Refused k) (Refused l) = eqb k l
+unfoldable pub same_meaning : Result Message Refusal → Result Message Refusal → Bool
+same_meaning (Ok m) (Ok n) = same_message m n
+same_meaning (Ok m) (Err k) = false
+same_meaning (Err k) (Ok n) = false
+same_meaning (Err k) (Err l) = eqb (number_of k) (number_of l)
 
 -- the same meaning, row count and rows
 unfoldable pub same_reading : Reading → Reading → Bool

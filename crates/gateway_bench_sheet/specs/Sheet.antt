@@ -1,6 +1,7 @@
 -- 01's bench sheet: cases H, Z, Q, U, V, W, X, Y, K, M as one table, and the claim about it.
 use Rattle.std.specs.Prelude.{ℕ, ◌≡◌, true, List, [], ◌∷◌}
 use Rattle.checks.specs.Lists.{every}
+use Rattle.checks.specs.declared.Refusal.TheVariants.{WrongChecksum, BrokenBlocks}
 use Rattle.message.specs.declared.Message.TheVariants.{Request, Confirm, Refuse, Hello, Poll, Update, Error}
 use Rattle.neighbour.specs.declared.Phase.{Phase}
 use Rattle.neighbour.specs.declared.Phase.TheVariants.{Idle, Acquisition, Down, Up, Cease}
@@ -104,7 +105,7 @@ sheet =
     -- Z: 02 05 00 02 00 00 FD F8 00 00 is right, and is what is written
     reads common (2 ∷ 5 ∷ 0 ∷ 2 ∷ 0 ∷ 0 ∷ 253 ∷ 248 ∷ 0 ∷ 0 ∷ []) (Hello 65016 0 2) [] ∷
     -- Z: with FF FF as checksum, 8; also from a neighbour, without reply
-    refused common (2 ∷ 5 ∷ 0 ∷ 2 ∷ 255 ∷ 255 ∷ 253 ∷ 248 ∷ 0 ∷ 0 ∷ []) 8 ∷
+    refused common (2 ∷ 5 ∷ 0 ∷ 2 ∷ 255 ∷ 255 ∷ 253 ∷ 248 ∷ 0 ∷ 0 ∷ []) WrongChecksum ∷
     received nine 65016 reached (2 ∷ 5 ∷ 0 ∷ 2 ∷ 255 ∷ 255 ∷ 253 ∷ 248 ∷ 0 ∷ 0 ∷ [])
     (record { answer = 8; reply = Nothing; neighbour = reached; effect = Keep }) ∷
     -- Q: 02 03 00 00 FD 5F 00 07 00 00 00 1E 00 78
@@ -123,7 +124,7 @@ sheet =
     (Update 7 1 1 common)
     (record { net = ten_net; gateway = theirs; third = 0 } ∷ record { net = c_net; gateway = theirs; third = 0 } ∷ []) ∷
     -- V: U without its last octet, checksum remade, 02 01 00 01 B9 D7 00 07 00 01 01 00 80 09 00 00 00 05 01 00 02 0A C0 05: 14
-    refused common (2 ∷ 1 ∷ 0 ∷ 1 ∷ 185 ∷ 215 ∷ 0 ∷ 7 ∷ 0 ∷ 1 ∷ 1 ∷ 0 ∷ 128 ∷ 9 ∷ 0 ∷ 0 ∷ 0 ∷ 5 ∷ 1 ∷ 0 ∷ 2 ∷ 10 ∷ 192 ∷ 5 ∷ []) 14 ∷
+    refused common (2 ∷ 1 ∷ 0 ∷ 1 ∷ 185 ∷ 215 ∷ 0 ∷ 7 ∷ 0 ∷ 1 ∷ 1 ∷ 0 ∷ 128 ∷ 9 ∷ 0 ∷ 0 ∷ 0 ∷ 5 ∷ 1 ∷ 0 ∷ 2 ∷ 10 ∷ 192 ∷ 5 ∷ []) BrokenBlocks ∷
     -- V: from a neighbour in Up, Error 2
     received nine 7 polling (2 ∷ 1 ∷ 0 ∷ 1 ∷ 185 ∷ 215 ∷ 0 ∷ 7 ∷ 0 ∷ 1 ∷ 1 ∷ 0 ∷ 128 ∷ 9 ∷ 0 ∷ 0 ∷ 0 ∷ 5 ∷ 1 ∷ 0 ∷ 2 ∷ 10 ∷ 192 ∷ 5 ∷ [])
     (record { answer = 14; reply = One (Error 9 4 1 2 33619969 3117875207 65792); neighbour = polling; effect = Keep }) ∷

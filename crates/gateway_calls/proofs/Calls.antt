@@ -4,13 +4,12 @@ use mathlib.Core.Path.{◌≡◌, refl, sym, ◌∙◌, ap}
 use mathlib.Core.Bool.{true}
 use mathlib.Core.List.{List, []}
 use lib.ListN.{length}
-use Rattle.checks.proofs.Laws.{if_ok_new, if_ok_old}
+use Rattle.std.specs.Prelude.{Err}
+use Rattle.checks.specs.Refusals.{number_of}
+use Rattle.checks.specs.declared.Refusal.{Refusal}
+use Rattle.checks.proofs.Laws.{number_some, if_ok_new, if_ok_old}
 use Rattle.octets.specs.Buffer.{over}
 use Rattle.nets.specs.Rows.{rows_of}
-use Rattle.message_reading.specs.Reading.{decode_of}
-use Rattle.message_reading.specs.Reading as Wire
-use Rattle.message.specs.declared.Message.{Message}
-use Rattle.message_reading.specs.declared.Decoded.TheVariants as D
 use Rattle.update_walk.specs.Body.{walked_blocks}
 use Rattle.update_rows.specs.Storing.{walked_rows}
 use Rattle.neighbour.specs.declared.Phase.TheVariants.{Up}
@@ -44,9 +43,9 @@ use Rattle.gateway_rules.proofs.Seconds.{booked_neighbour, booked_asn}
 use Rattle.gateway_rules.proofs.Rulings.{stepped_backed, receive_backed}
 use Rattle.gateway_rules.proofs.Sends.{named_sends, stepped_sends, receive_sends}
 use Rattle.gateway_home.proofs.Laws.{home_writable, none_writable}
-use Rattle.gateway_stages.specs.Stages.{head_number, keeping}
+use Rattle.gateway_stages.specs.Stages.{read_from, keeping}
 use Rattle.gateway_stages.proofs.Reaching.{keeps}
-use Rattle.gateway_stages.proofs.Laws.{head_number_lem, kind_number_lem}
+use Rattle.gateway_stages.proofs.Laws.{read_refused}
 use Rattle.gateway_carry.specs.declared.Lengths.{Lengths}
 use Rattle.gateway_carry.specs.Asked.{sendable, lengths_of, takes, change_of, ruling_of}
 use Rattle.gateway_carry.proofs.Carrying.{carried}
@@ -191,13 +190,9 @@ module _ (st : State) (table buffer home : List ℕ) (a : ℕ) (o : List ℕ) (k
               ),
             )
 
-      pub head_is : (head : ℕ) → head ≡ head_number slot.asn o → (head ≡ 0 → ⊥) → message_number 128 st.settings slot.asn slot.neighbour o ≡ head
-      head_is head h x = head_number_lem 128 st.settings slot.asn slot.neighbour o (λ q. x (h ∙ q)) ∙ sym h
-
-      pub kind_is : head_number slot.asn o ≡ 0 → (number : ℕ) → number ≡ Wire.decoded_number (decode_of o) → ((a : Message) → (decode_of o) ≡ D.Good a → ⊥)
-          → (number ≡ 0 → ⊥) × (message_number 128 st.settings slot.asn slot.neighbour o ≡ number)
-      kind_is h number f t =
-          let q = kind_number_lem 128 st.settings slot.asn slot.neighbour o h t in (λ y. q.1 (sym f ∙ y), q.0 ∙ sym f)
+      pub read_is : (refusal : Refusal) → read_from slot.asn o ≡ Err refusal
+          → (number_of refusal ≡ 0 → ⊥) × (message_number 128 st.settings slot.asn slot.neighbour o ≡ number_of refusal)
+      read_is refusal e = (number_some refusal, read_refused 128 st.settings slot.asn slot.neighbour o refusal e)
 
       -- a Hello or an I-H-U in Up
       module _ (after : After) (is : keeping after ≡ receive_ruling 128 st.settings slot.asn slot.neighbour o) where

@@ -17,6 +17,8 @@ use Rattle.gateway_rules.specs.Home.{good_home}
 use Rattle.gateway_rules.specs.Seconds.{has_time}
 use Rattle.gateway_rules.specs.Calls.{table_fits, buffer_fits, lent_checks, event_checks, message_checks}
 use Rattle.gateway_rules.proofs.Checks.{Passed, found, lent_passed}
+use Rattle.std.specs.Prelude.{Ok}
+use Rattle.gateway_calls.specs.Steps.{EventSlot}
 
 -- ---- 1, 2 and 3
 
@@ -68,62 +70,60 @@ module _ (st : State) (table buffer : Bool) (rest : ℕ) where
 
 -- ---- then 4, 5 and 22
 
-module _ (st : State) (a numbers octets lent : ℕ) (e : Lent st numbers octets lent) where
-  abbrev Happens : Event → ℕ → Type 0
-  Happens event k =
-      (e : Intrinsic) → event ≡ as_event e → (table buffer : List ℕ) → length table ≡ numbers → length buffer ≡ octets → k ≡ event_checks e st table buffer a
+module _ (st : State) (table buffer : List ℕ) (a : ℕ) where
+  module _ (k : ℕ) (n : k ≡ 0 → ⊥) (e : k ≡ lent_checks st (table_fits table) (buffer_fits buffer) 0) where
+    pub event_lent : (event : Intrinsic) → k ≡ event_checks event st table buffer a
+    unfolding event_checks
+    event_lent event = lent_fails st _ _ _ k n e
 
-  abbrev Message : List ℕ → ℕ → Type 0
-  Message home k = (table buffer : List ℕ) → length table ≡ numbers → length buffer ≡ octets → k ≡ message_checks st table buffer home a
+    pub message_lent : (home : List ℕ) → k ≡ message_checks st table buffer home a
+    unfolding message_checks
+    message_lent home = lent_fails st _ _ _ k n e
 
-  pub event_lent : (event : Event) → (lent ≡ 0 → ⊥) → Happens event lent
-  unfolding event_checks
-  event_lent event z x f table buffer p q = lent_fails st _ _ _ lent z (e table buffer p q)
+  module _ (z : 0 ≡ lent_checks st (table_fits table) (buffer_fits buffer) 0) where
+    passes : (rest : ℕ) → lent_checks st (table_fits table) (buffer_fits buffer) rest ≡ rest
+    passes rest = lent_passes st (table_fits table) (buffer_fits buffer) rest (sym z)
 
-  pub message_lent : (home : List ℕ) → (lent ≡ 0 → ⊥) → Message home lent
-  unfolding message_checks
-  message_lent home z table buffer p q = lent_fails st _ _ _ lent z (e table buffer p q)
+    pub event_5 : 8 ≤ slot_of st a → (event : Intrinsic) → 5 ≡ event_checks event st table buffer a
+    unfolding event_checks
+    event_5 h event = sym (passes _ ∙ check_fails (ltb (slot_of st a) 8) 5 _ (le-ltb (slot_of st a) 8 h))
 
-  module _ (z : lent ≡ 0) where
-    passes : (table buffer : List ℕ) (rest : ℕ) → length table ≡ numbers → length buffer ≡ octets → lent_checks st (table_fits table) (buffer_fits buffer) rest ≡ rest
-    passes table buffer rest p q = lent_passes st (table_fits table) (buffer_fits buffer) rest (sym (e table buffer p q) ∙ z)
-
-    module _ (event : Event) (i : ℕ) (f : i ≡ slot_of st a) where
-      pub event_5 : 8 ≤ i → Happens event 5
+    module _ (i : ℕ) (f : i ≡ slot_of st a) (n : i < 8) where
+      -- the slot is there: its clock decides
+      by_time : (event : Event) (b : Bool) → has_time event (slot_at st i).seconds ≡ b → (x : Intrinsic) → event ≡ as_event x
+          → check b 22 0 ≡ event_checks x st table buffer a
       unfolding event_checks
-      event_5 n x y table buffer p q = sym (passes table buffer _ p q ∙ check_fails (ltb (slot_of st a) 8) 5 _ (le-ltb (slot_of st a) 8 (rw (← f) n)))
+      by_time event b h x y = sym (passes _ ∙ check_holds (ltb (slot_of st a) 8) 5 _ (lt-ltb (slot_of st a) 8 (rw (← f) n)) ∙ rw (← y, ← f, h))
 
-      module _ (n : i < 8) where
-        -- the slot is there: its clock decides
-        by_time : (b : Bool) → has_time event (slot_at st i).seconds ≡ b → Happens event (check b 22 0)
-        unfolding event_checks
-        by_time b h x y table buffer p q =
-            sym (passes table buffer _ p q ∙ check_holds (ltb (slot_of st a) 8) 5 _ (lt-ltb (slot_of st a) 8 (rw (← f) n)) ∙ rw (← y, ← f, h))
+      pub event_22 : (event : Event) → has_time event (slot_at st i).seconds ≡ false → (x : Intrinsic) → event ≡ as_event x → 22 ≡ event_checks x st table buffer a
+      unfolding check
+      event_22 event = by_time event false
 
-        pub event_22 : has_time event (slot_at st i).seconds ≡ false → Happens event 22
-        unfolding check
-        event_22 = by_time false
+      pub event_0 : (event : Event) → has_time event (slot_at st i).seconds ≡ true → (x : Intrinsic) → event ≡ as_event x → 0 ≡ event_checks x st table buffer a
+      unfolding check
+      event_0 event = by_time event true
 
-        pub event_0 : has_time event (slot_at st i).seconds ≡ true → Happens event 0
-        unfolding check
-        event_0 = by_time true
-
-        pub event_met : (table buffer : List ℕ) → length table ≡ numbers → length buffer ≡ octets → Passed st table buffer a
-        event_met table buffer p q =
-            found st table buffer a 0 (lent_passed st (table_fits table) (buffer_fits buffer) 0 (sym (e table buffer p q) ∙ z)) (lt-ltb (slot_of st a) 8 (rw (← f) n))
+      pub event_met : Passed st table buffer a
+      event_met = found st table buffer a 0 (lent_passed st (table_fits table) (buffer_fits buffer) 0 (sym z)) (lt-ltb (slot_of st a) 8 (rw (← f) n))
 
     module _ (home : List ℕ) where
-      pub message_4 : good_home st.settings home ≡ false → Message home 4
+      pub message_4 : good_home st.settings home ≡ false → 4 ≡ message_checks st table buffer home a
       unfolding message_checks
-      message_4 h table buffer p q = sym (passes table buffer _ p q ∙ check_fails (good_home st.settings home) 4 _ h)
+      message_4 h = sym (passes _ ∙ check_fails (good_home st.settings home) 4 _ h)
 
       module _ (h : good_home st.settings home ≡ true) where
-        pub message_5 : (i : ℕ) → i ≡ slot_of st a → 8 ≤ i → Message home 5
+        pub message_5 : 8 ≤ slot_of st a → 5 ≡ message_checks st table buffer home a
         unfolding message_checks
-        message_5 i f n table buffer p q =
-            sym (passes table buffer _ p q ∙ check_holds (good_home st.settings home) 4 _ h ∙ check_fails (ltb (slot_of st a) 8) 5 0 (le-ltb (slot_of st a) 8 (rw (← f) n)))
+        message_5 n = sym (passes _ ∙ check_holds (good_home st.settings home) 4 _ h ∙ check_fails (ltb (slot_of st a) 8) 5 0 (le-ltb (slot_of st a) 8 n))
 
-        pub message_0 : (i : ℕ) → i ≡ slot_of st a → i < 8 → Message home 0
+        pub message_0 : slot_of st a < 8 → 0 ≡ message_checks st table buffer home a
         unfolding message_checks
-        message_0 i f n table buffer p q =
-            sym (passes table buffer _ p q ∙ check_holds (good_home st.settings home) 4 _ h ∙ check_holds (ltb (slot_of st a) 8) 5 0 (lt-ltb (slot_of st a) 8 (rw (← f) n)))
+        message_0 n = sym (passes _ ∙ check_holds (good_home st.settings home) 4 _ h ∙ check_holds (ltb (slot_of st a) 8) 5 0 (lt-ltb (slot_of st a) 8 n))
+
+-- what an event finds once its checks passed
+module _ (event : Event) (st : State) (table buffer : List ℕ) (a i : ℕ) (f : EventSlot event st table buffer a (Ok i)) where
+  pub slot_met : Passed st table buffer a
+  slot_met = event_met st table buffer a (sym f.0) i f.1 f.2
+
+  pub slot_checks : (x : Intrinsic) → event ≡ as_event x → 0 ≡ event_checks x st table buffer a
+  slot_checks = event_0 st table buffer a (sym f.0) i f.1 f.2 event f.3

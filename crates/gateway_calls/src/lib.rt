@@ -3,10 +3,12 @@
 
 ghost use Rattle.std.specs.Prelude.{◌≡◌, true, List, ℕ, ◌<◌, length};
 ghost use Rattle.neighbour_machine.specs.Intrinsics.{Intrinsic, Start, Stop, Tick, as_event};
+ghost use Rattle.checks.specs.Refusals.{answer_of};
+ghost use Rattle.gateway_calls.specs.Steps.{EventSlot, MessageSlot};
 ghost use Rattle.gateway_rules.specs.Calls.{table_fits, buffer_fits, lent_checks, event_outcome, event_table, event_buffer, message_outcome, message_table, message_buffer};
 
+use checks::Refusal;
 use gateway_state::{Outcome, State};
-use message_reading::Decoded;
 use neighbour::{Neighbour, Phase};
 use neighbour_machine::Event;
 use neighbour_messages::Head;
@@ -15,19 +17,59 @@ use neighbour_messages::Head;
 const UPDATE_ROOM: u16 = 128;
 
 // Checks 1, 2 and 3, of a table and a buffer of these lengths.
-fn lent_answer(st: State, numbers: usize, octets: usize) -> u8
-    ensures { (table buffer : List ℕ) → length table ≡ numbers → length buffer ≡ octets → result ≡ lent_checks st (table_fits table) (buffer_fits buffer) 0 }
+fn check_lent(st: &State, numbers: usize, octets: usize) -> Result<(), Refusal>
+    ensures { (table buffer : List ℕ) → length table ≡ numbers → length buffer ≡ octets → answer_of result ≡ lent_checks st.now (table_fits table) (buffer_fits buffer) 0 }
 {
-    if !gateway_state::well_formed(st) {
-        return 1;
+    if !gateway_state::is_well_formed(st) {
+        return Err(Refusal::IllFormedState);
     }
     if numbers != 3072 {
-        return 2;
+        return Err(Refusal::WrongTable);
     }
     if octets < 2048 {
-        return 3;
+        return Err(Refusal::ShortBuffer);
     }
-    0
+    Ok(())
+}
+
+// The slot that an event finds, or why the call is refused.
+fn slot_for_event(
+    st: &State,
+    numbers: usize,
+    octets: usize,
+    address: u32,
+    event: Event,
+) -> Result<usize, Refusal>
+    ensures { (table buffer : List ℕ) → length table ≡ numbers → length buffer ≡ octets → EventSlot event st.now table buffer address result }
+{
+    check_lent(st, numbers, octets)?;
+    let Some(i) = gateway_state::slot_of(*st, address) else {
+        return Err(Refusal::UnknownNeighbour);
+    };
+    if !gateway_carry::has_time(event, st.slots[i].seconds) {
+        return Err(Refusal::ClockFull);
+    }
+    Ok(i)
+}
+
+// The slot that a message finds, or why the call is refused before the message is read.
+fn slot_for_message(
+    st: &State,
+    numbers: usize,
+    octets: usize,
+    home: &[u32],
+    address: u32,
+) -> Result<usize, Refusal>
+    ensures { (table buffer : List ℕ) → length table ≡ numbers → length buffer ≡ octets → MessageSlot st.now table buffer home.now address result }
+{
+    check_lent(st, numbers, octets)?;
+    if !gateway_home::good_home(st.settings, home) {
+        return Err(Refusal::BadHomeList);
+    }
+    let Some(i) = gateway_state::slot_of(*st, address) else {
+        return Err(Refusal::UnknownNeighbour);
+    };
+    Ok(i)
 }
 
 // Whether nothing but the timers changes.
@@ -35,10 +77,8 @@ pub fn only_counts(event: Event, n: Neighbour) -> bool
     ensures { result ≡ true → (event ≡ Event.Tick) × (n.phase ≡ Phase.Up) × (1 < n.t1) × (1 < n.t2) × (1 < n.t3) }
 {
     match event {
-        Event::Received(_) => false,
-        Event::Start => false,
-        Event::Stop => false,
         Event::Tick => neighbour_tick::only_counts(n),
+        _ => false,
     }
 }
 
@@ -48,20 +88,11 @@ fn happen(mut st: State, table: &mut [u32], reply: &mut [u8], address: u32, even
     ensures table_after { (e : Intrinsic) → event ≡ as_event e → table.new ≡ event_table e st table.old reply.old address }
     ensures reply_after { (e : Intrinsic) → event ≡ as_event e → reply.new ≡ event_buffer e st table.old reply.old address }
 {
-    let lent = lent_answer(st, table.len(), reply.len());
-    if lent != 0 {
-        return gateway_state::refused(st, lent);
-    }
-    let i = gateway_state::slot_of(st, address);
-    if gateway_state::SLOTS <= i {
-        return gateway_state::refused(st, 5);
-    }
-    let found = st.slots[i];
-    let seconds = found.seconds;
-    if !gateway_carry::has_time(event, seconds) {
-        return gateway_state::refused(st, 22);
-    }
-    let slot = gateway_carry::book(event, found);
+    let i = match slot_for_event(&st, table.len(), reply.len(), address, event) {
+        Ok(i) => i,
+        Err(refusal) => return gateway_state::refused(st, refusal),
+    };
+    let slot = gateway_carry::book(event, st.slots[i]);
     let n = slot.neighbour;
     if only_counts(event, n) {
         st.slots[i] = gateway_carry::with_neighbour(slot, neighbour_tick::count_down(n));
@@ -72,17 +103,14 @@ fn happen(mut st: State, table: &mut [u32], reply: &mut [u8], address: u32, even
             state: st,
         };
     }
-    let settings = st.settings;
     let head = Head {
         first: 0,
         second: 0,
         third: 0,
     };
-    let after = neighbour_step::step(settings, slot.asn, n, event, head);
+    let after = neighbour_step::step(st.settings, slot.asn, n, event, head);
     let v = gateway_stages::step_verdict(n, after);
-    let home = [0u32; 0];
-    let message = [0u8; 0];
-    gateway_carry::apply(st, i, slot, v, table, reply, &home, &message)
+    gateway_carry::apply(st, i, slot, v, table, reply, &[], &[])
 }
 
 // The operator wants this neighbour.
@@ -125,37 +153,24 @@ pub fn receive(
     ensures table_after { table.new ≡ message_table st table.old reply.old home.now address message.now }
     ensures reply_after { reply.new ≡ message_buffer st table.old reply.old home.now address message.now }
 {
-    let lent = lent_answer(st, table.len(), reply.len());
-    if lent != 0 {
-        return gateway_state::refused(st, lent);
-    }
+    let i = match slot_for_message(&st, table.len(), reply.len(), home, address) {
+        Ok(i) => i,
+        Err(refusal) => return gateway_state::refused(st, refusal),
+    };
     let settings = st.settings;
-    if !gateway_home::good_home(settings, home) {
-        return gateway_state::refused(st, 4);
-    }
-    let i = gateway_state::slot_of(st, address);
-    if gateway_state::SLOTS <= i {
-        return gateway_state::refused(st, 5);
-    }
     let slot = st.slots[i];
     let n = slot.neighbour;
-    let head = gateway_stages::head_number(slot.asn, message);
-    if head != 0 {
-        let named = gateway_stages::reply_to(settings, n, message, head);
-        return gateway_carry::refuse(st, head, reply, named, home);
-    }
-    let decoded = message_reading::decode(message);
-    let Decoded::Good(m) = decoded else {
-        let number = message_reading::decoded_number(decoded);
-        let named = gateway_stages::reply_to(settings, n, message, number);
-        return gateway_carry::refuse(st, number, reply, named, home);
+    let m = match gateway_stages::read(slot.asn, message) {
+        Ok(m) => m,
+        Err(refusal) => {
+            let named = gateway_stages::reply_to(settings, n, message, refusal);
+            return gateway_carry::refuse(st, u8::from(refusal), reply, named, home);
+        }
     };
     if gateway_stages::tells_reach(n, m) {
         let after = gateway_stages::note_reach(settings, n, m);
-        let said = after.reply;
-        let next = after.neighbour;
-        let lengths = gateway_carry::send(reply, said, home);
-        st.slots[i] = gateway_carry::with_neighbour(slot, next);
+        let lengths = gateway_carry::send(reply, after.reply, home);
+        st.slots[i] = gateway_carry::with_neighbour(slot, after.neighbour);
         return Outcome {
             answer: 0,
             first: lengths.first,

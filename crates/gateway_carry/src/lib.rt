@@ -83,15 +83,10 @@ fn count_after(count: u16, effect: Effect) -> u16
 pub fn slot_after(slot: Slot, v: Verdict) -> Slot
     ensures { (walk : Walk) → takes v.effect walk ≡ true → result ≡ slot_after slot (ruling_of v (walked_rows walk)) }
 {
-    let next = v.neighbour;
-    let effect = v.effect;
-    let seconds = slot.seconds;
     Slot {
-        address: slot.address,
-        asn: slot.asn,
-        neighbour: next,
-        rows: count_after(slot.rows, effect),
-        seconds,
+        neighbour: v.neighbour,
+        rows: count_after(slot.rows, v.effect),
+        ..slot
     }
 }
 
@@ -99,25 +94,20 @@ pub fn slot_after(slot: Slot, v: Verdict) -> Slot
 pub fn with_neighbour(slot: Slot, n: Neighbour) -> Slot
     ensures { (x : Ruling) → x.neighbour ≡ n → x.change ≡ keep → result ≡ slot_after slot x }
 {
-    let seconds = slot.seconds;
     Slot {
-        address: slot.address,
-        asn: slot.asn,
         neighbour: n,
-        rows: slot.rows,
-        seconds,
+        ..slot
     }
 }
 
 // Whether the clock has room for this event: a tick alone takes a second.
+#[tactic(auto, unfolding(gateway_rules::specs::Seconds::has_time))]
 pub fn has_time(event: Event, seconds: Seconds) -> bool
     ensures { result ≡ has_time event seconds }
 {
     match event {
-        Event::Received(_) => true,
-        Event::Start => true,
-        Event::Stop => true,
-        Event::Tick => !neighbour_seconds::is_full(seconds),
+        Event::Tick => !seconds.is_full(),
+        _ => true,
     }
 }
 
@@ -125,29 +115,21 @@ fn second_more(slot: Slot) -> Slot
     requires { seconds_sum slot.seconds < most_seconds }
     ensures { result ≡ second_more slot }
 {
-    let n = slot.neighbour;
-    let phase = n.phase;
-    let rows = slot.rows;
-    let seconds = slot.seconds;
     Slot {
-        address: slot.address,
-        asn: slot.asn,
-        neighbour: n,
-        rows,
-        seconds: neighbour_seconds::count(phase, seconds),
+        seconds: slot.seconds.count(slot.neighbour.phase),
+        ..slot
     }
 }
 
 // The slot as an event's own rules find it: a tick is booked on the state before it.
+#[tactic(auto, unfolding(gateway_rules::specs::Seconds::booked))]
 pub fn book(event: Event, slot: Slot) -> Slot
     requires { (seconds_formed slot.seconds ≡ true) × (has_time event slot.seconds ≡ true) }
     ensures { result ≡ booked event slot }
 {
     match event {
-        Event::Received(_) => slot,
-        Event::Start => slot,
-        Event::Stop => slot,
         Event::Tick => second_more(slot),
+        _ => slot,
     }
 }
 
@@ -168,11 +150,8 @@ pub fn apply(
     ensures table_after { table.new ≡ table_after table.old (row_counts st) i (change_of v.effect (walked_rows (walked_blocks st.settings.net message.now))) }
     ensures buffer_after { buffer.new ≡ buffer_after buffer.old v.reply (rows_of home.now) }
 {
-    let reply = v.reply;
-    let lengths = send(buffer, reply, home);
-    let effect = v.effect;
-    let settings = st.settings;
-    change_rows(table, i, effect, settings.net, message);
+    let lengths = send(buffer, v.reply, home);
+    change_rows(table, i, v.effect, st.settings.net, message);
     st.slots[i] = slot_after(slot, v);
     Outcome {
         answer: v.answer,

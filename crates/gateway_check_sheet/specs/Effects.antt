@@ -1,9 +1,8 @@
 -- What a call that is carried out leaves: answer, lengths and the whole state; the octets of the buffer; every number of the table. The
 -- neighbour is in slot 2 with three rows if it is Up; the table is all 8, the buffer all 7.
-use Rattle.std.specs.Prelude.{ℕ, List, [], ◌∷◌, ◌++◌, take, replicate}
+use Rattle.std.specs.Prelude.{ℕ, List, [], ◌∷◌, ◌++◌, take, replicate, Ok}
 use Prim.Native.String.{String}
 use Rattle.message.specs.declared.Message.TheVariants as M
-use Rattle.codec.specs.declared.Meaning.TheVariants.{Good}
 use Rattle.codec.specs.declared.Reading.{Reading}
 use Rattle.codec.specs.Reading.{read_of}
 use Rattle.neighbour.specs.declared.Phase.TheVariants.{Idle, Acquisition, Down, Up, Cease}
@@ -127,7 +126,7 @@ read_on_c = read_of (ip 192 5 6 0) (hex "02 01 00 01 16 62 00 07 00 01 01 01 C0 
 unfoldable pub written_on_c : Reading
 written_on_c =
     record {
-      meaning = Good (M.Update 7 1 1 (ip 192 5 6 0));
+      meaning = Ok (M.Update 7 1 1 (ip 192 5 6 0));
       count = 2;
       rows = (ip 10 0 0 0 ∷ ip 192 5 6 9 ∷ 2 ∷ ip 128 9 0 0 ∷ ip 192 5 6 8 ∷ 259 ∷ []) ++ replicate 378 0;
     }

@@ -2,8 +2,9 @@
 use Rattle.std.specs.Prelude.{ℕ, cond, List, [], ◌++◌, eqb, take, drop, replicate}
 use Prim.Native.String.{String}
 use Rattle.message.specs.declared.Message.{Message}
-use Rattle.codec.specs.Reading.{read_number, read_of}
-use Rattle.codec.specs.Writing.{write_of}
+use Rattle.checks.specs.Refusals.{answer_of}
+use Rattle.codec.specs.Reading.{read_of}
+use Rattle.codec.specs.Writing.{write_answer, write_length}
 use Rattle.neighbour.specs.declared.Settings.{Settings}
 use Rattle.neighbour_machine.specs.Intrinsics.{Intrinsic}
 use Rattle.gateway_state.specs.declared.State.{State}
@@ -87,13 +88,13 @@ computed (message st table buffer home address octets answer first second reply)
     seen st t (message_outcome st t b home address octets)
     (message_table st t b home address octets) (message_buffer st t b home address octets)
 computed (listing st table buffer answer length) = leaves (listing_outcome st table (replicate buffer 7))
-computed (reading net octets answer count) = pair (read_number (read_of net octets).meaning) (read_of net octets).count
+computed (reading net octets answer count) = pair (answer_of (read_of net octets).meaning) (read_of net octets).count
 computed (rows net octets numbers) = holds (front (read_of net octets).rows)
 computed (writing m numbers buffer answer length) =
     let b : List ℕ = replicate buffer 7 in
-    pair (write_of m numbers b).answer (write_of m numbers b).length
+    pair (write_answer m numbers b) (write_length m numbers b)
 computed (judged octets answer) =
-    pair (read_number (read_of common octets).meaning)
+    pair (answer_of (read_of common octets).meaning)
     (message_outcome in_idle (replicate 3072 8) (replicate 2048 7) [] theirs octets).answer
 
 -- what the line says

@@ -1,12 +1,13 @@
--- Laws of a home list: its test along a loop over tails, and that an Update can carry a good one. Assumes nothing.
-use Prim.Native.Nat.{ℕ, ◌%◌, ◌≤◌, ◌<◌}
+-- Laws of a home list: its numbers as rows, and that an Update can carry a good one. Assumes nothing.
+use Prim.Native.Nat.{ℕ, ◌/◌, ◌%◌, ◌≤◌, ◌<◌}
 use native.Mathlib.Omega.{arith}
-use borrow.Author.Tests.{ne_eqb, eqb-true, leb-true, le-leb, lt-leb}
-use mathlib.Core.Path.{◌≡◌, refl}
-use mathlib.Core.Bool.{Bool, true, false, ◌&&◌}
+use borrow.Author.Tests.{eqb-true, leb-true, leb-false, le-leb, lt-leb}
+use mathlib.Core.Path.{◌≡◌, refl, sym, ◌∙◌}
+use mathlib.Core.Bool.{Bool, true, false}
 use mathlib.Core.List.{List, [], ◌∷◌}
-use lib.Dec.{eqb}
-use lib.ListN.{length, drop, get_or}
+use lib.Dec.{eqb, leb}
+use lib.ListN.{length, get_or}
+use Rattle.std.proofs.Common.{map}
 use Rattle.checks.specs.Lists.{every}
 use Rattle.checks.proofs.Laws.{and_left, and_right}
 use Rattle.nets.specs.Classes.{good_net, on_net}
@@ -14,50 +15,39 @@ use Rattle.nets.specs.Rows.{Row, rows_of}
 use Rattle.neighbour.specs.declared.Settings.{Settings}
 use Rattle.update_writing.specs.Blocks.{side_of}
 use Rattle.update_writing.specs.Writable.{ordered, writable_row, writable_rows, writable_numbers}
-use Rattle.update_writing.proofs.Lists.{rows_turn, rows_short, rows_length}
-use Rattle.update_writing.proofs.Loops.{row_at}
+use Rattle.update_writing.proofs.Lists.{rows_length}
 use Rattle.gateway_rules.specs.Home.{home_row, own_first, good_home}
+use Rattle.gateway_home.specs.Rows.{good_rows}
 
 -- ---- the first gateway
 
-pub own_none : (own : ℕ) (u : List ℕ) → length u < 3 → true ≡ own_first own (rows_of u)
-unfolding own_first
-own_none own u h = rw (rows_short u (omega arith))
+module _ {A : Type 0} (row : A → Row) (own : ℕ) where
+  pub own_none : (rows : List A) → length rows < 1 → true ≡ own_first own (map row rows)
+  unfolding own_first
+  own_none [] h = refl
+  own_none (a ∷ rows) h = absurd (omega arith)
 
-pub own_tested : (own : ℕ) (u : List ℕ) → 3 ≤ length u → eqb (get_or u 1 0) own ≡ own_first own (rows_of u)
-unfolding own_first
-own_tested own u h = rw (rows_turn u (omega arith))
+  pub own_tested : (d : A) (rows : List A) → 1 ≤ length rows → eqb (row (get_or rows 0 d)).gateway own ≡ own_first own (map row rows)
+  unfolding own_first
+  own_tested d [] h = absurd (omega arith)
+  own_tested d (a ∷ rows) h = refl
 
--- ---- row by row: what is left to test
+-- ---- numbers as rows
 
-unfoldable pub left : Settings → List ℕ → List ℕ → Bool
-left g home u = every (home_row g.net) (rows_of u) && own_first g.own (rows_of home)
+most_rows : (n : ℕ) → n % 3 ≡ 0 → leb n 384 ≡ leb (n / 3) 128
+most_rows n e = go (leb n 384) refl
+  where
+    go : (b : Bool) → leb n 384 ≡ b → leb n 384 ≡ leb (n / 3) 128
+    go true h = h ∙ sym (le-leb (n / 3) 128 (omega (arith, leb-true n 384 h)))
+    go false h = h ∙ sym (lt-leb (n / 3) 128 (omega (arith, leb-false n 384 h)))
 
-module _ (g : Settings) (home : List ℕ) where
-  pub ragged : (length home % 3 ≡ 0 → ⊥) → false ≡ good_home g home
-  unfolding good_home
-  ragged e = rw (ne_eqb (length home % 3) 0 e)
+pub whole_home : (g : Settings) (home : List ℕ) → length home % 3 ≡ 0 → good_home g home ≡ good_rows g (rows_of home)
+unfolding good_home
+whole_home g home e = rw (e, rows_length home, most_rows (length home) e)
 
-  pub long : length home % 3 ≡ 0 → 384 < length home → false ≡ good_home g home
-  unfolding good_home
-  long e h = rw (e, lt-leb (length home) 384 h)
-
-  pub tested : length home % 3 ≡ 0 → length home ≤ 384 → good_home g home ≡ left g home home
-  unfolding good_home left
-  tested e h = rw (e, le-leb (length home) 384 h)
-
-  module _ (u : List ℕ) where
-    pub bad_row : 2 < length u → false ≡ home_row g.net (row_at u) → left g home u ≡ false
-    unfolding left every
-    bad_row h e = rw (rows_turn u h, ← e)
-
-    pub good_row : 2 < length u → true ≡ home_row g.net (row_at u) → left g home u ≡ left g home (drop 3 u)
-    unfolding left every
-    good_row h e = rw (rows_turn u h, ← e)
-
-    pub no_row : length u ≤ 2 → left g home u ≡ own_first g.own (rows_of home)
-    unfolding left every
-    no_row h = rw (rows_short u h)
+pub ragged_home : (g : Settings) (home : List ℕ) → eqb (length home % 3) 0 ≡ false → good_home g home ≡ false
+unfolding good_home
+ragged_home g home e = rw e
 
 -- ---- an Update can carry a good home list
 

@@ -6,17 +6,18 @@ use mathlib.Core.Path.{◌≡◌, refl, sym, ◌∙◌, ap}
 use mathlib.Core.Bool.{Bool, true, false, cond, not, ◌&&◌, false≢true}
 use mathlib.Core.List.{List}
 use lib.Dec.{eqb}
+use Rattle.std.specs.Prelude.{Option, Some, None, Result, Ok, Err}
+use Rattle.checks.specs.Refusals.{number_of, checked}
+use Rattle.checks.specs.declared.Refusal.{Refusal}
+use Rattle.checks.specs.declared.Refusal.TheVariants.{BadStatus, BadLength}
 use Rattle.checks.specs.Checks.{check, if_ok}
-use Rattle.checks.proofs.Laws.{check_passed, if_ok_new, if_ok_old}
+use Rattle.checks.proofs.Laws.{check_passed, number_some, if_ok_new, if_ok_old}
+use Rattle.message_reading.proofs.Laws.{header_checks}
 use Rattle.message.specs.Kinds.{kind_of, status_allowed, length_allowed}
 use Rattle.message.specs.declared.Kind.{Kind}
 use Rattle.message.specs.declared.Kind.TheVariants as K
-use Rattle.message.specs.declared.Known.{Known}
-use Rattle.message.specs.declared.Known.TheVariants.{Is, Unknown}
 use Rattle.message.specs.declared.Message.{Message}
 use Rattle.message_reading.specs.Reading.{size_allowed, version_is2, checksum_holds, header_answer, asn_at, status_at, kind_in, is_known, status_fits, length_fits, meaning_of, decode_as, decode_of}
-use Rattle.message_reading.specs.declared.Decoded.{Decoded}
-use Rattle.message_reading.specs.declared.Decoded.TheVariants as D
 use Rattle.update_walk.specs.Body.{UpdateRead, accepted, broken_at, too_many, update_of, rows_read}
 use Rattle.update_walk.specs.Body as Body
 use Rattle.neighbour.specs.declared.Phase.{Phase}
@@ -33,11 +34,9 @@ meaning_number room g n o m =
     check (in_sequence n m) 13 (check (not (too_quick n m)) 21 (cond (same (kind_of m) K.Update && is_up n.phase) (body_number room g.net o) 0))
 
 -- 10 to 12 before them
-unfoldable pub kind_number : ℕ → Settings → Neighbour → List ℕ → Decoded → ℕ
-kind_number room g n o (D.Good m) = meaning_number room g n o m
-kind_number room g n o D.UnknownKind = 10
-kind_number room g n o D.BadStatus = 11
-kind_number room g n o D.BadLength = 12
+unfoldable pub kind_number : ℕ → Settings → Neighbour → List ℕ → Result Message Refusal → ℕ
+kind_number room g n o (Ok m) = meaning_number room g n o m
+kind_number room g n o (Err refused) = number_of refused
 
 pub kind_of_meaning : (kind : Kind) (o : List ℕ) → kind_of (meaning_of kind o) ≡ kind
 unfolding meaning_of
@@ -61,16 +60,16 @@ three_then true true false rest = refl
 three_then true true true rest = refl
 
 module _ (room : ℕ) (g : Settings) (n : Neighbour) (o : List ℕ) where
-  kind_then : (k : Known)
+  kind_then : (k : Option Kind)
       → check (is_known k) 10 (check (status_fits k o) 11 (check (length_fits k o) 12 (check (sequence_fits n k o) 13 (check (spacing_fits n k o) 21 (cond (brings_rows n.phase k) (body_number room g.net o) 0)))))
       ≡ kind_number room g n o (decode_as k o)
   unfolding check is_known status_fits length_fits sequence_fits spacing_fits brings_rows decode_as kind_number meaning_number
-  kind_then Unknown = refl
-  kind_then (Is kind) = go (status_allowed kind (status_at o)) (length_allowed kind (length o))
+  kind_then None = refl
+  kind_then (Some kind) = go (status_allowed kind (status_at o)) (length_allowed kind (length o))
     where
       go : (s l : Bool)
           → cond s (cond l (cond (in_sequence n (meaning_of kind o)) (cond (not (too_quick n (meaning_of kind o))) (cond (same kind K.Update && is_up n.phase) (body_number room g.net o) 0) 21) 13) 12) 11
-          ≡ kind_number room g n o (cond s (cond l (D.Good (meaning_of kind o)) D.BadLength) D.BadStatus)
+          ≡ kind_number room g n o (checked s BadStatus (checked l BadLength (Ok (meaning_of kind o))))
       go false l = refl
       go true false = refl
       go true true = rw (kind_of_meaning kind o)
@@ -78,10 +77,10 @@ module _ (room : ℕ) (g : Settings) (n : Neighbour) (o : List ℕ) where
   -- the number in the stages that the code goes through
   pub message_number_lem : (asn : ℕ)
       → message_number room g asn n o ≡ if_ok (header_answer o) (check (eqb (asn_at o) asn) 9 (kind_number room g n o (decode_of o))) (header_answer o)
-  unfolding message_number header_answer decode_of
+  unfolding message_number decode_of
   message_number_lem asn =
       three_then (size_allowed o) (version_is2 o) (checksum_holds o) _
-      ∙ ap (λ (k : ℕ). if_ok (check (size_allowed o) 6 (check (version_is2 o) 7 (check (checksum_holds o) 8 0))) (check (eqb (asn_at o) asn) 9 k) (check (size_allowed o) 6 (check (version_is2 o) 7 (check (checksum_holds o) 8 0)))) (kind_then (kind_in o))
+      ∙ rw (← (header_checks o)) (ap (λ (k : ℕ). if_ok (header_answer o) (check (eqb (asn_at o) asn) 9 k) (header_answer o)) (kind_then (kind_in o)))
 
   module _ (asn : ℕ) where
     pub number_header : (header_answer o ≡ 0 → ⊥) → message_number room g asn n o ≡ header_answer o
@@ -109,18 +108,18 @@ pub record NumberPassed (room : ℕ) (g : Settings) (asn : ℕ) (n : Neighbour) 
   pub header : header_answer o ≡ 0
   pub from : eqb (asn_at o) asn ≡ true
   pub message : Message
-  pub read : decode_of o ≡ D.Good message
+  pub read : decode_of o ≡ Ok message
   pub sequence : in_sequence n message ≡ true
   pub spacing : not (too_quick n message) ≡ true
   pub brings : brings_rows n.phase (kind_in o) ≡ (same (kind_of message) K.Update && is_up n.phase)
   pub body : (same (kind_of message) K.Update && is_up n.phase) ≡ true → update_of room g.net o ≡ accepted (rows_read (update_of room g.net o))
 
-pub brings_as : (phase : Phase) (o : List ℕ) (k : Known) (m : Message) → decode_as k o ≡ D.Good m → brings_rows phase k ≡ (same (kind_of m) K.Update && is_up phase)
+pub brings_as : (phase : Phase) (o : List ℕ) (k : Option Kind) (m : Message) → decode_as k o ≡ Ok m → brings_rows phase k ≡ (same (kind_of m) K.Update && is_up phase)
 unfolding decode_as brings_rows
-brings_as phase o Unknown m e = let z : ◌≡◌ {A = ℕ} 0 1 = cc in absurd (omega arith)
-brings_as phase o (Is kind) m e = go (status_allowed kind (status_at o)) (length_allowed kind (length o)) e
+brings_as phase o None m e = let z : ◌≡◌ {A = ℕ} 0 1 = cc in absurd (omega arith)
+brings_as phase o (Some kind) m e = go (status_allowed kind (status_at o)) (length_allowed kind (length o)) e
   where
-    go : (s l : Bool) → cond s (cond l (D.Good (meaning_of kind o)) D.BadLength) D.BadStatus ≡ D.Good m
+    go : (s l : Bool) → checked s BadStatus (checked l BadLength (Ok (meaning_of kind o))) ≡ Ok m
         → (same kind K.Update && is_up phase) ≡ (same (kind_of m) K.Update && is_up phase)
     go false l e = let z : ◌≡◌ {A = ℕ} 0 1 = cc in absurd (omega arith)
     go true false e = let z : ◌≡◌ {A = ℕ} 0 1 = cc in absurd (omega arith)
@@ -132,9 +131,9 @@ module _ (room : ℕ) (g : Settings) (asn : ℕ) (n : Neighbour) (o : List ℕ) 
   body_passed true e h = accepted_is (update_of room g.net o) e
   body_passed false e h = absurd (false≢true h)
 
-  kind_passed : header_answer o ≡ 0 → eqb (asn_at o) asn ≡ true → (d : Decoded) → decode_of o ≡ d → kind_number room g n o d ≡ 0 → NumberPassed room g asn n o
+  kind_passed : header_answer o ≡ 0 → eqb (asn_at o) asn ≡ true → (d : Result Message Refusal) → decode_of o ≡ d → kind_number room g n o d ≡ 0 → NumberPassed room g asn n o
   unfolding kind_number meaning_number decode_of
-  kind_passed h f (D.Good m) e z =
+  kind_passed h f (Ok m) e z =
       let p = check_passed (in_sequence n m) 13 _ refl z in
       let q = check_passed (not (too_quick n m)) 21 _ refl p.1 in
       record {
@@ -147,9 +146,7 @@ module _ (room : ℕ) (g : Settings) (asn : ℕ) (n : Neighbour) (o : List ℕ) 
         brings = brings_as n.phase o (kind_in o) m e;
         body = body_passed (same (kind_of m) K.Update && is_up n.phase) q.1;
       }
-  kind_passed h f D.UnknownKind e z = absurd (omega (arith, z))
-  kind_passed h f D.BadStatus e z = absurd (omega (arith, z))
-  kind_passed h f D.BadLength e z = absurd (omega (arith, z))
+  kind_passed h f (Err refused) e z = absurd (number_some refused z)
 
   asn_passed : header_answer o ≡ 0 → check (eqb (asn_at o) asn) 9 (kind_number room g n o (decode_of o)) ≡ 0 → NumberPassed room g asn n o
   asn_passed h z =

@@ -5,11 +5,12 @@ use mathlib.Core.Bool.{true, not, ◌&&◌}
 use mathlib.Core.List.{List}
 use lib.Dec.{leb, eqb}
 use lib.ListN.{length, get_or}
+use Rattle.std.specs.Prelude.{Result, Ok, Err}
+use Rattle.checks.specs.declared.Refusal.{Refusal}
 use Rattle.checks.proofs.Laws.{cond_elim}
 use Rattle.message.specs.Kinds.{plain_status}
+use Rattle.message.specs.declared.Message.{Message}
 use Rattle.message_reading.specs.Reading.{status_at, decode_of}
-use Rattle.message_reading.specs.declared.Decoded.{Decoded}
-use Rattle.message_reading.specs.declared.Decoded.TheVariants as D
 use Rattle.neighbour.specs.declared.Settings.{Settings}
 use Rattle.neighbour.specs.declared.Neighbour.{Neighbour}
 use Rattle.neighbour.specs.Record.{is_idle, acquired}
@@ -52,12 +53,10 @@ module _ (g : Settings) where
   unfolding stepped
   stepped_sends asn n event head = step_sends g asn n event head
 
-  after_sends : (asn : ℕ) (n : Neighbour) (o : List ℕ) (d : Decoded) → may_send g (taken_step g asn n o d).reply ≡ true
+  after_sends : (asn : ℕ) (n : Neighbour) (o : List ℕ) (d : Result Message Refusal) → may_send g (taken_step g asn n o d).reply ≡ true
   unfolding taken_step unanswered
-  after_sends asn n o (D.Good m) = step_sends g asn n (Received m) (error_head o)
-  after_sends asn n o D.UnknownKind = refl
-  after_sends asn n o D.BadStatus = refl
-  after_sends asn n o D.BadLength = refl
+  after_sends asn n o (Ok m) = step_sends g asn n (Received m) (error_head o)
+  after_sends asn n o (Err refused) = refl
 
   pub receive_sends : (room asn : ℕ) (n : Neighbour) (o : List ℕ) → may_send g (receive_ruling room g asn n o).reply ≡ true
   unfolding refuses carried_out

@@ -1,11 +1,10 @@
 -- The number of a message from one neighbour, and the reply by the number: 01's checks 6 to 15, 02's 21, and the column "Reply".
-use Rattle.std.specs.Prelude.{ℕ, Bool, false, cond, not, ◌&&◌, List, leb, eqb, length, get_or}
+use Rattle.std.specs.Prelude.{ℕ, Bool, false, cond, not, ◌&&◌, List, leb, eqb, length, get_or, Option, Some, None}
 use Rattle.checks.specs.Checks.{check}
 use Rattle.octets.specs.Numbers.{word32}
 use Rattle.message.specs.Kinds.{plain_status}
 use Rattle.message.specs.declared.Kind.TheVariants as K
-use Rattle.message.specs.declared.Known.{Known}
-use Rattle.message.specs.declared.Known.TheVariants.{Is, Unknown}
+use Rattle.message.specs.declared.Kind.{Kind}
 use Rattle.message_reading.specs.Reading.{size_allowed, version_is2, checksum_holds, asn_at, status_at, sequence_at, kind_in, is_known, status_fits, length_fits, meaning_of}
 use Rattle.update_walk.specs.Body.{update_of}
 use Rattle.update_walk.specs.Body as Body
@@ -20,19 +19,19 @@ use Rattle.neighbour_machine.specs.declared.Reply.{Reply}
 use Rattle.neighbour_machine.specs.declared.Reply.TheVariants.{Nothing, One}
 
 -- 13 "response out of sequence"
-unfoldable pub sequence_fits : Neighbour → Known → List ℕ → Bool
-sequence_fits n Unknown o = false
-sequence_fits n (Is kind) o = in_sequence n (meaning_of kind o)
+unfoldable pub sequence_fits : Neighbour → Option Kind → List ℕ → Bool
+sequence_fits n None o = false
+sequence_fits n (Some kind) o = in_sequence n (meaning_of kind o)
 
 -- 21 (02, L5) "a Hello less than 30 ticks, or a Poll less than 120 ticks, after the last one carried out"
-unfoldable pub spacing_fits : Neighbour → Known → List ℕ → Bool
-spacing_fits n Unknown o = false
-spacing_fits n (Is kind) o = not (too_quick n (meaning_of kind o))
+unfoldable pub spacing_fits : Neighbour → Option Kind → List ℕ → Bool
+spacing_fits n None o = false
+spacing_fits n (Some kind) o = not (too_quick n (meaning_of kind o))
 
 -- whether the blocks are read: those of an Update that finds its neighbour Up
-unfoldable pub brings_rows : Phase → Known → Bool
-brings_rows phase Unknown = false
-brings_rows phase (Is kind) = same kind K.Update && is_up phase
+unfoldable pub brings_rows : Phase → Option Kind → Bool
+brings_rows phase None = false
+brings_rows phase (Some kind) = same kind K.Update && is_up phase
 
 -- 14 and 15 by what the walk answers, room being the rows that may be accepted
 unfoldable pub body_number : ℕ → ℕ → List ℕ → ℕ

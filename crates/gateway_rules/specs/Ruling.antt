@@ -1,10 +1,10 @@
 -- What becomes of one neighbour: by an event, or by a message once its number is known.
-use Rattle.std.specs.Prelude.{ℕ, cond, not, ◌&&◌, List, length}
+use Rattle.std.specs.Prelude.{ℕ, cond, not, ◌&&◌, List, length, Result, Ok, Err}
+use Rattle.checks.specs.declared.Refusal.{Refusal}
 use Rattle.checks.specs.Checks.{if_ok}
+use Rattle.message.specs.declared.Message.{Message}
 use Rattle.nets.specs.Rows.{Row}
 use Rattle.message_reading.specs.Reading.{kind_in, decode_of}
-use Rattle.message_reading.specs.declared.Decoded.{Decoded}
-use Rattle.message_reading.specs.declared.Decoded.TheVariants as D
 use Rattle.update_walk.specs.Body.{update_of, rows_read}
 use Rattle.neighbour.specs.declared.Phase.{Phase}
 use Rattle.neighbour.specs.declared.Settings.{Settings}
@@ -47,11 +47,9 @@ unfoldable pub refuses : Neighbour → ℕ → Reply → Ruling
 refuses n answer reply = record { answer = answer; reply = reply; neighbour = n; change = keep }
 
 -- the machine's step for a message that was read; 10 to 12 have refused the others
-unfoldable pub taken_step : Settings → ℕ → Neighbour → List ℕ → Decoded → After
-taken_step g asn n o (D.Good m) = step_of g asn n (Received m) (error_head o)
-taken_step g asn n o D.UnknownKind = unanswered n
-taken_step g asn n o D.BadStatus = unanswered n
-taken_step g asn n o D.BadLength = unanswered n
+unfoldable pub taken_step : Settings → ℕ → Neighbour → List ℕ → Result Message Refusal → After
+taken_step g asn n o (Ok m) = step_of g asn n (Received m) (error_head o)
+taken_step g asn n o (Err refused) = unanswered n
 
 -- 01: "An Update that finds its slot Up and fails no check is accepted: its rows replace the slot's."
 unfoldable pub change_by : ℕ → Settings → Neighbour → List ℕ → After → Change

@@ -2,9 +2,10 @@
 #![tactic(auto)]
 
 ghost use Rattle.std.specs.Prelude.{◌≡◌};
-ghost use Rattle.gateway_state.specs.Outcomes.{silent_of};
 ghost use Rattle.gateway_slots.specs.Calls.{empty_state, fresh_of, add_of, remove_of};
+ghost use Rattle.gateway_slots.specs.Steps.{answered};
 
+use checks::Refusal;
 use gateway_state::{Outcome, State};
 use neighbour::Settings;
 
@@ -16,14 +17,19 @@ fn empty(settings: Settings) -> State
     State { settings, slots }
 }
 
-fn carried_out(st: State) -> Outcome
-    ensures { result ≡ silent_of 0 st st }
+// A call that never replies: the state that it makes, or why it makes none.
+#[tactic(auto, unfolding(gateway_state::specs::Outcomes::silent_of, checks::specs::Checks::if_ok))]
+fn answered(st: State, made: Result<State, Refusal>) -> Outcome
+    ensures { result ≡ answered st made }
 {
-    Outcome {
-        answer: 0,
-        first: 0,
-        second: 0,
-        state: st,
+    match made {
+        Ok(state) => Outcome {
+            answer: 0,
+            first: 0,
+            second: 0,
+            state,
+        },
+        Err(refusal) => gateway_state::refused(st, refusal),
     }
 }
 
@@ -39,47 +45,55 @@ pub fn fresh(settings: Settings) -> Outcome
             net: 0,
             quiet: 0,
         };
-        return gateway_state::refused(empty(none), 16);
+        return gateway_state::refused(empty(none), Refusal::BadArgument);
     }
-    carried_out(empty(settings))
+    let st = empty(settings);
+    answered(st, Ok(st))
+}
+
+// The state with another neighbour.
+fn with_neighbour(st: State, address: u32, asn: u16) -> Result<State, Refusal>
+    ensures { answered st result ≡ add_of st address asn }
+{
+    if !gateway_state::well_formed(st) {
+        return Err(Refusal::IllFormedState);
+    }
+    if !gateway_state::good_peer(st.settings, address, asn) {
+        return Err(Refusal::BadArgument);
+    }
+    if gateway_state::slot_of(st, address).is_some() {
+        return Err(Refusal::BadArgument);
+    }
+    let Some(free) = gateway_state::lowest_free(st) else {
+        return Err(Refusal::NoFreeSlot);
+    };
+    Ok(gateway_state::with_slot(st, free, gateway_state::new_slot(address, asn)))
 }
 
 pub fn add(st: State, address: u32, asn: u16) -> Outcome
     ensures { result ≡ add_of st address asn }
 {
-    if !gateway_state::well_formed(st) {
-        return gateway_state::refused(st, 1);
-    }
-    let settings = st.settings;
-    if !gateway_state::good_peer(settings, address, asn) {
-        return gateway_state::refused(st, 16);
-    }
-    if gateway_state::slot_of(st, address) < gateway_state::SLOTS {
-        return gateway_state::refused(st, 16);
-    }
-    let free = gateway_state::lowest_free(st);
-    if gateway_state::SLOTS <= free {
-        return gateway_state::refused(st, 17);
-    }
-    carried_out(gateway_state::with_slot(st, free, gateway_state::new_slot(address, asn)))
+    answered(st, with_neighbour(st, address, asn))
 }
 
-// Only an Idle neighbour is removed, so that no row of the table outlives it.
+// The state without the neighbour. Only an Idle one is removed, so that no row of the table outlives it.
+fn without_neighbour(st: State, address: u32) -> Result<State, Refusal>
+    ensures { answered st result ≡ remove_of st address }
+{
+    if !gateway_state::well_formed(st) {
+        return Err(Refusal::IllFormedState);
+    }
+    let Some(i) = gateway_state::slot_of(st, address) else {
+        return Err(Refusal::UnknownNeighbour);
+    };
+    if !gateway_state::slot_at(st, i).neighbour.phase.is_idle() {
+        return Err(Refusal::NotIdle);
+    }
+    Ok(gateway_state::with_slot(st, i, gateway_state::free_slot()))
+}
+
 pub fn remove(st: State, address: u32) -> Outcome
     ensures { result ≡ remove_of st address }
 {
-    if !gateway_state::well_formed(st) {
-        return gateway_state::refused(st, 1);
-    }
-    let i = gateway_state::slot_of(st, address);
-    if gateway_state::SLOTS <= i {
-        return gateway_state::refused(st, 5);
-    }
-    let slot = gateway_state::slot_at(st, i);
-    let n = slot.neighbour;
-    let phase = n.phase;
-    if !neighbour::is_idle(phase) {
-        return gateway_state::refused(st, 18);
-    }
-    carried_out(gateway_state::with_slot(st, i, gateway_state::free_slot()))
+    answered(st, without_neighbour(st, address))
 }

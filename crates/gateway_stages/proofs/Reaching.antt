@@ -4,6 +4,7 @@ use borrow.Author.Tests.{eq-eqb}
 use mathlib.Core.Path.{◌≡◌, refl, ◌∙◌, ap}
 use mathlib.Core.Bool.{Bool, true, false, cond, not, ◌&&◌, false≢true}
 use mathlib.Core.List.{List}
+use Rattle.std.specs.Prelude.{Ok}
 use Rattle.message.specs.Kinds.{kind_of, sequence_of, status_of}
 use Rattle.message.specs.declared.Kind.TheVariants as K
 use Rattle.message.specs.declared.Message.{Message}
@@ -21,7 +22,7 @@ use Rattle.neighbour_machine.specs.declared.After.{After}
 use Rattle.neighbour_machine.specs.Table.{unanswered, answers, on_hello, on_i_heard_you}
 use Rattle.neighbour_machine.specs.Step.{on_message, step_of}
 use Rattle.gateway_rules.specs.Ruling.{leaving, stepped, receive_ruling}
-use Rattle.gateway_stages.specs.Stages.{ReadAs, Reach, keeping}
+use Rattle.gateway_stages.specs.Stages.{read_from, Reach, keeping}
 use Rattle.gateway_stages.proofs.Laws.{taken_step_lem}
 
 up_is : (p : Phase) → is_up p ≡ true → p ≡ P.Up
@@ -117,7 +118,7 @@ module _ (g : Settings) (n : Neighbour) (room asn : ℕ) (o : List ℕ) where
   stays : (m : Message) → n.phase ≡ P.Up → (recounted (noted (commanded n m) m) m).phase ≡ P.Up
   stays m up = recounted_phase (noted (commanded n m) m) m ∙ noted_phase (commanded n m) m ∙ commanded_phase n m ∙ up
 
-  reached : (m : Message) → Reach n m → ReadAs asn o m → keeping (after m) ≡ receive_ruling room g asn n o
+  reached : (m : Message) → Reach n m → read_from asn o ≡ Ok m → keeping (after m) ≡ receive_ruling room g asn n o
   unfolding Reach after says step_of on_message on_hello on_i_heard_you answers unanswered in_sequence too_quick
   reached (Request a q s hello poll) k r = absurd k
   reached (Confirm a q s hello poll) k r = absurd k
@@ -140,7 +141,7 @@ module _ (g : Settings) (n : Neighbour) (room asn : ℕ) (o : List ℕ) where
 
 -- the same, by what the code's calls gave
 module _ (g : Settings) (n : Neighbour) (m : Message) (k : Reach n m) (x y z : Neighbour) (f : x ≡ commanded n m) (h : y ≡ noted x m) (l : z ≡ recounted y m) (reply : Reply) where
-  pub left_by : reply ≡ says g z m → (room asn : ℕ) (o : List ℕ) → ReadAs asn o m
+  pub left_by : reply ≡ says g z m → (room asn : ℕ) (o : List ℕ) → read_from asn o ≡ Ok m
       → keeping (record { neighbour = z; reply = reply }) ≡ receive_ruling room g asn n o
   unfolding after
   left_by e room asn o r = rw (e, l, h, f) (reached g n room asn o m k r)

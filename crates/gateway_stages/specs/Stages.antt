@@ -1,12 +1,13 @@
 -- The stages in which the message call finds a message's number.
-use Rattle.std.specs.Prelude.{ℕ, false, List, ◌≡◌, eqb}
-use Rattle.checks.specs.Checks.{check, if_ok}
+use Rattle.std.specs.Result.{result_and}
+use Rattle.std.specs.Prelude.{ℕ, false, List, Result, ◌≡◌, eqb}
+use Rattle.checks.specs.Refusals.{checked}
+use Rattle.checks.specs.declared.Refusal.{Refusal}
+use Rattle.checks.specs.declared.Refusal.TheVariants.{OtherAs}
 use Rattle.message.specs.declared.Message.{Message}
 use Rattle.message.specs.declared.Message.TheVariants as M
-use Rattle.message_reading.specs.Reading.{header_answer, asn_at, decode_of}
-use Rattle.message_reading.specs.declared.Decoded.TheVariants.{Good}
+use Rattle.message_reading.specs.Reading.{header_of, asn_at, decode_of}
 use Rattle.update_walk.specs.Body.{UpdateRead, accepted, broken_at, too_many}
-use Rattle.update_walk.specs.Body as Body
 use Rattle.neighbour.specs.declared.Settings.{Settings}
 use Rattle.neighbour.specs.declared.Phase.TheVariants.{Up}
 use Rattle.neighbour.specs.declared.Neighbour.{Neighbour}
@@ -15,21 +16,16 @@ use Rattle.neighbour_machine.specs.declared.After.{After}
 use Rattle.gateway_rules.specs.Number.{named_reply}
 use Rattle.gateway_rules.specs.Ruling.{keep, replace, Ruling, refuses}
 
--- before the kind: the header's number, then 9
-unfoldable pub head_number : ℕ → List ℕ → ℕ
-head_number asn o = if_ok (header_answer o) (check (eqb (asn_at o) asn) 9 0) (header_answer o)
-
--- a message that passed 6 to 12, and what it says
-pub record ReadAs (asn : ℕ) (o : List ℕ) (m : Message) : Type 0 where
-  pub head : head_number asn o ≡ 0
-  pub meaning : decode_of o ≡ Good m
+-- 6 to 8, then 9, then 10 to 12: what a message from the neighbour with this AS says
+unfoldable pub read_from : ℕ → List ℕ → Result Message Refusal
+read_from asn o = result_and (header_of o) (checked (eqb (asn_at o) asn) OtherAs (decode_of o))
 
 -- an Update in Up, by what its blocks are read as
 unfoldable pub taken_update : Settings → Neighbour → List ℕ → After → UpdateRead → Ruling
 taken_update g n o after (accepted rows) =
     record { answer = 0; reply = after.reply; neighbour = after.neighbour; change = replace rows }
-taken_update g n o after (broken_at offset) = refuses n (Body.update_number (broken_at offset)) (named_reply g n o (Body.update_number (broken_at offset)))
-taken_update g n o after too_many = refuses n (Body.update_number too_many) (named_reply g n o (Body.update_number too_many))
+taken_update g n o after (broken_at offset) = refuses n 14 (named_reply g n o 14)
+taken_update g n o after too_many = refuses n 15 (named_reply g n o 15)
 
 -- a Hello in Up that doesn't come too soon, or an I-H-U there that carries S
 unfoldable pub Reach : Neighbour → Message → Type 0

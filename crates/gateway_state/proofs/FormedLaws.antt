@@ -37,10 +37,11 @@ peer_used g address asn h =
 
 -- what is asked of a slot in Up
 module _ (g : Settings) (slot : Slot) where
-  pub up_slot : is_up slot.neighbour.phase ≡ true → well_formed slot.neighbour ≡ true → good_peer g slot.address slot.asn ≡ true
+  pub up_slot : (is_up slot.neighbour.phase && well_formed slot.neighbour) ≡ true → good_peer g slot.address slot.asn ≡ true
       → leb slot.rows 128 ≡ true → seconds_formed slot.seconds ≡ true → slot_formed g slot ≡ true
   unfolding slot_formed used_formed rows_formed
-  up_slot u w p r s = rw (peer_used g slot.address slot.asn p, p, w, r, u, s)
+  up_slot u p r s =
+      rw (peer_used g slot.address slot.asn p, p, and_right (is_up slot.neighbour.phase) (well_formed slot.neighbour) u, r, and_left (is_up slot.neighbour.phase) (well_formed slot.neighbour) u, s)
 
   -- no slot is formed whose record is not
   ill_free : well_formed slot.neighbour ≡ false → free_formed slot ≡ false

@@ -1,5 +1,6 @@
 pub mod ListLaws
 pub mod SlotLaws
+pub mod Finding
 pub mod FormedLaws
 pub mod Theorems
 pub mod OutcomeLaws

@@ -1,4 +1,5 @@
 pub mod Slots
+pub mod Found
 pub mod Places
 pub mod Formed
 pub mod Outcomes

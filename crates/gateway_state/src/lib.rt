@@ -2,14 +2,18 @@
 #![tactic(auto)]
 
 ghost use Rattle.std.specs.Prelude.{◌≡◌, true, List, ℕ, ◌≤◌, ◌<◌, drop};
+ghost use Rattle.checks.specs.Refusals.{number_of};
 ghost use Rattle.neighbour.specs.Record.{is_up};
 ghost use Rattle.neighbour_wellformed.specs.Formed.{well_formed};
-ghost use Rattle.checks.specs.Lists.{every, distinct};
-ghost use Rattle.gateway_state.specs.Slots.{newcomer, free_slot, slot_at, with_slot, addresses, apart, slot_of, lowest_free};
+ghost use Rattle.checks.specs.Lists.{distinct};
+ghost use Rattle.std.specs.List.{position, list_all};
+ghost use Rattle.gateway_state.specs.Slots.{newcomer, free_slot, slot_at, with_slot, addresses, clash, apart, is_none, slot_of, lowest_free};
+ghost use Rattle.gateway_state.specs.Found.{Finds};
 ghost use Rattle.gateway_state.specs.Places as Places;
 ghost use Rattle.gateway_state.specs.Formed.{good_settings, good_peer, rows_formed, free_formed, used_formed, slot_formed, state_formed};
 ghost use Rattle.gateway_state.specs.Outcomes.{refused_of};
 
+use checks::Refusal;
 use neighbour::{Neighbour, Phase, Settings};
 use neighbour_seconds::Seconds;
 
@@ -54,9 +58,9 @@ pub fn new_slot(address: u32, asn: u16) -> Slot
     Slot {
         address,
         asn,
-        neighbour: neighbour::to_idle(),
+        neighbour: Neighbour::idle(),
         rows: 0,
-        seconds: neighbour_seconds::none(),
+        seconds: Seconds::none(),
     }
 }
 
@@ -67,24 +71,24 @@ pub fn free_slot() -> Slot
 }
 
 // The slot of this index; past the last there is a free one.
+#[tactic(auto, unfolding(crate::specs::Slots::slot_at))]
 pub fn slot_at(st: State, i: usize) -> Slot
     ensures { result ≡ slot_at st i }
 {
-    if SLOTS <= i {
-        return free_slot();
+    match st.slots.get(i) {
+        Some(slot) => *slot,
+        None => free_slot(),
     }
-    st.slots[i]
 }
 
 // The state with another slot of this index; past the last nothing changes.
-pub fn with_slot(st: State, i: usize, slot: Slot) -> State
+pub fn with_slot(mut st: State, i: usize, slot: Slot) -> State
     ensures { result ≡ with_slot st i slot }
 {
-    let mut next = st;
     if i < SLOTS {
-        next.slots[i] = slot;
+        st.slots[i] = slot;
     }
-    next
+    st
 }
 
 // The index of slot i's first number in the table, whatever the row counts.
@@ -95,139 +99,112 @@ pub fn place(i: usize) -> usize
     i * SLOT_NUMBERS
 }
 
-// The index of the used slot with this address, or 8. Address 0 stands in free slots and finds none.
-pub fn slot_of(st: State, address: u32) -> usize
-    ensures { result ≡ slot_of st address }
+// The slots' addresses, in their order.
+fn addresses_of(st: &State) -> [u32; 8]
+    ensures { result ≡ addresses st.now }
 {
-    if address == 0 {
-        return SLOTS;
+    let mut addresses = [0; 8];
+    for i in 0..SLOTS {
+        addresses[i] = st.slots[i].address;
     }
-    let mut i = 0;
-    while i < SLOTS {
-        let slot = st.slots[i];
-        if address == slot.address {
-            return i;
-        }
-        i += 1;
-    }
-    i
+    addresses
 }
 
-// The index of the lowest free slot, or 8.
-pub fn lowest_free(st: State) -> usize
-    ensures { result ≡ lowest_free st }
+// Whether both are one neighbour's. 0 stands in free slots, and is no neighbour's.
+#[tactic(auto, unfolding(crate::specs::Slots::clash))]
+fn is_same_neighbour(a: u32, b: u32) -> bool
+    ensures { result ≡ clash a b }
 {
-    let mut free = 0;
-    while free < SLOTS {
-        let slot = st.slots[free];
-        if slot.address == 0 {
-            return free;
-        }
-        free += 1;
-    }
-    free
+    a != 0 && a == b
+}
+
+// Where an address stands.
+pub fn index_of(addresses: &[u32], address: u32) -> Option<usize>
+    ensures { result ≡ position (clash address) addresses.now }
+{
+    addresses
+        .iter()
+        .position(|&other| is_same_neighbour(address, other))
+}
+
+// Where the first free slot stands.
+pub fn first_free(addresses: &[u32]) -> Option<usize>
+    ensures { result ≡ position is_none addresses.now }
+{
+    addresses.iter().position(|&address| address == 0)
+}
+
+// The index of the used slot with this address.
+pub fn slot_of(st: State, address: u32) -> Option<usize>
+    ensures { Finds (slot_of st address) result }
+{
+    index_of(&addresses_of(&st), address)
+}
+
+// The index of the lowest free slot.
+pub fn lowest_free(st: State) -> Option<usize>
+    ensures { Finds (lowest_free st) result }
+{
+    first_free(&addresses_of(&st))
 }
 
 // What fresh asks of its settings.
+#[tactic(auto, unfolding(crate::specs::Formed::good_settings))]
 pub fn good_settings(settings: Settings) -> bool
     ensures { result ≡ good_settings settings }
 {
-    if settings.asn == 0 {
-        return false;
-    }
-    if 2 < settings.capability {
-        return false;
-    }
-    if 1 < settings.quiet {
-        return false;
-    }
-    if !nets::good_net(settings.net) {
-        return false;
-    }
-    nets::on_net(settings.net, settings.own)
+    settings.asn != 0
+        && settings.capability <= 2
+        && settings.quiet <= 1
+        && nets::good_net(settings.net)
+        && nets::on_net(settings.net, settings.own)
 }
 
 // What add asks of a neighbour, wherever else it may be present.
+#[tactic(auto, unfolding(crate::specs::Formed::good_peer))]
 pub fn good_peer(settings: Settings, address: u32, asn: u16) -> bool
     ensures { result ≡ good_peer settings address asn }
 {
-    if asn == 0 {
-        return false;
-    }
-    if asn == settings.asn {
-        return false;
-    }
-    if address == 0 {
-        return false;
-    }
-    address != settings.own
+    asn != 0 && asn != settings.asn && address != 0 && address != settings.own
 }
 
 pub fn is_up(phase: Phase) -> bool
     ensures { result ≡ is_up phase }
 {
-    match phase {
-        Phase::Idle => false,
-        Phase::Acquisition => false,
-        Phase::Down => false,
-        Phase::Up => true,
-        Phase::Cease => false,
-    }
+    matches!(phase, Phase::Up)
 }
 
+#[tactic(auto, unfolding(crate::specs::Formed::rows_formed))]
 fn are_rows_formed(phase: Phase, rows: u16) -> bool
     ensures { result ≡ rows_formed phase rows }
 {
-    if 128 < rows {
-        return false;
-    }
-    if is_up(phase) {
-        return true;
-    }
-    rows == 0
+    rows <= 128 && (is_up(phase) || rows == 0)
 }
 
 // A well-formed record in Idle is all zero.
+#[tactic(auto, using(crate::proofs::FormedLaws::idle_zero), unfolding(crate::specs::Formed::free_formed))]
 fn is_free_formed(slot: Slot) -> bool
     requires { well_formed slot.neighbour ≡ true }
     ensures { result ≡ free_formed slot }
 {
-    if slot.asn != 0 {
-        return false;
-    }
-    let n = slot.neighbour;
-    let phase = n.phase;
-    if !neighbour::is_idle(phase) {
-        return false;
-    }
-    if slot.rows != 0 {
-        return false;
-    }
-    let seconds = slot.seconds;
-    neighbour_seconds::are_none(seconds)
+    slot.asn == 0 && slot.neighbour.phase.is_idle() && slot.rows == 0 && slot.seconds.are_none()
 }
 
+#[tactic(auto, unfolding(crate::specs::Formed::used_formed))]
 fn is_used_formed(settings: Settings, slot: Slot) -> bool
     requires { well_formed slot.neighbour ≡ true }
     ensures { result ≡ used_formed settings slot }
 {
-    if !good_peer(settings, slot.address, slot.asn) {
-        return false;
-    }
-    let n = slot.neighbour;
-    let phase = n.phase;
-    if !are_rows_formed(phase, slot.rows) {
-        return false;
-    }
-    let seconds = slot.seconds;
-    neighbour_seconds::are_formed(seconds)
+    good_peer(settings, slot.address, slot.asn)
+        && are_rows_formed(slot.neighbour.phase, slot.rows)
+        && slot.seconds.are_formed()
 }
 
+#[tactic(auto, using(crate::proofs::FormedLaws::ill_slot), unfolding(crate::specs::Formed::slot_formed))]
 pub fn is_slot_formed(settings: Settings, slot: Slot) -> bool
     ensures { result ≡ slot_formed settings slot }
 {
-    let n = slot.neighbour;
-    if !neighbour_wellformed::well_formed(n) {
+    if !neighbour_wellformed::well_formed(slot.neighbour) {
         return false;
     }
     if slot.address == 0 {
@@ -237,6 +214,7 @@ pub fn is_slot_formed(settings: Settings, slot: Slot) -> bool
 }
 
 // A short way for a slot in Up, which most are: true where a slot of these is formed. Of another slot false says nothing.
+#[tactic(auto, using(crate::proofs::FormedLaws::up_slot))]
 pub fn is_up_slot_formed(
     settings: Settings,
     address: u32,
@@ -247,117 +225,78 @@ pub fn is_up_slot_formed(
 ) -> bool
     ensures { result ≡ true → slot_formed settings (record { address = address; asn = asn; neighbour = n; rows = count; seconds = seconds }) ≡ true }
 {
-    let phase = n.phase;
-    if !is_up(phase) {
-        return false;
-    }
-    if !neighbour_wellformed::is_up_formed(n) {
-        return false;
-    }
-    if !good_peer(settings, address, asn) {
-        return false;
-    }
-    if 128 < count {
-        return false;
-    }
-    neighbour_seconds::are_formed(seconds)
+    neighbour_wellformed::is_up_formed(n)
+        && good_peer(settings, address, asn)
+        && count <= 128
+        && seconds.are_formed()
 }
 
-// How many slots, from the first on, are found formed by the short way.
-fn count_up_formed(st: State) -> usize
-    ensures upper_bound { result ≤ 8 }
-    ensures slots_value { every (slot_formed st.settings) st.slots ≡ every (slot_formed st.settings) (drop result st.slots) }
+// The short way first: most slots are in Up.
+fn is_formed(settings: Settings, slot: &Slot) -> bool
+    ensures { result ≡ slot_formed settings slot.now }
 {
-    let settings = st.settings;
-    let mut i = 0;
-    while i < SLOTS {
-        let slot = st.slots[i];
-        let n = slot.neighbour;
-        let seconds = slot.seconds;
-        if !is_up_slot_formed(settings, slot.address, slot.asn, n, slot.rows, seconds) {
-            return i;
-        }
-        i += 1;
-    }
-    i
+    is_up_slot_formed(
+        settings,
+        slot.address,
+        slot.asn,
+        slot.neighbour,
+        slot.rows,
+        slot.seconds,
+    ) || is_slot_formed(settings, *slot)
 }
 
-fn are_formed_from(st: State, from: usize) -> bool
-    requires { from ≤ 8 }
-    ensures { result ≡ every (slot_formed st.settings) (drop from st.slots) }
+fn are_formed(settings: Settings, slots: &[Slot]) -> bool
+    ensures { result ≡ list_all (slot_formed settings) slots.now }
 {
-    let settings = st.settings;
-    let mut i = from;
-    while i < SLOTS {
-        let slot = st.slots[i];
-        if !is_slot_formed(settings, slot) {
+    slots.iter().all(|slot| is_formed(settings, slot))
+}
+
+// Whether none of the others is the same neighbour's.
+fn is_apart_from(address: u32, others: &[u32]) -> bool
+    ensures { result ≡ list_all (apart address) others.now }
+{
+    others
+        .iter()
+        .all(|&other| !is_same_neighbour(address, other))
+}
+
+// Whether no two of the addresses are one neighbour's.
+pub fn are_distinct(addresses: &[u32]) -> bool
+    ensures { result ≡ distinct apart addresses.now }
+{
+    let mut rest = addresses;
+    while let Some((&address, later)) = rest.split_first() {
+        if !is_apart_from(address, later) {
             return false;
         }
-        i += 1;
+        rest = later;
     }
     true
 }
 
-fn are_slots_formed(st: State) -> bool
-    ensures { result ≡ every (slot_formed st.settings) st.slots }
+// 01's check 1, of a state that is lent: a copy of one costs as much as half the check.
+#[tactic(auto, using(crate::proofs::Finding::every_all), unfolding(crate::specs::Formed::state_formed))]
+pub fn is_well_formed(st: &State) -> bool
+    ensures { result ≡ state_formed st.now }
 {
-    let up = count_up_formed(st);
-    are_formed_from(st, up)
+    good_settings(st.settings)
+        && are_formed(st.settings, &st.slots)
+        && are_distinct(&addresses_of(st))
 }
 
-// Whether no slot from this one on has the address.
-fn is_apart_from(st: State, from: usize, address: u32) -> bool
-    requires { from ≤ 8 }
-    ensures { result ≡ every (apart address) (drop from (addresses st)) }
-{
-    if address == 0 {
-        return true;
-    }
-    let mut i = from;
-    while i < SLOTS {
-        let later = st.slots[i];
-        if address == later.address {
-            return false;
-        }
-        i += 1;
-    }
-    true
-}
-
-fn are_addresses_distinct(st: State) -> bool
-    ensures { result ≡ distinct apart (addresses st) }
-{
-    let mut i = 0;
-    while i < SLOTS {
-        let slot = st.slots[i];
-        if !is_apart_from(st, i + 1, slot.address) {
-            return false;
-        }
-        i += 1;
-    }
-    true
-}
-
-// 01's check 1.
 pub fn well_formed(st: State) -> bool
     ensures { result ≡ state_formed st }
 {
-    let settings = st.settings;
-    if !good_settings(settings) {
-        return false;
-    }
-    if !are_slots_formed(st) {
-        return false;
-    }
-    are_addresses_distinct(st)
+    is_well_formed(&st)
 }
 
 // A refusal without a reply.
-pub fn refused(st: State, answer: u8) -> Outcome
-    ensures { result ≡ refused_of st answer }
+#[tactic(auto, unfolding(crate::specs::Outcomes::refused_of))]
+pub fn refused(st: State, refusal: Refusal) -> Outcome
+    ensures { result ≡ refused_of st (number_of refusal) }
 {
     Outcome {
-        answer,
+        answer: u8::from(refusal),
         first: 0,
         second: 0,
         state: st,

@@ -4,12 +4,13 @@ use mathlib.Core.Path.{◌≡◌, refl, sym, ◌∙◌}
 use mathlib.Core.Bool.{Bool, true, false, ◌||◌}
 use mathlib.Core.List.{List, []}
 use borrow.Author.Tests.{le-leb}
+use Rattle.std.specs.Prelude.{Result, Ok, Err}
+use Rattle.checks.specs.declared.Refusal.{Refusal}
 use Rattle.checks.proofs.Laws.{cond_elim}
+use Rattle.message.specs.declared.Message.{Message}
 use Rattle.neighbour.specs.Record.{is_up}
 use Rattle.nets.specs.Rows.{Row, rows_of}
 use Rattle.message_reading.specs.Reading.{kind_in, decode_of}
-use Rattle.message_reading.specs.declared.Decoded.{Decoded}
-use Rattle.message_reading.specs.declared.Decoded.TheVariants as D
 use Rattle.update_walk.proofs.Accepted.{accepted_is}
 use Rattle.neighbour.specs.declared.Phase.{Phase}
 use Rattle.neighbour.specs.declared.Settings.{Settings}
@@ -95,12 +96,10 @@ module _ (slot : Slot) (good : SlotGood slot) where
   step_sound g asn event head = stepped_sound _ (step_lawful g asn slot.neighbour event head good.neighbour).formed
 
   -- the step for a message that was read, or none
-  after_formed : (g : Settings) (asn : ℕ) (o : List ℕ) (d : Decoded) → well_formed (taken_step g asn slot.neighbour o d).neighbour ≡ true
+  after_formed : (g : Settings) (asn : ℕ) (o : List ℕ) (d : Result Message Refusal) → well_formed (taken_step g asn slot.neighbour o d).neighbour ≡ true
   unfolding taken_step unanswered
-  after_formed g asn o (D.Good m) = (step_lawful g asn slot.neighbour (Received m) (error_head o) good.neighbour).formed
-  after_formed g asn o D.UnknownKind = good.neighbour
-  after_formed g asn o D.BadStatus = good.neighbour
-  after_formed g asn o D.BadLength = good.neighbour
+  after_formed g asn o (Ok m) = (step_lawful g asn slot.neighbour (Received m) (error_head o) good.neighbour).formed
+  after_formed g asn o (Err refused) = good.neighbour
 
   change_count : (g : Settings) (asn : ℕ) (o : List ℕ) (p : NumberPassed 128 g asn slot.neighbour o)
       → rows_formed (taken_step g asn slot.neighbour o (decode_of o)).neighbour.phase (count_after slot.rows (change_by 128 g slot.neighbour o (taken_step g asn slot.neighbour o (decode_of o)))) ≡ true

@@ -5,6 +5,8 @@ use mathlib.Core.Path.{◌≡◌, refl, sym, ◌∙◌, ap}
 use mathlib.Core.Bool.{Bool, true, false, cond, ◌&&◌, true≢false}
 use mathlib.Core.List.{List, []}
 use lib.ListN.{length}
+use Rattle.std.specs.Prelude.{Result, Ok}
+use Rattle.checks.specs.declared.Refusal.{Refusal}
 use Rattle.checks.proofs.Laws.{and_left, and_right}
 use Rattle.neighbour.specs.Record.{is_up}
 use Rattle.nets.specs.Rows.{Row, rows_of}
@@ -12,8 +14,6 @@ use Rattle.message.specs.Kinds.{kind_of}
 use Rattle.message.specs.declared.Kind.TheVariants as K
 use Rattle.message.specs.declared.Message.{Message}
 use Rattle.message_reading.specs.Reading.{kind_in, decode_of}
-use Rattle.message_reading.specs.declared.Decoded.{Decoded}
-use Rattle.message_reading.specs.declared.Decoded.TheVariants as D
 use Rattle.update_walk.specs.Body.{update_of, rows_read}
 use Rattle.neighbour.specs.declared.Phase.{Phase}
 use Rattle.neighbour.specs.declared.Settings.{Settings}
@@ -87,7 +87,7 @@ module _ (n : Neighbour) (answer : ℕ) (reply : Reply) (after : Neighbour) (upd
   change_writes false e up = left_writes (sym e)
 
 -- whether the kind stage found an Update is whether the message is one
-update_is : (d : Decoded) (m : Message) → d ≡ D.Good m → decodes_update d ≡ same (kind_of m) K.Update
+update_is : (d : Result Message Refusal) (m : Message) → d ≡ Ok m → decodes_update d ≡ same (kind_of m) K.Update
 unfolding decodes_update
 update_is d m e = rw e
 

@@ -1,5 +1,6 @@
 -- What holds of the calls, whatever state, table, buffer, home list, address and octets they are given.
-use Rattle.std.specs.Prelude.{ℕ, ◌+◌, ◌≤◌, ◌<◌, ◌≡◌, Bool, true, false, cond, ◌&&◌, ◌||◌, List, [], leb, eqb, length, drop, set}
+use Rattle.std.specs.Prelude.{ℕ, ◌+◌, ◌≤◌, ◌<◌, ◌≡◌, Bool, true, false, cond, ◌&&◌, ◌||◌, List, [], leb, eqb, length, drop, set, Result, Ok, Err}
+use Rattle.checks.specs.declared.Refusal.{Refusal}
 use Rattle.neighbour.specs.Record.{is_up}
 use Rattle.octets.specs.Buffer.{over}
 use Rattle.nets.specs.Rows.{Row, rows_of}
@@ -7,11 +8,9 @@ use Rattle.message.specs.Kinds.{kind_of}
 use Rattle.message.specs.declared.Kind.TheVariants as K
 use Rattle.message.specs.declared.Message.{Message}
 use Rattle.message_reading.specs.Reading.{decode_of}
-use Rattle.message_reading.specs.declared.Decoded.{Decoded}
-use Rattle.message_reading.specs.declared.Decoded.TheVariants as D
 use Rattle.update_walk.specs.Body.{update_of, rows_read}
-use Rattle.codec.specs.Reading.{read_number, refusal, read_of}
-use Rattle.codec.specs.Writing.{write_octets, write_of}
+use Rattle.codec.specs.Reading.{refusal, read_of}
+use Rattle.codec.specs.Writing.{write_answer, write_length, write_octets}
 use Rattle.neighbour.specs.declared.Settings.{Settings}
 use Rattle.neighbour.specs.declared.Neighbour.{Neighbour}
 use Rattle.neighbour.specs.Rules.{same}
@@ -79,10 +78,10 @@ pub record RefusedChangesNothing : Type 0 where
       (st : State) (table buffer : List ℕ) → ((listing_outcome st table buffer).answer ≡ 0 → ⊥)
       → Silent st table buffer (listing_outcome st table buffer) table (listing_buffer st table buffer)
   -- reading alone and writing take no state and no table: a refusal hands back no row, or writes no octet
-  pub readings : (net : ℕ) (o : List ℕ) → (read_number (read_of net o).meaning ≡ 0 → ⊥) → read_of net o ≡ refusal (read_number (read_of net o).meaning)
+  pub readings : (net : ℕ) (o : List ℕ) (refused : Refusal) → (read_of net o).meaning ≡ Err refused → read_of net o ≡ refusal refused
   pub writings :
-      (m : Message) (numbers buffer : List ℕ) → ((write_of m numbers buffer).answer ≡ 0 → ⊥)
-      → ((write_of m numbers buffer).length ≡ 0) × (over (write_octets m numbers buffer) buffer ≡ buffer)
+      (m : Message) (numbers buffer : List ℕ) → (write_answer m numbers buffer ≡ 0 → ⊥)
+      → (write_length m numbers buffer ≡ 0) × (over (write_octets m numbers buffer) buffer ≡ buffer)
 
 -- ---- a call about one neighbour leaves the others
 
@@ -145,7 +144,7 @@ pub record WritesWithinLengths : Type 0 where
   pub listings : (st : State) (table buffer : List ℕ) → Within (listing_outcome st table buffer) buffer (listing_buffer st table buffer)
   pub writings :
       (m : Message) (numbers buffer : List ℕ)
-      → drop (write_of m numbers buffer).length (over (write_octets m numbers buffer) buffer) ≡ drop (write_of m numbers buffer).length buffer
+      → drop (write_length m numbers buffer) (over (write_octets m numbers buffer) buffer) ≡ drop (write_length m numbers buffer) buffer
 
 -- 01: "Reply buffer at least 2,048 octets": every reply fits, the longest being an Update of 128 rows, and the buffer keeps its length
 pub record ReplyFits (result : Outcome) (buffer₀ buffer₁ : List ℕ) : Type 0 where
@@ -168,11 +167,9 @@ abbrev pub is_up_in : State → ℕ → Bool
 is_up_in st i = is_up (slot_at st i).neighbour.phase
 
 -- whether the kind stage found an Update
-unfoldable pub decodes_update : Decoded → Bool
-decodes_update (D.Good m) = same (kind_of m) K.Update
-decodes_update D.UnknownKind = false
-decodes_update D.BadStatus = false
-decodes_update D.BadLength = false
+unfoldable pub decodes_update : Result Message Refusal → Bool
+decodes_update (Ok m) = same (kind_of m) K.Update
+decodes_update (Err refused) = false
 
 -- 01: "Leaving Up zeroes .. the neighbour's rows"; "An Update that finds its slot Up and fails no check is accepted: its rows replace the slot's."
 -- Nothing else writes the table.

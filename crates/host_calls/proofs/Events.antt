@@ -39,7 +39,7 @@ use Rattle.gateway_rules.specs.Carried as Carried
 use Rattle.gateway_rules.specs.Calls.{table_fits, buffer_fits, lent_checks, event_checks}
 use Rattle.gateway_rules.proofs.Checks.{Passed}
 use Rattle.gateway_carry.specs.Asked.{sendable, lengths_of, takes, change_of, ruling_of}
-use Rattle.gateway_calls.proofs.Checks.{lent_fails, event_5, event_22, event_0, event_met}
+use Rattle.gateway_calls.proofs.Checks.{event_0, event_met}
 use Rattle.gateway_calls.proofs.Calls.{Happened, event_refused, event_asked, event_done, event_counted}
 use Rattle.model.specs.Model.{happen}
 use Rattle.model.specs.Theorem.{outcome_of, table_left, buffer_left, buffer_of}
@@ -51,7 +51,7 @@ use Rattle.host_rules.specs.Held.{table_size, table_in, held, as_gateway}
 use Rattle.host_rules.specs.Calls.{held_outcome, result_of, block_after, table_after, buffer_after}
 use Rattle.host_rules.proofs.Held.{table_held, table_same, slot_stored}
 use Rattle.host_rules.proofs.Left.{Left, left_20, left_1, left_by, left_refused}
-use Rattle.host_calls.specs.Steps.{host_lent, octets_after}
+use Rattle.host_calls.specs.Steps.{host_checks, host_lent, octets_after}
 use Rattle.host_calls.proofs.Lent.{Good, lent_good}
 
 -- what the promise says of the number, the block, the table and the buffer after them
@@ -81,53 +81,33 @@ module _ (event : Event) (block table buffer : List ℕ) (a : ℕ) where
     answered_refused n =
         answered _ _ _ _ (λ e i. left_refused (happen e a buffer) block table long ranged out t b (h.outcome e i) (h.rows e i) (h.octets e i) n)
 
-  -- 20, 1, 2 and 3
-  pub happen_lent : (k : ℕ) → (k ≡ 0 → ⊥) → k ≡ host_lent block table buffer → Answered event block table buffer a (bare k) block table buffer
-  unfolding host_lent refused_of event_checks buffer_of
-  happen_lent k n e = go (block_fits block) refl (block_in_range block) refl e
+  -- refused before anything is done
+  pub happen_refused : (k : ℕ) → (k ≡ 0 → ⊥)
+      → ((e : Intrinsic) → event ≡ as_event e → k ≡ host_checks block (event_checks e (state_in block) (table_in table) buffer a))
+      → Answered event block table buffer a (bare k) block table buffer
+  unfolding host_checks refused_of buffer_of
+  happen_refused k n c = go (block_fits block) refl (block_in_range block) refl c
     where
       go : (f : Bool) → block_fits block ≡ f → (g : Bool) → block_in_range block ≡ g
-          → k ≡ check f 20 (check g 1 (lent_checks (state_in block) (table_fits (table_in table)) (buffer_fits buffer) 0))
+          → ((e : Intrinsic) → event ≡ as_event e → k ≡ check f 20 (check g 1 (event_checks e (state_in block) (table_in table) buffer a)))
           → Answered event block table buffer a (bare k) block table buffer
-      go false f g r e = rw (e ∙ check_fails false 20 _ refl) (answered _ _ _ _ (λ i _. left_20 (happen i a buffer) block table f))
-      go true f false r e =
-          rw (e ∙ check_holds true 20 _ refl ∙ check_fails false 1 _ refl) (answered _ _ _ _ (λ i _. left_1 (happen i a buffer) block table f r))
-      go true f true r e =
-          let l : k ≡ lent_checks (state_in block) (table_fits (table_in table)) (buffer_fits buffer) 0 = e ∙ check_holds true 20 _ refl ∙ check_holds true 1 _ refl in
+      go false f g r c = answered _ _ _ _ (λ i x. rw (c i x ∙ check_fails false 20 _ refl) (left_20 (happen i a buffer) block table f))
+      go true f false r c =
+          answered _ _ _ _ (λ i x. rw (c i x ∙ check_holds true 20 _ refl ∙ check_fails false 1 _ refl) (left_1 (happen i a buffer) block table f r))
+      go true f true r c =
           answered_refused (eqb-true (length block) block_size f) r (refused_of (state_in block) k) (table_in table) buffer
-          (event_refused event (state_in block) (table_in table) buffer a k (λ i x. lent_fails (state_in block) _ _ _ k n l) n (refused_of (state_in block) k) refl) n
+          (event_refused event (state_in block) (table_in table) buffer a k (λ i x. c i x ∙ check_holds true 20 _ refl ∙ check_holds true 1 _ refl) n (refused_of (state_in block) k) refl) n
 
-  -- once they passed
-  module _ (good : host_lent block table buffer ≡ 0) where
+  -- once the checks passed
+  module _ (good : 0 ≡ host_lent block table buffer) where
     met : Good block table buffer
-    met = lent_good block table buffer good
-
-    -- 1, 2 and 3 look at lengths alone
-    lent : (t b : List ℕ) → length t ≡ length (table_in table) → length b ≡ length buffer → 0 ≡ lent_checks (state_in block) (table_fits t) (buffer_fits b) 0
-    lent t b p q = rw (p, q) (sym met.lent)
-
-    refused_alone : (k : ℕ) → (k ≡ 0 → ⊥) → ((e : Intrinsic) → event ≡ as_event e → k ≡ event_checks e (state_in block) (table_in table) buffer a)
-        → Answered event block table buffer a (bare k) block table buffer
-    unfolding refused_of
-    refused_alone k n c =
-        answered_refused met.long met.ranged (refused_of (state_in block) k) (table_in table) buffer
-        (event_refused event (state_in block) (table_in table) buffer a k c n (refused_of (state_in block) k) refl) n
+    met = lent_good block table buffer (sym good)
 
     module _ (i : ℕ) (p : i ≡ slot_of (state_in block) a) where
-      pub happen_5 : 8 ≤ i → Answered event block table buffer a (bare 5) block table buffer
-      happen_5 h =
-          refused_alone 5 (λ z. absurd (omega (arith, z)))
-          (λ e x. event_5 (state_in block) a _ _ 0 lent refl event i p h e x (table_in table) buffer refl refl)
-
       -- the slot is there
       module _ (h : i < 8) (found : Slot) (s : found ≡ slot_at (state_in block) i) where
-        pub happen_22 : has_time event found.seconds ≡ false → Answered event block table buffer a (bare 22) block table buffer
-        happen_22 f =
-            refused_alone 22 (λ z. absurd (omega (arith, z)))
-            (λ e x. event_22 (state_in block) a _ _ 0 lent refl event i p h (rw s at f) e x (table_in table) buffer refl refl)
-
         passed : Passed (state_in block) (table_in table) buffer a
-        passed = event_met (state_in block) a _ _ 0 lent refl event i p h (table_in table) buffer refl refl
+        passed = event_met (state_in block) (table_in table) buffer a (sym met.lent) i p h
 
         pub found_formed : seconds_formed found.seconds ≡ true
         found_formed = rw s (formed_slot (state_in block) i passed.formed).1.seconds
@@ -136,9 +116,9 @@ module _ (event : Event) (block table buffer : List ℕ) (a : ℕ) where
         found_room = (met.long, h, met.table_size_lem, met.room)
 
         -- and its clock has room; then the slot with a tick booked
-        module _ (time : has_time event found.seconds ≡ true) (slot : Slot) (k : slot ≡ booked event found) where
+        module _ (time : has_time event (slot_at (state_in block) i).seconds ≡ true) (slot : Slot) (k : slot ≡ booked event found) where
           checks : (e : Intrinsic) → event ≡ as_event e → 0 ≡ event_checks e (state_in block) (table_in table) buffer a
-          checks e x = event_0 (state_in block) a _ _ 0 lent refl event i p h (rw s at time) e x (table_in table) buffer refl refl
+          checks = event_0 (state_in block) (table_in table) buffer a (sym met.lent) i p h event time
 
           slot_is : slot ≡ booked event (slot_at (state_in block) i)
           slot_is = k ∙ ap (booked event) s

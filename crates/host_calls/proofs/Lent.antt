@@ -10,12 +10,14 @@ use lib.ListN.{length}
 use Rattle.checks.specs.Checks.{check}
 use Rattle.checks.proofs.Laws.{and_left, and_right, check_holds, check_fails, check_passed}
 use Rattle.gateway_state.specs.Formed.{state_formed}
-use Rattle.gateway_rules.specs.Calls.{table_fits, buffer_fits, lent_checks}
+use Rattle.neighbour_machine.specs.Intrinsics.{Intrinsic}
+use Rattle.gateway_rules.specs.Calls.{table_fits, buffer_fits, lent_checks, event_checks, message_checks}
+use Rattle.gateway_calls.proofs.Checks.{lent_fails}
 use Rattle.host_state_block.specs.Block.{block_size, state_in}
 use Rattle.host_state_block.specs.Formed.{block_fits, block_in_range, block_formed}
 use Rattle.host_rules.specs.Held.{table_size, table_in}
 use Rattle.host_rules.proofs.Held.{table_fits_lem, table_short, table_size_lem}
-use Rattle.host_calls.specs.Steps.{host_lent}
+use Rattle.host_calls.specs.Steps.{host_checks, host_lent}
 
 -- ---- each check
 
@@ -30,7 +32,7 @@ module _ (block : List ℕ) (numbers octets : ℕ) where
   Lent k = (table buffer : List ℕ) → length table ≡ numbers → length buffer ≡ octets → k ≡ host_lent block table buffer
 
   pub lent_20 : (length block ≡ block_size → ⊥) → Lent 20
-  unfolding host_lent
+  unfolding host_checks
   lent_20 n table buffer p q = sym (check_fails (block_fits block) 20 _ (ne_eqb (length block) block_size n))
 
   module _ (f : length block ≡ block_size) where
@@ -38,7 +40,7 @@ module _ (block : List ℕ) (numbers octets : ℕ) where
     fits rest = check_holds (block_fits block) 20 rest (eq-eqb (length block) block_size f)
 
     pub lent_1 : block_formed block ≡ false → Lent 1
-    unfolding host_lent lent_checks block_formed
+    unfolding host_checks lent_checks block_formed
     lent_1 n table buffer p q = sym (fits _ ∙ either (block_in_range block) (state_formed (state_in block)) _ n)
 
     module _ (h : block_formed block ≡ true) where
@@ -55,7 +57,7 @@ module _ (block : List ℕ) (numbers octets : ℕ) where
           fits _ ∙ check_holds (block_in_range block) 1 _ ranged ∙ check_holds (state_formed (state_in block)) 1 rest formed
 
       pub lent_2 : (numbers ≡ table_size → ⊥) → Lent 2
-      unfolding host_lent lent_checks
+      unfolding host_checks lent_checks
       lent_2 n table buffer p q = sym (passed _ ∙ check_fails (table_fits (table_in table)) 2 _ (table_short table (λ e. n (sym p ∙ e))))
 
       module _ (t : numbers ≡ table_size) where
@@ -63,12 +65,12 @@ module _ (block : List ℕ) (numbers octets : ℕ) where
         long table rest p = check_holds (table_fits (table_in table)) 2 rest (table_fits_lem table (p ∙ t))
 
         pub lent_3 : octets < 2048 → Lent 3
-        unfolding host_lent lent_checks
+        unfolding host_checks lent_checks
         lent_3 b table buffer p q =
             sym (passed _ ∙ long table _ p ∙ check_fails (leb 2048 (length buffer)) 3 _ (lt-leb 2048 (length buffer) (rw q b)))
 
         pub lent_0 : 2048 ≤ octets → Lent 0
-        unfolding host_lent lent_checks
+        unfolding host_checks lent_checks
         lent_0 b table buffer p q =
             sym (passed _ ∙ long table _ p ∙ check_holds (leb 2048 (length buffer)) 3 _ (le-leb 2048 (length buffer) (rw q b)))
 
@@ -82,7 +84,7 @@ pub record Good (block table buffer : List ℕ) : Type 0 where
   pub room : 2048 ≤ length buffer
 
 pub lent_good : (block table buffer : List ℕ) → host_lent block table buffer ≡ 0 → Good block table buffer
-unfolding host_lent lent_checks
+unfolding host_checks lent_checks
 lent_good block table buffer e =
     let one = check_passed (block_fits block) 20 _ refl e in
     let two = check_passed (block_in_range block) 1 _ refl one.1 in
@@ -97,5 +99,36 @@ lent_good block table buffer e =
       room = leb-true 2048 (length buffer) five.0;
     }
 
-pub lent_long : (block table buffer : List ℕ) → host_lent block table buffer ≡ 0 → block_size ≤ length block
-lent_long block table buffer e = omega (arith, (lent_good block table buffer e).long)
+module _ (block table buffer : List ℕ) (e : 0 ≡ host_lent block table buffer) where
+  pub lent_long : block_size ≤ length block
+  lent_long = omega (arith, (lent_good block table buffer (sym e)).long)
+
+  -- what comes after them is asked then
+  pub lent_then : (rest : ℕ) → host_checks block rest ≡ rest
+  unfolding host_checks
+  lent_then rest =
+      let met = lent_good block table buffer (sym e) in
+      check_holds (block_fits block) 20 _ (eq-eqb (length block) block_size met.long) ∙ check_holds (block_in_range block) 1 rest met.ranged
+
+  pub lent_met : 0 ≡ lent_checks (state_in block) (table_fits (table_in table)) (buffer_fits buffer) 0
+  lent_met = sym (lent_good block table buffer (sym e)).lent
+
+-- the number of the first that fails, whatever comes after them
+module _ (block table buffer : List ℕ) (k : ℕ) (n : k ≡ 0 → ⊥) (e : k ≡ host_lent block table buffer) where
+  lent_before : (rest : ℕ) → k ≡ host_checks block (lent_checks (state_in block) (table_fits (table_in table)) (buffer_fits buffer) rest)
+  unfolding host_checks check
+  lent_before rest = go (block_fits block) (block_in_range block) e
+    where
+      go : (f r : Bool) → k ≡ check f 20 (check r 1 (lent_checks (state_in block) (table_fits (table_in table)) (buffer_fits buffer) 0))
+          → k ≡ check f 20 (check r 1 (lent_checks (state_in block) (table_fits (table_in table)) (buffer_fits buffer) rest))
+      go false r e = e
+      go true false e = e
+      go true true e = lent_fails (state_in block) (table_fits (table_in table)) (buffer_fits buffer) rest k n e
+
+  pub event_before : (event : Intrinsic) (a : ℕ) → k ≡ host_checks block (event_checks event (state_in block) (table_in table) buffer a)
+  unfolding event_checks
+  event_before event a = lent_before _
+
+  pub message_before : (home : List ℕ) (a : ℕ) → k ≡ host_checks block (message_checks (state_in block) (table_in table) buffer home a)
+  unfolding message_checks
+  message_before home a = lent_before _

@@ -1,7 +1,7 @@
 -- Laws of the message call for a host: each way it ends. Assumes nothing.
 use Prim.Native.Nat.{ℕ, ◌≤◌, ◌<◌}
 use native.Mathlib.Omega.{arith}
-use borrow.Author.Tests.{eqb-true, le-ltb, lt-ltb}
+use borrow.Author.Tests.{eqb-true}
 use mathlib.Core.Path.{◌≡◌, refl, sym, ◌∙◌, ap}
 use mathlib.Core.Bool.{Bool, true, false}
 use mathlib.Core.List.{List}
@@ -15,12 +15,6 @@ use Rattle.octets_words.specs.Words.{word_octets}
 use Rattle.nets.specs.Rows.{rows_of}
 use Rattle.update_walk.specs.Body.{walked_blocks}
 use Rattle.update_rows.specs.Storing.{walked_rows}
-use Rattle.message_reading.specs.Reading.{decode_of}
-use Rattle.message_reading.specs.Reading as Wire
-use Rattle.message.specs.declared.Message.{Message}
-use Rattle.message_reading.specs.declared.Decoded.TheVariants as D
-use Rattle.neighbour.specs.declared.Settings.{Settings}
-use Rattle.neighbour.specs.declared.Neighbour.{Neighbour}
 use Rattle.neighbour_machine.specs.declared.After.{After}
 use Rattle.neighbour_machine.specs.declared.Reply.{Reply}
 use Rattle.gateway_state.specs.declared.Slot.{Slot}
@@ -35,11 +29,10 @@ use Rattle.gateway_rules.specs.Ruling.{keep, Ruling, receive_ruling, verdict_of}
 use Rattle.gateway_rules.specs.Carried.{slot_after, outcome_after, refused_with}
 use Rattle.gateway_rules.specs.Carried as Carried
 use Rattle.gateway_rules.specs.Calls.{table_fits, buffer_fits, lent_checks, message_checks}
-use Rattle.gateway_stages.specs.Stages.{head_number, keeping}
-use Rattle.gateway_stages.proofs.Laws.{head_number_lem, kind_number_lem}
+use Rattle.gateway_stages.specs.Stages.{keeping}
 use Rattle.gateway_carry.specs.declared.Lengths.{Lengths}
 use Rattle.gateway_carry.specs.Asked.{sendable, lengths_of, takes, change_of, ruling_of}
-use Rattle.gateway_calls.proofs.Checks.{lent_fails, lent_passes}
+use Rattle.gateway_calls.proofs.Checks.{message_0}
 use Rattle.gateway_calls.proofs.Calls.{Received, message_refused, number_asked, number_done, reach_asked, reach_done, message_asked, message_done}
 use Rattle.model.specs.Model.{receive}
 use Rattle.model.specs.Theorem.{outcome_of, table_left, buffer_left, buffer_of}
@@ -51,18 +44,8 @@ use Rattle.host_rules.specs.Held.{table_size, table_in, held, as_gateway}
 use Rattle.host_rules.specs.Calls.{held_outcome}
 use Rattle.host_rules.proofs.Held.{table_held, table_same, slot_stored}
 use Rattle.host_rules.proofs.Left.{Left, left_20, left_1, left_by, left_refused}
-use Rattle.host_calls.specs.Steps.{host_lent, octets_after}
+use Rattle.host_calls.specs.Steps.{host_checks, host_lent, octets_after}
 use Rattle.host_calls.proofs.Lent.{Good, lent_good}
-
--- the number of a message, from its stages
-
-module _ (g : Settings) (asn : ℕ) (n : Neighbour) (m : List ℕ) where
-  pub number_head : (head : ℕ) → head ≡ head_number asn m → (head ≡ 0 → ⊥) → message_number 128 g asn n m ≡ head
-  number_head head h x = head_number_lem 128 g asn n m (λ q. x (h ∙ q)) ∙ sym h
-
-  pub number_kind : head_number asn m ≡ 0 → (number : ℕ) → number ≡ Wire.decoded_number (decode_of m) → ((a : Message) → (decode_of m) ≡ D.Good a → ⊥)
-      → (number ≡ 0 → ⊥) × (message_number 128 g asn n m ≡ number)
-  number_kind h number f t = let q = kind_number_lem 128 g asn n m h t in (λ y. q.1 (sym f ∙ y), q.0 ∙ sym f)
 
 module _ (block table buffer home : List ℕ) (a : ℕ) (m : List ℕ) where
   -- what the promise says of the number, the block, the table and the buffer after the call
@@ -81,54 +64,31 @@ module _ (block table buffer home : List ℕ) (a : ℕ) (m : List ℕ) where
     unfolding held_outcome outcome_of table_left buffer_left as_gateway held
     heard_refused n = left_refused (receive a m home buffer) block table long ranged out t b h.0 h.1.0 h.1.1 n
 
-  -- 20, 1, 2 and 3
-  pub receive_lent : (k : ℕ) → (k ≡ 0 → ⊥) → k ≡ host_lent block table buffer → Heard (bare k) block table buffer
-  unfolding host_lent refused_of message_checks buffer_of
-  receive_lent k n e = go (block_fits block) refl (block_in_range block) refl e
+  -- refused before the message is read
+  pub receive_refused : (k : ℕ) → (k ≡ 0 → ⊥) → k ≡ host_checks block (message_checks (state_in block) (table_in table) buffer (home_in home) a)
+      → Heard (bare k) block table buffer
+  unfolding host_checks refused_of buffer_of
+  receive_refused k n e = go (block_fits block) refl (block_in_range block) refl e
     where
       go : (f : Bool) → block_fits block ≡ f → (g : Bool) → block_in_range block ≡ g
-          → k ≡ check f 20 (check g 1 (lent_checks (state_in block) (table_fits (table_in table)) (buffer_fits buffer) 0))
+          → k ≡ check f 20 (check g 1 (message_checks (state_in block) (table_in table) buffer (home_in home) a))
           → Heard (bare k) block table buffer
       go false f g r e = rw (e ∙ check_fails false 20 _ refl) (left_20 (receive a m home buffer) block table f)
       go true f false r e =
           rw (e ∙ check_holds true 20 _ refl ∙ check_fails false 1 _ refl) (left_1 (receive a m home buffer) block table f r)
       go true f true r e =
-          let l : k ≡ lent_checks (state_in block) (table_fits (table_in table)) (buffer_fits buffer) 0 = e ∙ check_holds true 20 _ refl ∙ check_holds true 1 _ refl in
           heard_refused (eqb-true (length block) block_size f) r (refused_of (state_in block) k) (table_in table) buffer
-          (message_refused (state_in block) (table_in table) buffer (home_in home) a m k (lent_fails (state_in block) _ _ _ k n l) n (refused_of (state_in block) k) refl) n
+          (message_refused (state_in block) (table_in table) buffer (home_in home) a m k (e ∙ check_holds true 20 _ refl ∙ check_holds true 1 _ refl) n (refused_of (state_in block) k) refl) n
 
-  -- once they passed
-  module _ (good : host_lent block table buffer ≡ 0) where
+  -- once the checks passed
+  module _ (good : 0 ≡ host_lent block table buffer) where
     met : Good block table buffer
-    met = lent_good block table buffer good
-
-    passes : (rest : ℕ) → lent_checks (state_in block) (table_fits (table_in table)) (buffer_fits buffer) rest ≡ rest
-    passes rest = lent_passes (state_in block) (table_fits (table_in table)) (buffer_fits buffer) rest met.lent
-
-    refused_alone : (k : ℕ) → (k ≡ 0 → ⊥) → k ≡ message_checks (state_in block) (table_in table) buffer (home_in home) a → Heard (bare k) block table buffer
-    unfolding refused_of
-    refused_alone k n e =
-        heard_refused met.long met.ranged (refused_of (state_in block) k) (table_in table) buffer
-        (message_refused (state_in block) (table_in table) buffer (home_in home) a m k e n (refused_of (state_in block) k) refl) n
-
-    pub receive_4 : good_home (state_in block).settings (home_in home) ≡ false → Heard (bare 4) block table buffer
-    unfolding message_checks
-    receive_4 h = refused_alone 4 (λ z. absurd (omega (arith, z))) (sym (passes _ ∙ check_fails (good_home (state_in block).settings (home_in home)) 4 _ h))
+    met = lent_good block table buffer (sym good)
 
     module _ (g : good_home (state_in block).settings (home_in home) ≡ true) where
-      pub receive_5 : (i : ℕ) → i ≡ slot_of (state_in block) a → 8 ≤ i → Heard (bare 5) block table buffer
-      unfolding message_checks
-      receive_5 i p h =
-          refused_alone 5 (λ z. absurd (omega (arith, z)))
-          (sym (passes _ ∙ check_holds (good_home (state_in block).settings (home_in home)) 4 _ g
-          ∙ check_fails (ltb (slot_of (state_in block) a) 8) 5 0 (le-ltb (slot_of (state_in block) a) 8 (rw (← p) h))))
-
       module _ (i : ℕ) (slot : Slot) (p : i ≡ slot_of (state_in block) a) (h : i < 8) (s : slot ≡ slot_at (state_in block) i) where
         checks : 0 ≡ message_checks (state_in block) (table_in table) buffer (home_in home) a
-        unfolding message_checks
-        checks =
-            sym (passes _ ∙ check_holds (good_home (state_in block).settings (home_in home)) 4 _ g
-            ∙ check_holds (ltb (slot_of (state_in block) a) 8) 5 0 (lt-ltb (slot_of (state_in block) a) 8 (rw (← p) h)))
+        checks = message_0 (state_in block) (table_in table) buffer a (sym met.lent) (home_in home) g (rw p at h)
 
         pub heard_room : (length block ≡ block_size) × (i < 8) × (length table ≡ table_size) × (2048 ≤ length buffer)
         heard_room = (met.long, h, met.table_size_lem, met.room)

@@ -2,9 +2,10 @@
 // One slot is read and written back; of the table, the slot's part where its rows change.
 #![tactic(auto)]
 
-ghost use Rattle.std.specs.Prelude.{◌≡◌, true, List, ℕ, ◌≤◌, ◌<◌, length};
+ghost use Rattle.std.specs.Prelude.{◌≡◌, true, List, ℕ, ◌≤◌, ◌<◌, length, IfOk};
 ghost use Rattle.std.proofs.lemmas.List.Edits.{sets};
 ghost use Rattle.checks.specs.Checks.{if_ok};
+ghost use Rattle.checks.specs.Refusals.{answer_of};
 ghost use Rattle.nets.specs.Rows.{rows_of};
 ghost use Rattle.update_walk.specs.Body.{walked_blocks};
 ghost use Rattle.update_rows.specs.Storing.{walked_rows};
@@ -17,13 +18,13 @@ ghost use Rattle.host_state_block.specs.Block.{block_size, slot_start, slot_octe
 ghost use Rattle.host_home.specs.Home.{home_in};
 ghost use Rattle.host_rules.specs.Held.{table_size};
 ghost use Rattle.host_rules.specs.Calls.{result_of, block_after, table_after, buffer_after};
-ghost use Rattle.host_calls.specs.Steps.{host_lent, octets_after};
+ghost use Rattle.host_calls.specs.Steps.{host_lent, EventSlot, MessageSlot, octets_after};
 
+use checks::Refusal;
 use gateway_carry::Lengths;
 use gateway_rules::{Effect, Verdict};
 use gateway_state::Slot;
 use message::Message;
-use message_reading::Decoded;
 use neighbour_machine::{Event, Reply};
 use neighbour_messages::Head;
 
@@ -36,22 +37,63 @@ const PART: usize = 1536;
 const UPDATE_ROOM: u16 = 128;
 
 // Checks 20, 1, 2 and 3, of a table and a reply buffer of these lengths.
-fn lent_answer(block: &[u8], table: usize, reply: usize) -> u8
-    ensures { (octets buffer : List ℕ) → length octets ≡ table → length buffer ≡ reply → result ≡ host_lent block.now octets buffer }
+fn check_lent(block: &[u8], table: usize, reply: usize) -> Result<(), Refusal>
+    ensures value { (octets buffer : List ℕ) → length octets ≡ table → length buffer ≡ reply → answer_of result ≡ host_lent block.now octets buffer }
+    ensures block_len { IfOk result (λ _. length block.now ≡ block_size) }
 {
     if block.len() != host_state_block::BLOCK {
-        return 20;
+        return Err(Refusal::WrongBlock);
     }
     if !host_state_block::is_formed(block) {
-        return 1;
+        return Err(Refusal::IllFormedState);
     }
     if table != TABLE {
-        return 2;
+        return Err(Refusal::WrongTable);
     }
     if reply < 2048 {
-        return 3;
+        return Err(Refusal::ShortBuffer);
     }
-    0
+    Ok(())
+}
+
+// The slot that an event finds, or why the call is refused.
+fn slot_for_event(
+    block: &[u8],
+    table: usize,
+    reply: usize,
+    address: u32,
+    event: Event,
+) -> Result<usize, Refusal>
+    ensures { (octets buffer : List ℕ) → length octets ≡ table → length buffer ≡ reply → EventSlot event block.now octets buffer address result }
+{
+    check_lent(block, table, reply)?;
+    let Some(i) = host_state_block::slot_of(block, address) else {
+        return Err(Refusal::UnknownNeighbour);
+    };
+    if !gateway_carry::has_time(event, host_state_block::slot_at(block, i).seconds) {
+        return Err(Refusal::ClockFull);
+    }
+    Ok(i)
+}
+
+// The slot that a message finds, or why the call is refused before the message is read.
+fn slot_for_message(
+    block: &[u8],
+    table: usize,
+    reply: usize,
+    home: &[u8],
+    address: u32,
+) -> Result<usize, Refusal>
+    ensures { (octets buffer : List ℕ) → length octets ≡ table → length buffer ≡ reply → MessageSlot block.now octets buffer home.now address result }
+{
+    check_lent(block, table, reply)?;
+    if !host_home::good_home(host_state_block::settings_of(block), home) {
+        return Err(Refusal::BadHomeList);
+    }
+    let Some(i) = host_state_block::slot_of(block, address) else {
+        return Err(Refusal::UnknownNeighbour);
+    };
+    Ok(i)
 }
 
 // Writes a reply at the front of the buffer, an Update with the rows of the home list.
@@ -114,14 +156,12 @@ fn apply(
     ensures table_after { (counts : List ℕ) → table.new ≡ if_ok v.answer (octets_after table.old counts i (change_of v.effect (walked_rows (walked_blocks net message.now)))) table.old }
     ensures buffer_after { buffer.new ≡ Carried.buffer_after buffer.old v.reply (rows_of (home_in home.now)) }
 {
-    let reply = v.reply;
-    let lengths = send(buffer, reply, home);
+    let lengths = send(buffer, v.reply, home);
     let result = host_result::pack(v.answer, lengths.first, lengths.second);
     if v.answer != 0 {
         return result;
     }
-    let effect = v.effect;
-    change_rows(table, i, effect, net, message);
+    change_rows(table, i, v.effect, net, message);
     host_state_block::put_slot(block, i, gateway_carry::slot_after(slot, v));
     result
 }
@@ -133,20 +173,11 @@ fn happen(block: &mut [u8], table: &mut [u8], reply: &mut [u8], address: u32, ev
     ensures table_after { (e : I.Intrinsic) → event ≡ I.as_event e → table.new ≡ table_after (M.happen e address reply.old) block.old table.old }
     ensures reply_after { (e : I.Intrinsic) → event ≡ I.as_event e → reply.new ≡ buffer_after (M.happen e address reply.old) block.old table.old }
 {
-    let lent = lent_answer(block, table.len(), reply.len());
-    if lent != 0 {
-        return host_result::alone(lent);
-    }
-    let i = host_state_block::slot_of(block, address);
-    if gateway_state::SLOTS <= i {
-        return host_result::alone(5);
-    }
-    let found = host_state_block::slot_at(block, i);
-    let seconds = found.seconds;
-    if !gateway_carry::has_time(event, seconds) {
-        return host_result::alone(22);
-    }
-    let slot = gateway_carry::book(event, found);
+    let i = match slot_for_event(block, table.len(), reply.len(), address, event) {
+        Ok(i) => i,
+        Err(refusal) => return host_result::answered(Err(refusal)),
+    };
+    let slot = gateway_carry::book(event, host_state_block::slot_at(block, i));
     let n = slot.neighbour;
     if gateway_calls::only_counts(event, n) {
         let next = gateway_carry::with_neighbour(slot, neighbour_tick::count_down(n));
@@ -219,36 +250,24 @@ pub fn receive(
     ensures table_after { table.new ≡ table_after (M.receive address message.now home.now reply.old) block.old table.old }
     ensures reply_after { reply.new ≡ buffer_after (M.receive address message.now home.now reply.old) block.old table.old }
 {
-    let lent = lent_answer(block, table.len(), reply.len());
-    if lent != 0 {
-        return host_result::alone(lent);
-    }
+    let i = match slot_for_message(block, table.len(), reply.len(), home, address) {
+        Ok(i) => i,
+        Err(refusal) => return host_result::answered(Err(refusal)),
+    };
     let settings = host_state_block::settings_of(block);
-    if !host_home::good_home(settings, home) {
-        return host_result::alone(4);
-    }
-    let i = host_state_block::slot_of(block, address);
-    if gateway_state::SLOTS <= i {
-        return host_result::alone(5);
-    }
     let slot = host_state_block::slot_at(block, i);
     let n = slot.neighbour;
-    let head = gateway_stages::head_number(slot.asn, message);
-    if head != 0 {
-        let named = gateway_stages::reply_to(settings, n, message, head);
-        return refuse(head, reply, named, home);
-    }
-    let decoded = message_reading::decode(message);
-    let Decoded::Good(m) = decoded else {
-        let number = message_reading::decoded_number(decoded);
-        let named = gateway_stages::reply_to(settings, n, message, number);
-        return refuse(number, reply, named, home);
+    let m = match gateway_stages::read(slot.asn, message) {
+        Ok(m) => m,
+        Err(refusal) => {
+            let named = gateway_stages::reply_to(settings, n, message, refusal);
+            return refuse(u8::from(refusal), reply, named, home);
+        }
     };
     if gateway_stages::tells_reach(n, m) {
         let after = gateway_stages::note_reach(settings, n, m);
-        let said = after.reply;
         let next = gateway_carry::with_neighbour(slot, after.neighbour);
-        let lengths = send(reply, said, home);
+        let lengths = send(reply, after.reply, home);
         host_state_block::put_slot(block, i, next);
         return host_result::pack(0, lengths.first, lengths.second);
     }

@@ -9,7 +9,10 @@ use lib.Dec.{eqb, leb}
 use lib.ListN.{length, take, drop, length-append}
 use lib.Seq.{take_at, drop_at, length-take-le}
 use borrow.Author.Tests.{leb-true, le-leb, eqb-true, eqb-false}
-use Rattle.checks.proofs.Laws.{check_passed, check_holds, and_left, and_right, and_both, if_ok_new, if_ok_old, if_ok_holds}
+use Rattle.std.specs.Prelude.{Result, Ok, Err}
+use Rattle.checks.specs.Refusals.{answer_of}
+use Rattle.checks.specs.declared.Refusal.{Refusal}
+use Rattle.checks.proofs.Laws.{number_some, check_passed, check_holds, and_left, and_right, and_both, if_ok_new, if_ok_old, if_ok_holds}
 use Rattle.octets.specs.Numbers.{Octets}
 use Rattle.octets.specs.Buffer.{over}
 use Rattle.octets_words.specs.Words.{words_of, word_octets, row_numbers}
@@ -20,10 +23,8 @@ use Rattle.update_rows.specs.Storing.{zeros, padded}
 use Rattle.update_rows.proofs.Laws.{flat_length}
 use Rattle.update_writing.proofs.Lists.{rows_length}
 use Rattle.codec_writing.specs.Octets.{message_octets}
-use Rattle.codec.specs.Reading.{read_number, read_of}
+use Rattle.codec.specs.Reading.{read_of}
 use Rattle.codec.specs.Writing.{writable}
-use Rattle.codec.specs.declared.Meaning.{Meaning}
-use Rattle.codec.specs.declared.Meaning.TheVariants.{Good, Refused}
 use Rattle.codec.specs.declared.Reading.{Reading}
 use Rattle.codec_theorem.specs.Widths.{InWidths}
 use Rattle.codec_theorem.specs.Exchange.{handed_back, Common, Reads, ComesBack}
@@ -64,19 +65,19 @@ behind octets buffer n e = drop_at octets (drop (length octets) buffer) n e ∙ 
 pub record Passed (net : ℕ) (message buffer : List ℕ) : Type 0 where
   pub long : 1560 ≤ length buffer
   pub m : Message
-  pub good : (read_of net message).meaning ≡ Good m
+  pub good : (read_of net message).meaning ≡ Ok m
 
 read_passed : (net : ℕ) (message buffer : List ℕ) → reading_number net message buffer ≡ 0 → Passed net message buffer
-unfolding reading_number read_number
+unfolding reading_number
 read_passed net message buffer z =
-    let p = check_passed (leb 1560 (length buffer)) 3 (read_number (read_of net message).meaning) refl z in
+    let p = check_passed (leb 1560 (length buffer)) 3 (answer_of (read_of net message).meaning) refl z in
     go (leb-true 1560 (length buffer) p.0) (read_of net message).meaning refl p.1
   where
-    go : 1560 ≤ length buffer → (x : Meaning) → (read_of net message).meaning ≡ x → read_number x ≡ 0 → Passed net message buffer
-    go h (Good m) e k = record { long = h; m = m; good = e }
-    go h (Refused n) e k = absurd ((reading_sound net message).told n e k)
+    go : 1560 ≤ length buffer → (x : Result Message Refusal) → (read_of net message).meaning ≡ x → answer_of x ≡ 0 → Passed net message buffer
+    go h (Ok m) e k = record { long = h; m = m; good = e }
+    go h (Err refused) e k = absurd (number_some refused k)
 
-octets_length : (net : ℕ) (message : List ℕ) (m : Message) → (read_of net message).meaning ≡ Good m → length (reading_octets (read_of net message)) ≡ read_length net message
+octets_length : (net : ℕ) (message : List ℕ) (m : Message) → (read_of net message).meaning ≡ Ok m → length (reading_octets (read_of net message)) ≡ read_length net message
 unfolding reading_octets found_octets
 octets_length net message m e =
     let r = read_of net message in

@@ -3,61 +3,53 @@ use Prim.Native.Nat.{ℕ, ◌*◌, ◌-◌, ◌≤◌, ◌<◌}
 use native.Mathlib.Omega.{arith}
 use mathlib.Core.Path.{◌≡◌, refl, sym, ap, ◌∙◌}
 use mathlib.Core.List.{List, ◌++◌, append-nil, append_assoc}
-use lib.Dec.{eqb, leb}
+use lib.Dec.{leb}
 use lib.ListN.{length, take, drop, length-append, length-drop, drop_of_length-le}
 use lib.Seq.{take_at, drop_at, drop-drop, length-take-le}
-use borrow.Author.Tests.{leb-true, eqb-false, le-leb, lt-leb}
+use borrow.Author.Tests.{leb-true, le-leb, lt-leb}
 use borrow.Rule.Slice.PartMut.{put_mid}
-use Rattle.checks.proofs.Laws.{part_from_lem, cond_elim, check_holds, check_fails, if_ok_new, if_ok_old}
+use Rattle.std.specs.Prelude.{Result, Ok, Err}
+use Rattle.checks.specs.Refusals.{number_of, answer_of}
+use Rattle.checks.specs.declared.Refusal.{Refusal}
+use Rattle.checks.specs.declared.Refusal.TheVariants.{BrokenBlocks, TooManyRows}
+use Rattle.checks.proofs.Laws.{number_some, part_from_lem, cond_elim, check_holds, check_fails, if_ok_new, if_ok_old}
 use Rattle.octets.specs.Buffer.{over}
 use Rattle.octets_words.specs.Words.{word_octets}
 use Rattle.message.specs.declared.Message.{Message}
 use Rattle.message.specs.declared.Message.TheVariants.{Request, Confirm, Refuse, Cease, CeaseAck, Hello, IHeardYou, Poll, Update, Error}
-use Rattle.message_reading.specs.Reading.{header_answer, decode_of, decoded_number}
-use Rattle.message_reading.specs.declared.Decoded.{Decoded}
-use Rattle.message_reading.specs.declared.Decoded.TheVariants as D
-use Rattle.update_walk.specs.Body.{Walk, whole, broken, walked_blocks, read_within, accepted, too_many, update_of, update_number}
+use Rattle.update_walk.specs.Body.{Walk, whole, broken, walked_blocks, read_within, accepted, too_many, update_of}
 use Rattle.nets.specs.Rows.{flat}
 use Rattle.update_rows.proofs.Laws.{flat_length, zeros_length, padded_length}
-use Rattle.codec.specs.Reading.{read_number, refusal, rowless, update_reading, meaning_reading, kind_reading, read_of}
-use Rattle.codec.specs.declared.Meaning.TheVariants.{Good, Refused}
+use Rattle.codec.specs.Reading.{refusal, rowless, update_reading, meaning_reading, meaning_read, reading_after, read_of}
 use Rattle.codec.specs.declared.Reading.{Reading}
 use Rattle.host_result.specs.Packed.{packed, bare}
 use Rattle.host_meaning.specs.Meaning.{field_octets, meaning_octets}
 use Rattle.host_codec.specs.Codec.{reading_number, found_octets, reading_octets, reading_buffer, reading_result}
 
--- ---- what reading alone gives: at most 128 rows in 384 numbers, and no refusal with 0
+-- ---- what reading alone gives: at most 128 rows in 384 numbers
 
 pub record Sound (r : Reading) : Type 0 where
   pub few : r.count ≤ 128
   pub long : length r.rows ≡ 384
-  pub told : (n : ℕ) → r.meaning ≡ Refused n → n ≡ 0 → ⊥
 
-refused_sound : (k : ℕ) → (k ≡ 0 → ⊥) → Sound (refusal k)
+refused_sound : (refused : Refusal) → Sound (refusal refused)
 unfolding refusal
-refused_sound k h = record { few = omega arith; long = zeros_length 384; told = λ n e z. h (same n e ∙ z) }
-  where
-    same : (n : ℕ) → Refused k ≡ Refused n → k ≡ n
-    same n e = cc
-
-good_refused : (m : Message) (n : ℕ) → Good m ≡ Refused n → ⊥
-good_refused m n e = let z : ◌≡◌ {A = ℕ} 0 1 = cc in absurd (omega arith)
+refused_sound refused = record { few = omega arith; long = zeros_length 384 }
 
 rowless_sound : (m : Message) → Sound (rowless m)
 unfolding rowless
-rowless_sound m = record { few = omega arith; long = zeros_length 384; told = λ n e z. good_refused m n e }
+rowless_sound m = record { few = omega arith; long = zeros_length 384 }
 
 update_sound : (m : Message) (w : Walk) → Sound (update_reading m (read_within 128 w))
-unfolding read_within update_reading update_number
+unfolding read_within update_reading
 update_sound m (whole rs) =
     cond_elim (λ u. Sound (update_reading m u)) (leb (length rs) 128) (accepted rs) too_many
     (λ e. record {
       few = leb-true (length rs) 128 e;
       long = padded_length 384 (flat rs) (omega (arith, flat_length rs, leb-true (length rs) 128 e));
-      told = λ n e z. good_refused m n e;
     })
-    (λ e. refused_sound 15 (λ z. absurd (omega arith)))
-update_sound m (broken offset) = refused_sound 14 (λ z. absurd (omega arith))
+    (λ e. refused_sound TooManyRows)
+update_sound m (broken offset) = refused_sound BrokenBlocks
 
 meaning_sound : (net : ℕ) (o : List ℕ) (m : Message) → Sound (meaning_reading net o m)
 unfolding meaning_reading update_of
@@ -72,18 +64,14 @@ meaning_sound net o (Poll a q s n) = rowless_sound (Poll a q s n)
 meaning_sound net o (Update a q s n) = update_sound (Update a q s n) (walked_blocks net o)
 meaning_sound net o (Error a q s r x y z) = rowless_sound (Error a q s r x y z)
 
-kind_sound : (net : ℕ) (o : List ℕ) (d : Decoded) → Sound (kind_reading net o d)
-unfolding kind_reading decoded_number
-kind_sound net o (D.Good m) = meaning_sound net o m
-kind_sound net o D.UnknownKind = refused_sound 10 (λ z. absurd (omega arith))
-kind_sound net o D.BadStatus = refused_sound 11 (λ z. absurd (omega arith))
-kind_sound net o D.BadLength = refused_sound 12 (λ z. absurd (omega arith))
+after_sound : (net : ℕ) (o : List ℕ) (d : Result Message Refusal) → Sound (reading_after net o d)
+unfolding reading_after
+after_sound net o (Ok m) = meaning_sound net o m
+after_sound net o (Err refused) = refused_sound refused
 
 pub reading_sound : (net : ℕ) (o : List ℕ) → Sound (read_of net o)
 unfolding read_of
-reading_sound net o =
-    cond_elim Sound (eqb (header_answer o) 0) (kind_reading net o (decode_of o)) (refusal (header_answer o))
-    (λ e. kind_sound net o (decode_of o)) (λ e. refused_sound (header_answer o) (eqb-false (header_answer o) 0 e))
+reading_sound net o = after_sound net o (meaning_read o)
 
 pub count_few : (net : ℕ) (o : List ℕ) (r : Reading) → r ≡ read_of net o → r.count ≤ 128
 count_few net o r e = rw e (reading_sound net o).few
@@ -127,9 +115,9 @@ over_behind head more buffer x y n h e f =
 -- ---- what the call answers and leaves
 
 module _ (net : ℕ) (message buffer : List ℕ) where
-  pub number_long : 1560 ≤ length buffer → reading_number net message buffer ≡ read_number (read_of net message).meaning
+  pub number_long : 1560 ≤ length buffer → reading_number net message buffer ≡ answer_of (read_of net message).meaning
   unfolding reading_number
-  number_long h = check_holds (leb 1560 (length buffer)) 3 (read_number (read_of net message).meaning) (le-leb 1560 (length buffer) h)
+  number_long h = check_holds (leb 1560 (length buffer)) 3 (answer_of (read_of net message).meaning) (le-leb 1560 (length buffer) h)
 
   -- a refused call
   refused : (k r : ℕ) → reading_number net message buffer ≡ k → (k ≡ 0 → ⊥) → r ≡ bare k
@@ -144,22 +132,21 @@ module _ (net : ℕ) (message buffer : List ℕ) where
   pub read_3 : (r : ℕ) → length buffer < 1560 → r ≡ bare 3 → (r ≡ reading_result net message buffer) × (buffer ≡ reading_buffer net message buffer)
   unfolding reading_number
   read_3 r h e =
-      refused 3 r (check_fails (leb 1560 (length buffer)) 3 (read_number (read_of net message).meaning) (lt-leb 1560 (length buffer) h)) (λ z. absurd (omega arith)) e
+      refused 3 r (check_fails (leb 1560 (length buffer)) 3 (answer_of (read_of net message).meaning) (lt-leb 1560 (length buffer) h)) (λ z. absurd (omega arith)) e
 
-  pub read_refused : (r : ℕ) (reading : Reading) (n : ℕ) → 1560 ≤ length buffer → reading ≡ read_of net message → reading.meaning ≡ Refused n → r ≡ bare n
-      → (r ≡ reading_result net message buffer) × (buffer ≡ reading_buffer net message buffer)
-  unfolding read_number
-  read_refused r reading n h i e f =
-      let w : (read_of net message).meaning ≡ Refused n = ap (λ (t : Reading). t.meaning) (sym i) ∙ e in
-      refused n r (number_long h ∙ ap read_number w) ((reading_sound net message).told n w) f
+  pub read_refused : (r : ℕ) (reading : Reading) (told : Refusal) → 1560 ≤ length buffer → reading ≡ read_of net message → reading.meaning ≡ Err told
+      → r ≡ bare (number_of told) → (r ≡ reading_result net message buffer) × (buffer ≡ reading_buffer net message buffer)
+  read_refused r reading told h i e f =
+      let w : (read_of net message).meaning ≡ Err told = ap (λ (t : Reading). t.meaning) (sym i) ∙ e in
+      refused (number_of told) r (number_long h ∙ rw w) (number_some told) f
 
-  pub read_good : (r : ℕ) (reading : Reading) (m : Message) (x : List ℕ) → 1560 ≤ length buffer → reading ≡ read_of net message → reading.meaning ≡ Good m
+  pub read_good : (r : ℕ) (reading : Reading) (m : Message) (x : List ℕ) → 1560 ≤ length buffer → reading ≡ read_of net message → reading.meaning ≡ Ok m
       → x ≡ over (meaning_octets m ++ word_octets (take (reading.count * 3) reading.rows)) buffer → r ≡ packed 0 24 (reading.count * 12)
       → (r ≡ reading_result net message buffer) × (x ≡ reading_buffer net message buffer)
-  unfolding reading_result reading_buffer read_number reading_octets found_octets
+  unfolding reading_result reading_buffer reading_octets found_octets
   read_good r reading m x h i e f g =
-      let w : (read_of net message).meaning ≡ Good m = ap (λ (t : Reading). t.meaning) (sym i) ∙ e in
-      let z : reading_number net message buffer ≡ 0 = number_long h ∙ ap read_number w in (
+      let w : (read_of net message).meaning ≡ Ok m = ap (λ (t : Reading). t.meaning) (sym i) ∙ e in
+      let z : reading_number net message buffer ≡ 0 = number_long h ∙ rw w in (
         g ∙ ap (λ (t : Reading). packed 0 24 (t.count * 12)) i ∙ sym (if_ok_new (reading_number net message buffer) _ _ z),
         f ∙ ap (λ (t : Reading). over (meaning_octets m ++ word_octets (take (t.count * 3) t.rows)) buffer) i
             ∙ rw (if_ok_new (reading_number net message buffer) (over (reading_octets (read_of net message)) buffer) buffer z, w),

@@ -7,11 +7,15 @@ use mathlib.Core.List.{List, [], ◌∷◌, ◌++◌}
 use lib.Dec.{eqb, leb}
 use lib.ListN.{length, take, drop}
 use lib.Seq.{take_all, take_at, length-take-le}
-use borrow.Author.Tests.{eqb-true, eq-eqb, ne_eqb, le-leb, lt-leb}
-use Rattle.checks.specs.Checks.{check, if_ok}
-use Rattle.checks.proofs.Laws.{and_right, cond_elim, check_holds, check_fails, if_ok_old}
+use borrow.Author.Tests.{eq-eqb, ne_eqb, le-leb, lt-leb}
+use Rattle.std.specs.Prelude.{Result, Ok, Err}
+use Rattle.checks.specs.Checks.{if_ok}
+use Rattle.checks.specs.Refusals.{number_of, answer_of, checked}
+use Rattle.checks.specs.declared.Refusal.{Refusal}
+use Rattle.checks.specs.declared.Refusal.TheVariants.{ShortBuffer, BadArgument}
+use Rattle.checks.proofs.Laws.{number_some, and_right, cond_elim, check_holds, check_fails, if_ok_new, if_ok_old}
+use Rattle.codec.proofs.Laws.{write_checks, octets_told, length_is, refused_leaves}
 use Rattle.octets.specs.Buffer.{over}
-use Rattle.octets.proofs.Buffer.{over_nothing}
 use Rattle.octets_words.specs.Words.{words_of, row_numbers}
 use Rattle.octets_words.proofs.Words.{words_length}
 use Rattle.nets.specs.Classes.{good_net}
@@ -25,7 +29,6 @@ use Rattle.codec_writing.specs.Octets.{message_octets}
 use Rattle.codec_writing.specs.Room.{rows_fit}
 use Rattle.codec_writing.proofs.Laws.{rows_few}
 use Rattle.codec.specs.Writing.{rows_allowed, writable, write_answer, write_octets, write_of}
-use Rattle.codec.specs.declared.WriteAnswer.{WriteAnswer}
 use Rattle.host_result.specs.Packed.{packed, bare}
 use Rattle.host_meaning.specs.Meaning.{meaning_at, meaning_octets}
 use Rattle.host_codec.specs.Codec.{same_octets, is_meaning, writing_number, writing_octets, writing_buffer, writing_result}
@@ -108,24 +111,15 @@ laid_length rows room x h e = sym (ap length (laid_out rows room x h e) ∙ word
 
 -- two lists that it refuses alike
 module _ (m : Message) (buffer : List ℕ) where
-  answer_refused : (numbers : List ℕ) → writable m numbers ≡ false → write_answer m numbers buffer ≡ check (leb 2048 (length buffer)) 3 16
-  unfolding write_answer
-  answer_refused numbers w = ap (check (leb 2048 (length buffer)) 3) (check_fails (writable m numbers) 16 0 w)
-
-  answer_some : (numbers : List ℕ) → writable m numbers ≡ false → write_answer m numbers buffer ≡ 0 → ⊥
-  unfolding check
-  answer_some numbers w e =
-      cond_elim (λ k. k ≡ 0 → ⊥) (leb 2048 (length buffer)) 16 3 (λ b z. absurd (omega arith)) (λ b z. absurd (omega arith)) (sym (answer_refused numbers w) ∙ e)
+  refused_is : (numbers : List ℕ) → writable m numbers ≡ false → write_of m numbers buffer ≡ checked (leb 2048 (length buffer)) ShortBuffer (Err BadArgument)
+  unfolding write_of
+  refused_is numbers w = rw w
 
   octets_none : (numbers : List ℕ) → writable m numbers ≡ false → write_octets m numbers buffer ≡ []
-  unfolding write_octets
-  octets_none numbers w = if_ok_old (write_answer m numbers buffer) (message_octets m (rows_of numbers)) [] (answer_some numbers w)
+  unfolding write_octets write_answer if_ok
+  octets_none numbers w = rw (refused_is numbers w) (cond_elim (λ (r : Result ℕ Refusal). cond (eqb (answer_of r) 0) (message_octets m (rows_of numbers)) [] ≡ []) (leb 2048 (length buffer)) _ _ (λ _. refl) (λ _. refl))
 
-  refused_is : (numbers : List ℕ) → writable m numbers ≡ false → write_of m numbers buffer ≡ record { answer = check (leb 2048 (length buffer)) 3 16; length = 0 }
-  unfolding write_of
-  refused_is numbers w = rw (answer_refused numbers w, octets_none numbers w)
-
-  pub refused_alike : (numbers others : List ℕ) → writable m numbers ≡ false → writable m others ≡ false → (a : WriteAnswer) (x : List ℕ)
+  pub refused_alike : (numbers others : List ℕ) → writable m numbers ≡ false → writable m others ≡ false → (a : Result ℕ Refusal) (x : List ℕ)
       → a ≡ write_of m numbers buffer → x ≡ over (write_octets m numbers buffer) buffer
       → (a ≡ write_of m others buffer) × (x ≡ over (write_octets m others buffer) buffer)
   refused_alike numbers others v w a x e f = (
@@ -134,22 +128,6 @@ module _ (m : Message) (buffer : List ℕ) where
   )
 
 -- ---- what the call answers and leaves
-
-packed_answer : (k : ℕ) (o : List ℕ) → packed k (length (if_ok k o [])) 0 ≡ if_ok k (packed 0 (length o) 0) (bare k)
-unfolding if_ok
-packed_answer k o = go (eqb k 0) refl
-  where
-    go : (b : Bool) → eqb k 0 ≡ b → packed k (length (cond (eqb k 0) o [])) 0 ≡ cond (eqb k 0) (packed 0 (length o) 0) (bare k)
-    go true e = rw (e, eqb-true k 0 e)
-    go false e = rw e
-
-over_answer : (k : ℕ) (o buffer : List ℕ) → over (if_ok k o []) buffer ≡ if_ok k (over o buffer) buffer
-unfolding if_ok
-over_answer k o buffer = go (eqb k 0)
-  where
-    go : (b : Bool) → over (cond b o []) buffer ≡ cond b (over o buffer) buffer
-    go true = refl
-    go false = over_nothing buffer
 
 -- what the comparison of octets found
 pub is_told : (meaning octets : List ℕ) (m : Message) (b : Bool) → b ≡ same_octets meaning octets → octets ≡ meaning_octets m → m ≡ meaning_at meaning → is_meaning meaning ≡ b
@@ -181,15 +159,22 @@ module _ (meaning rows buffer : List ℕ) where
 
   -- a meaning that reading can give: the answer is the writer's own
   number_writer : is_meaning meaning ≡ true → writing_number meaning rows buffer ≡ write_answer (meaning_at meaning) (row_numbers rows) buffer
-  unfolding writing_number write_answer
-  number_writer w = rw w
+  unfolding writing_number
+  number_writer w = rw w (sym (write_checks (meaning_at meaning) (row_numbers rows) buffer))
 
-  pub write_done : (r : ℕ) (a : WriteAnswer) (x : List ℕ) → is_meaning meaning ≡ true → a ≡ write_of (meaning_at meaning) (row_numbers rows) buffer
-      → x ≡ over (write_octets (meaning_at meaning) (row_numbers rows) buffer) buffer → r ≡ packed a.answer a.length 0
-      → (r ≡ writing_result meaning rows buffer) × (x ≡ writing_buffer meaning rows buffer)
-  unfolding writing_result writing_buffer writing_octets write_of write_octets
-  write_done r a x w e f g =
-      rw (number_writer w) (
-        g ∙ ap (λ (a : WriteAnswer). packed a.answer a.length 0) e ∙ packed_answer (write_answer (meaning_at meaning) (row_numbers rows) buffer) _,
-        f ∙ over_answer (write_answer (meaning_at meaning) (row_numbers rows) buffer) _ buffer,
-      )
+  module _ (x : List ℕ) (w : is_meaning meaning ≡ true) (f : x ≡ over (write_octets (meaning_at meaning) (row_numbers rows) buffer) buffer) where
+    pub write_done : (r n : ℕ) → write_of (meaning_at meaning) (row_numbers rows) buffer ≡ Ok n → r ≡ packed 0 n 0
+        → (r ≡ writing_result meaning rows buffer) × (x ≡ writing_buffer meaning rows buffer)
+    unfolding writing_result writing_buffer writing_octets write_answer
+    write_done r n e g =
+        let z : writing_number meaning rows buffer ≡ 0 = number_writer w ∙ rw e in (
+          g ∙ ap (λ (l : ℕ). packed 0 l 0) (length_is (meaning_at meaning) (row_numbers rows) buffer n e) ∙ sym (if_ok_new (writing_number meaning rows buffer) _ _ z),
+          f ∙ ap (λ (o : List ℕ). over o buffer) (octets_told (meaning_at meaning) (row_numbers rows) buffer n e) ∙ sym (if_ok_new (writing_number meaning rows buffer) _ _ z),
+        )
+
+    pub write_refused : (r : ℕ) (told : Refusal) → write_of (meaning_at meaning) (row_numbers rows) buffer ≡ Err told → r ≡ bare (number_of told)
+        → (r ≡ writing_result meaning rows buffer) × (x ≡ writing_buffer meaning rows buffer)
+    unfolding write_answer
+    write_refused r told e g =
+        let both = refused (number_of told) r (number_writer w ∙ rw e) (number_some told) g in
+        (both.0, f ∙ sym (refused_leaves (meaning_at meaning) (row_numbers rows) buffer told e) ∙ both.1)

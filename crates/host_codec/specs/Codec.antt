@@ -1,15 +1,16 @@
 -- Reading alone and writing for a C host. 02: "functions take numbers and octets only". A meaning is 24 octets, as in
 -- host_meaning, and its rows 12 octets each.
-use Rattle.std.specs.Prelude.{ℕ, ◌*◌, Bool, true, false, ◌&&◌, List, [], ◌∷◌, ◌++◌, eqb, leb, length, take}
+use Rattle.std.specs.Prelude.{ℕ, ◌*◌, Bool, true, false, ◌&&◌, List, [], ◌∷◌, ◌++◌, eqb, leb, length, take, Result, Ok, Err}
 use Rattle.checks.specs.Checks.{check, if_ok}
+use Rattle.checks.specs.Refusals.{answer_of}
+use Rattle.checks.specs.declared.Refusal.{Refusal}
 use Rattle.octets.specs.Buffer.{over}
 use Rattle.octets_words.specs.Words.{word_octets, row_numbers}
 use Rattle.nets.specs.Rows.{rows_of}
+use Rattle.message.specs.declared.Message.{Message}
 use Rattle.codec_writing.specs.Octets.{message_octets}
-use Rattle.codec.specs.Reading.{read_number, read_of}
+use Rattle.codec.specs.Reading.{read_of}
 use Rattle.codec.specs.Writing.{writable}
-use Rattle.codec.specs.declared.Meaning.{Meaning}
-use Rattle.codec.specs.declared.Meaning.TheVariants.{Good, Refused}
 use Rattle.codec.specs.declared.Reading.{Reading}
 use Rattle.host_result.specs.Packed.{packed, bare}
 use Rattle.host_meaning.specs.Meaning.{meaning_at, meaning_octets}
@@ -26,12 +27,12 @@ read_size = 1560
 
 -- 01: 3 "buffer too short", before 6; then reading alone's own number
 unfoldable pub reading_number : ℕ → List ℕ → List ℕ → ℕ
-reading_number net message buffer = check (leb read_size (length buffer)) 3 (read_number (read_of net message).meaning)
+reading_number net message buffer = check (leb read_size (length buffer)) 3 (answer_of (read_of net message).meaning)
 
 -- a meaning and the numbers of its rows behind it; of a refused message nothing
-unfoldable pub found_octets : Meaning → List ℕ → List ℕ
-found_octets (Good m) numbers = meaning_octets m ++ word_octets numbers
-found_octets (Refused number) numbers = []
+unfoldable pub found_octets : Result Message Refusal → List ℕ → List ℕ
+found_octets (Ok m) numbers = meaning_octets m ++ word_octets numbers
+found_octets (Err refused) numbers = []
 
 -- what is written at the front of the buffer: just as many rows as the message has, three numbers a row
 unfoldable pub reading_octets : Reading → List ℕ

@@ -7,7 +7,8 @@ ghost use Rattle.octets_words.specs.Words.{words_of, row_numbers};
 ghost use Rattle.codec.specs.Writing.{write_of, write_octets};
 ghost use Rattle.host_codec.specs.Codec.{reading_result, reading_buffer, same_octets, writing_result, writing_buffer};
 
-use codec::{Meaning, WriteAnswer};
+use checks::Refusal;
+use codec::Reading;
 use message::Message;
 
 // Reads a message alone, given the common net: its meaning goes into the buffer, and an Update's rows behind it.
@@ -18,16 +19,18 @@ pub fn read(buffer: &mut [u8], net: u32, message: &[u8]) -> u64
     if buffer.len() < 1560 {
         return host_result::alone(3);
     }
-    let reading = codec::read(net, message);
-    let meaning = reading.meaning;
+    let Reading {
+        meaning,
+        count,
+        rows,
+    } = codec::read(net, message);
     match meaning {
-        Meaning::Refused(number) => host_result::alone(number),
-        Meaning::Good(m) => {
+        Err(refusal) => host_result::alone(u8::from(refusal)),
+        Ok(m) => {
             octets::store(buffer, &host_meaning::meaning_octets(m));
-            let rows = reading.rows;
-            let numbers = reading.count as usize * 3;
+            let numbers = count as usize * 3;
             octets_words::write_words(&mut buffer[24..], &rows[..numbers]);
-            host_result::pack(0, 24, reading.count * 12)
+            host_result::pack(0, 24, count * 12)
         }
     }
 }
@@ -50,7 +53,7 @@ fn same_octets(octets: &[u8], others: &[u8]) -> bool
 }
 
 // Writes a message whose rows come as octets; their numbers are laid out in a lent room.
-fn write_words(buffer: &mut [u8], m: Message, rows: &[u8], room: &mut [u32]) -> WriteAnswer
+fn write_words(buffer: &mut [u8], m: Message, rows: &[u8], room: &mut [u32]) -> Result<u16, Refusal>
     requires { length rows.now ≤ length room.old * 4 }
     ensures value { result ≡ write_of m (words_of rows.now) buffer.old }
     ensures buffer_after { buffer.new ≡ over (write_octets m (words_of rows.now) buffer.old) buffer.old }
@@ -62,7 +65,7 @@ fn write_words(buffer: &mut [u8], m: Message, rows: &[u8], room: &mut [u32]) -> 
 
 // The same for rows of any length: where they are not whole, or more than may be written, the writer is given one
 // number, which it refuses.
-fn write_rows(buffer: &mut [u8], m: Message, rows: &[u8]) -> WriteAnswer
+fn write_rows(buffer: &mut [u8], m: Message, rows: &[u8]) -> Result<u16, Refusal>
     ensures value { result ≡ write_of m (row_numbers rows.now) buffer.old }
     ensures buffer_after { buffer.new ≡ over (write_octets m (row_numbers rows.now) buffer.old) buffer.old }
 {
@@ -88,6 +91,8 @@ pub fn write(buffer: &mut [u8], meaning: &[u8], rows: &[u8]) -> u64
     if !same_octets(meaning, &host_meaning::meaning_octets(m)) {
         return host_result::alone(16);
     }
-    let written = write_rows(buffer, m, rows);
-    host_result::pack(written.answer, written.length, 0)
+    match write_rows(buffer, m, rows) {
+        Ok(length) => host_result::pack(0, length, 0),
+        Err(refusal) => host_result::alone(u8::from(refusal)),
+    }
 }

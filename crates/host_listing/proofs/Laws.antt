@@ -9,10 +9,13 @@ use mathlib.Core.List.{List, [], ◌++◌}
 use lib.Dec.{eqb}
 use lib.ListN.{length, take, drop, get_or, length-take, length-drop}
 use lib.Seq.{take-take, take_all, take_at, get_or-take, get_or-drop, length-take-le}
+use Rattle.std.proofs.lemmas.List.{take-append-drop}
+use Rattle.std.proofs.Math.Seq.{drop-append_seam}
 use Rattle.checks.specs.Lists.{every, join}
 use Rattle.octets.specs.Numbers.{Octets, word32}
-use Rattle.octets.specs.Written.{Written}
-use Rattle.octets.proofs.Storing.{Writing, start, room, turn, last}
+use Rattle.text.specs.declared.Writer.{Writer}
+use Rattle.text.specs.Writer.{Puts, HasRoom}
+use Rattle.text.proofs.Writing.{puts_both, room_behind, all_left, part_room}
 use Rattle.octets_words.specs.Words.{words_of}
 use Rattle.octets_words.proofs.Words.{words_cons, words_take, words_drop, words_length}
 use Rattle.nets.specs.Rows.{Row, rows_of}
@@ -35,25 +38,31 @@ use Rattle.host_listing.specs.Steps.{Lent, used_octets}
 
 -- ---- third numbers, row by row
 
-module _ (u : List ℕ) where
-  -- twelve octets more are a row more
-  row_there : 12 ≤ length u → 2 < length (words_of u)
-  row_there h = rw (words_length u) (omega arith)
+-- the next twelve octets are three numbers, and those behind them
+module _ {rest : List ℕ} (xs u : List ℕ) (e : rest ≡ xs ++ u) (h : length xs ≡ 12) where
+  words : words_of rest ≡ words_of xs ++ words_of u
+  words =
+      let behind : drop 12 rest ≡ u = rw e (ap (λ (n : ℕ). drop n (xs ++ u)) (sym h) ∙ drop-append_seam xs u) in
+      let front : take 12 rest ≡ xs = rw e (take_at xs u 12 h) in
+      sym (take-append-drop 3 (words_of rest)) ∙ ap₂ (λ (l m : List ℕ). l ++ m) (sym (words_take 3 rest) ∙ ap words_of front) (sym (words_drop 3 rest) ∙ ap words_of behind)
 
-  third_at : 12 ≤ length u → get_or (words_of u) 2 0 ≡ word32 u 8
-  third_at h =
-      let k : 3 < length (drop 8 u) = rw (length-drop 8 u) (omega arith) in
-      sym (get_or-drop 2 (words_of u) 0 0) ∙ ap (λ (l : List ℕ). get_or l 0 0) (sym (words_drop 2 u) ∙ words_cons (drop 8 u) k)
-      ∙ rw (get_or-drop 8 u 0 0, get_or-drop 8 u 1 0, get_or-drop 8 u 2 0, get_or-drop 8 u 3 0)
+  three : length (words_of xs) ≡ 3
+  three = rw (words_length xs) (omega arith)
 
-  pub octets_not : 12 ≤ length u → 511 < word32 u 8 → every marked_row (rows_of (words_of u)) ≡ false
-  octets_not h k = marked_not (words_of u) (row_there h) (rw (third_at h) k)
+  third : get_or (words_of xs) 2 0 ≡ word32 xs 8
+  third =
+      let k : 3 < length (drop 8 xs) = rw (length-drop 8 xs) (omega arith) in
+      sym (get_or-drop 2 (words_of xs) 0 0) ∙ ap (λ (l : List ℕ). get_or l 0 0) (sym (words_drop 2 xs) ∙ words_cons (drop 8 xs) k)
+      ∙ rw (get_or-drop 8 xs 0 0, get_or-drop 8 xs 1 0, get_or-drop 8 xs 2 0, get_or-drop 8 xs 3 0)
 
-  pub octets_next : 12 ≤ length u → word32 u 8 ≤ 511 → every marked_row (rows_of (words_of u)) ≡ every marked_row (rows_of (words_of (drop 12 u)))
-  octets_next h k = marked_next (words_of u) (row_there h) (rw (third_at h) k) ∙ ap (λ (l : List ℕ). every marked_row (rows_of l)) (sym (words_drop 3 u))
+  pub octets_not : 511 < word32 xs 8 → every marked_row (rows_of (words_of rest)) ≡ false
+  octets_not k = marked_not (words_of xs) (words_of u) words three (rw third k)
 
-  pub octets_end : length u < 12 → every marked_row (rows_of (words_of u)) ≡ true
-  octets_end h = marked_end (words_of u) (rw (words_length u) (omega arith))
+  pub octets_next : word32 xs 8 ≤ 511 → every marked_row (rows_of (words_of rest)) ≡ every marked_row (rows_of (words_of u))
+  octets_next k = marked_next (words_of xs) (words_of u) words three (rw third k)
+
+pub octets_end : (u : List ℕ) → length u < 12 → every marked_row (rows_of (words_of u)) ≡ true
+octets_end u h = marked_end (words_of u) (rw (words_length u) (omega arith))
 
 -- ---- the used rows of a slot are a part of the table
 
@@ -109,13 +118,11 @@ module _ {block table : List ℕ} (l : Lent block table) (i : ℕ) {slot : Slot}
       unfolding slot_text entry_of
       text_is = rw used (ap₂ (λ (x : Slot) (rows : List Row). entry_text (slot_entry i x rows)) s rows_are)
 
-      pub used_room : (at : ℕ) (out : List ℕ) → at + length (slot_text (state_in block) i (words_of table)) ≤ length out
-          → at + length (entry_text (slot_entry i slot (rows_of (words_of octets)))) ≤ length out
-      used_room at out h = rw text_is h
+      pub used_room : (w : Writer) → HasRoom w (slot_text (state_in block) i (words_of table)) → HasRoom w (entry_text (slot_entry i slot (rows_of (words_of octets))))
+      used_room w h = rw text_is h
 
-      pub used_written : {at : ℕ} {old new : List ℕ} {end : ℕ} → Written (entry_text (slot_entry i slot (rows_of (words_of octets)))) at old new end
-          → Written (slot_text (state_in block) i (words_of table)) at old new end
-      used_written w = rw (← text_is) w
+      pub used_written : {w v : Writer} → Puts (entry_text (slot_entry i slot (rows_of (words_of octets)))) w v → Puts (slot_text (state_in block) i (words_of table)) w v
+      used_written p = rw (← text_is) p
 
 -- ---- the numbers of a slot's rows
 
@@ -144,24 +151,18 @@ module _ (i : ℕ) (slot : Slot) (octets : List ℕ) (u : List ℕ) (q : u ≡ w
   unfolding entry_text rows_text
   entry_is = rw q
 
-  module _ (at : ℕ) (old : List ℕ) (h : at + length (entry_text (slot_entry i slot (rows_of (words_of octets)))) ≤ length old) where
-    pub head_room : at + length (join (head_lines (slot_entry i slot (rows_of u)))) ≤ length old
+  module _ (w : Writer) (h : HasRoom w (entry_text (slot_entry i slot (rows_of (words_of octets))))) where
+    pub head_room : HasRoom w (join (head_lines (slot_entry i slot (rows_of u))))
     head_room =
-        room (start (entry_text (slot_entry i slot (rows_of (words_of octets)))) at old h)
+        part_room (all_left (entry_text (slot_entry i slot (rows_of (words_of octets)))) w h)
         (join (head_lines (slot_entry i slot (rows_of u)))) (rows_text (rows_of u)) entry_is
 
-    module _ {mid : List ℕ} {o : ℕ} (w : Written (join (head_lines (slot_entry i slot (rows_of u)))) at old mid o) where
-      from_rows : Writing (entry_text (slot_entry i slot (rows_of (words_of octets)))) at old (rows_text (rows_of u)) o mid
-      from_rows =
-          turn (start (entry_text (slot_entry i slot (rows_of (words_of octets)))) at old h)
-          (join (head_lines (slot_entry i slot (rows_of u)))) (rows_text (rows_of u)) entry_is w
+    module _ {mid : Writer} (p : Puts (join (head_lines (slot_entry i slot (rows_of u)))) w mid) where
+      pub rows_room : HasRoom mid (rows_text (rows_of u))
+      rows_room = room_behind (rows_text (rows_of u)) p (rw (← entry_is) h)
 
-      pub rows_room : o + length (rows_text (rows_of u)) ≤ length mid
-      rows_room = from_rows.fits
-
-      pub entry_done : {new : List ℕ} {end : ℕ} → Written (rows_text (rows_of u)) o mid new end
-          → Written (entry_text (slot_entry i slot (rows_of (words_of octets)))) at old new end
-      entry_done d = last from_rows d
+      pub entry_done : {new : Writer} → Puts (rows_text (rows_of u)) mid new → Puts (entry_text (slot_entry i slot (rows_of (words_of octets)))) w new
+      entry_done q = rw entry_is (puts_both p q)
 
 -- ---- a state that is read from octets has eight slots and 16-bit ASs
 

@@ -4,9 +4,10 @@
 
 ghost use Rattle.std.specs.Prelude.{◌≡◌, true, List, ℕ, ◌+◌, ◌*◌, ◌/◌, ◌≤◌, ◌<◌, length};
 ghost use Rattle.checks.specs.Lists.{every};
+ghost use Rattle.checks.specs.Refusals.{answer_of};
 ghost use Rattle.octets.specs.Buffer.{over};
-ghost use Rattle.octets.specs.Written.{Written};
 ghost use Rattle.octets_words.specs.Words.{words_of};
+ghost use Rattle.text.specs.Writer.{Puts, HasRoom};
 ghost use Rattle.nets.specs.Rows.{rows_of};
 ghost use Rattle.gateway_state.specs.Places.{slot_rows, slot_numbers};
 ghost use Rattle.listing_lines.specs.Lines.{entry_text, listing_text};
@@ -19,7 +20,9 @@ ghost use Rattle.host_rules.specs.Held.{table_size};
 ghost use Rattle.host_rules.specs.Calls.{number_of, result_of, buffer_after};
 ghost use Rattle.host_listing.specs.Steps.{Lent, used_octets};
 
+use checks::Refusal;
 use gateway_state::Slot;
+use text::Writer;
 
 // The octets of a number, and of a row of three.
 const NUMBER: usize = 4;
@@ -30,12 +33,10 @@ const ROW: usize = 12;
 fn are_rows_marked(rows: &[u8]) -> bool
     ensures { result ≡ every marked_row (rows_of (words_of rows.now)) }
 {
-    let mut rest = rows;
-    while ROW <= rest.len() {
-        if 511 < octets::word32_at(rest, 8) {
+    for row in rows.chunks_exact(ROW) {
+        if 511 < octets::word32_at(row, 8) {
             return false;
         }
-        rest = &rest[ROW..];
     }
     true
 }
@@ -65,106 +66,83 @@ fn are_slots_listable(block: &[u8], table: &[u8]) -> bool
     requires { Lent block.now table.now }
     ensures { result ≡ every listable (entries (state_in block.now) (words_of table.now)) }
 {
-    let mut i = 0;
-    while i < gateway_state::SLOTS {
+    for i in 0..gateway_state::SLOTS {
         if !is_slot_listable(block, i, table) {
             return false;
         }
-        i += 1;
     }
     true
 }
 
 // Checks 20, 1, 2 and 3, of a buffer of this length.
-fn listing_answer(block: &[u8], table: &[u8], octets: usize) -> u8
-    ensures { (buffer : List ℕ) → length buffer ≡ octets → result ≡ number_of (Model.listing buffer) block.now table.now }
+fn check(block: &[u8], table: &[u8], octets: usize) -> Result<(), Refusal>
+    ensures { (buffer : List ℕ) → length buffer ≡ octets → answer_of result ≡ number_of (Model.listing buffer) block.now table.now }
 {
     if block.len() != host_state_block::BLOCK {
-        return 20;
+        return Err(Refusal::WrongBlock);
     }
     if !host_state_block::is_formed(block) {
-        return 1;
+        return Err(Refusal::IllFormedState);
     }
     if table.len() != 12288 {
-        return 2;
+        return Err(Refusal::WrongTable);
     }
     if !are_slots_listable(block, table) {
-        return 2;
+        return Err(Refusal::WrongTable);
     }
     if octets < 65536 {
-        return 3;
+        return Err(Refusal::ShortBuffer);
     }
-    0
+    Ok(())
 }
 
 // Writes the lines of slot i, whose rows' octets these are; numbers is the room in which they become numbers.
-fn put_used(
-    out: &mut [u8],
-    at: usize,
-    i: usize,
-    slot: Slot,
-    numbers: &mut [u32],
-    octets: &[u8],
-) -> usize
+fn put_used(out: &mut Writer<'_>, i: usize, slot: Slot, numbers: &mut [u32], octets: &[u8])
     requires i_bound { (i ≤ 8) × (length octets.now / 4 ≤ length numbers.old) × (length numbers.old ≤ slot_numbers) }
-    requires octets_in_bounds { at + length (entry_text (slot_entry i slot (rows_of (words_of octets.now)))) ≤ length out.old }
-    ensures { Written (entry_text (slot_entry i slot (rows_of (words_of octets.now)))) at out.old out.new result }
+    requires room { HasRoom out.old (entry_text (slot_entry i slot (rows_of (words_of octets.now)))) }
+    ensures { Puts (entry_text (slot_entry i slot (rows_of (words_of octets.now)))) out.old out.new }
 {
     let count = octets.len() / NUMBER;
     octets_words::read_words(&mut numbers[..count], octets);
     let rows = &numbers[..count];
-    let head = listing_lines::put_head(out, at, i, slot, rows);
-    listing_lines::put_rows(out, head, rows)
+    listing_lines::put_head(out, i, slot, rows);
+    listing_lines::put_rows(out, rows);
 }
 
 // The same, if slot i is used.
-fn put_slot(out: &mut [u8], at: usize, block: &[u8], i: usize, table: &[u8]) -> usize
+fn put_slot(out: &mut Writer<'_>, block: &[u8], i: usize, table: &[u8])
     requires lent { Lent block.now table.now × (i < 8) }
-    requires table_in_bounds { at + length (slot_text (state_in block.now) i (words_of table.now)) ≤ length out.old }
-    ensures { Written (slot_text (state_in block.now) i (words_of table.now)) at out.old out.new result }
+    requires room { HasRoom out.old (slot_text (state_in block.now) i (words_of table.now)) }
+    ensures { Puts (slot_text (state_in block.now) i (words_of table.now)) out.old out.new }
 {
     let slot = host_state_block::slot_at(block, i);
     if slot.address == 0 {
-        return at;
+        return;
     }
     let mut numbers = [0u32; 384];
-    put_used(
-        out,
-        at,
-        i,
-        slot,
-        &mut numbers,
-        used_rows(table, i, slot.rows),
-    )
+    put_used(out, i, slot, &mut numbers, used_rows(table, i, slot.rows));
 }
 
-fn put_slots(out: &mut [u8], at: usize, block: &[u8], table: &[u8]) -> usize
+fn put_slots(out: &mut Writer<'_>, block: &[u8], table: &[u8])
     requires lent { Lent block.now table.now }
-    requires table_in_bounds { at + length (slots_text (state_in block.now) (words_of table.now)) ≤ length out.old }
-    ensures { Written (slots_text (state_in block.now) (words_of table.now)) at out.old out.new result }
+    requires room { HasRoom out.old (slots_text (state_in block.now) (words_of table.now)) }
+    ensures { Puts (slots_text (state_in block.now) (words_of table.now)) out.old out.new }
 {
-    let mut end = at;
-    let mut i = 0;
-    while i < gateway_state::SLOTS {
-        end = put_slot(out, end, block, i, table);
-        i += 1;
+    for i in 0..gateway_state::SLOTS {
+        put_slot(out, block, i, table);
     }
-    end
 }
 
 // How many slots are used.
-fn neighbours(block: &[u8]) -> u32
+fn neighbours(block: &[u8]) -> usize
     requires { length block.now ≡ block_size }
     ensures { (table : List ℕ) → result ≡ length (entries (state_in block.now) table) }
 {
     let mut count = 0;
-    let mut i = 0;
-    while i < gateway_state::SLOTS {
-        let slot = host_state_block::slot_at(block, i);
-        if slot.address != 0 {
+    for i in 0..gateway_state::SLOTS {
+        if host_state_block::slot_at(block, i).address != 0 {
             count += 1;
         }
-        i += 1;
     }
     count
 }
@@ -172,12 +150,14 @@ fn neighbours(block: &[u8]) -> u32
 // Writes the whole text at the front of the buffer.
 fn put_listing(out: &mut [u8], block: &[u8], table: &[u8]) -> usize
     requires lent { Lent block.now table.now }
-    requires table_in_bounds { length (listing_text (entries (state_in block.now) (words_of table.now))) ≤ length out.old }
+    requires room { length (listing_text (entries (state_in block.now) (words_of table.now))) ≤ length out.old }
     ensures value { result ≡ length (listing_text (entries (state_in block.now) (words_of table.now))) }
     ensures out_after { out.new ≡ over (listing_text (entries (state_in block.now) (words_of table.now))) out.old }
 {
-    let start = text::put_line_decimal(out, 0, b"neighbours=", neighbours(block));
-    put_slots(out, start, block, table)
+    let mut writer = Writer::new(out);
+    writer.put_line(b"neighbours=", neighbours(block) as u64);
+    put_slots(&mut writer, block, table);
+    writer.end()
 }
 
 // Lists the table as text.
@@ -185,9 +165,8 @@ pub fn listing(block: &[u8], table: &[u8], text: &mut [u8]) -> u64
     ensures value { result ≡ result_of (Model.listing text.old) block.now table.now }
     ensures text_after { text.new ≡ buffer_after (Model.listing text.old) block.now table.now }
 {
-    let answer = listing_answer(block, table, text.len());
-    if answer != 0 {
-        return host_result::alone(answer);
+    if let Err(refusal) = check(block, table, text.len()) {
+        return host_result::alone(u8::from(refusal));
     }
     let length = put_listing(text, block, table);
     host_result::pack(0, length as u16, 0)

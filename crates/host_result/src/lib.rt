@@ -2,7 +2,10 @@
 #![tactic(auto)]
 
 ghost use Rattle.std.specs.Prelude.{◌≡◌};
+ghost use Rattle.checks.specs.Refusals.{answer_of};
 ghost use Rattle.host_result.specs.Packed.{packed, bare};
+
+use checks::Refusal;
 
 pub fn pack(answer: u8, first: u16, second: u16) -> u64
     ensures { result ≡ packed answer first second }
@@ -15,4 +18,14 @@ pub fn alone(answer: u8) -> u64
     ensures { result ≡ bare answer }
 {
     pack(answer, 0, 0)
+}
+
+// A call that never replies: carried out, or why it is refused.
+pub fn answered(made: Result<(), Refusal>) -> u64
+    ensures { result ≡ bare (answer_of made) }
+{
+    match made {
+        Ok(()) => alone(0),
+        Err(refusal) => alone(u8::from(refusal)),
+    }
 }

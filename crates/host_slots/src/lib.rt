@@ -2,9 +2,12 @@
 #![tactic(auto)]
 
 ghost use Rattle.std.specs.Prelude.{◌≡◌, List, ℕ};
+ghost use Rattle.checks.specs.Refusals.{answer_of};
 ghost use Rattle.model.specs.Model as M;
+ghost use Rattle.host_result.specs.Packed.{bare};
 ghost use Rattle.host_rules.specs.Calls.{result_of, block_after, fresh_result, fresh_block};
 
+use checks::Refusal;
 use neighbour::Settings;
 
 // A new state.
@@ -16,61 +19,72 @@ pub fn fresh(block: &mut [u8], settings: Settings) -> u64
         return host_result::alone(20);
     }
     let o = gateway_slots::fresh(settings);
-    let answer = o.answer;
-    if answer != 0 {
-        return host_result::alone(answer);
+    if o.answer != 0 {
+        return host_result::alone(o.answer);
     }
-    let st = o.state;
-    host_state_block::write_state(block, st);
+    host_state_block::write_state(block, o.state);
     host_result::alone(0)
+}
+
+// Adds a neighbour, or says why not.
+fn put_neighbour(block: &mut [u8], address: u32, asn: u16) -> Result<(), Refusal>
+    ensures value { (table : List ℕ) → bare (answer_of result) ≡ result_of (M.add address asn) block.old table }
+    ensures block_after { (table : List ℕ) → block.new ≡ block_after (M.add address asn) block.old table }
+{
+    if block.len() != host_state_block::BLOCK {
+        return Err(Refusal::WrongBlock);
+    }
+    if !host_state_block::is_formed(block) {
+        return Err(Refusal::IllFormedState);
+    }
+    if !gateway_state::good_peer(host_state_block::settings_of(block), address, asn) {
+        return Err(Refusal::BadArgument);
+    }
+    if host_state_block::slot_of(block, address).is_some() {
+        return Err(Refusal::BadArgument);
+    }
+    let Some(free) = host_state_block::lowest_free(block) else {
+        return Err(Refusal::NoFreeSlot);
+    };
+    host_state_block::put_slot(block, free, gateway_state::new_slot(address, asn));
+    Ok(())
 }
 
 pub fn add(block: &mut [u8], address: u32, asn: u16) -> u64
     ensures value { (table : List ℕ) → result ≡ result_of (M.add address asn) block.old table }
     ensures block_after { (table : List ℕ) → block.new ≡ block_after (M.add address asn) block.old table }
 {
-    if block.len() != host_state_block::BLOCK {
-        return host_result::alone(20);
-    }
-    if !host_state_block::is_formed(block) {
-        return host_result::alone(1);
-    }
-    let settings = host_state_block::settings_of(block);
-    if !gateway_state::good_peer(settings, address, asn) {
-        return host_result::alone(16);
-    }
-    if host_state_block::slot_of(block, address) < gateway_state::SLOTS {
-        return host_result::alone(16);
-    }
-    let free = host_state_block::lowest_free(block);
-    if gateway_state::SLOTS <= free {
-        return host_result::alone(17);
-    }
-    host_state_block::put_slot(block, free, gateway_state::new_slot(address, asn));
-    host_result::alone(0)
+    host_result::answered(put_neighbour(block, address, asn))
 }
 
-// Only an Idle neighbour is removed, so that no row of the table outlives it.
+// Removes a neighbour, or says why not. Only an Idle one is removed, so that no row of the table outlives it.
+fn free_neighbour(block: &mut [u8], address: u32) -> Result<(), Refusal>
+    ensures value { (table : List ℕ) → bare (answer_of result) ≡ result_of (M.remove address) block.old table }
+    ensures block_after { (table : List ℕ) → block.new ≡ block_after (M.remove address) block.old table }
+{
+    if block.len() != host_state_block::BLOCK {
+        return Err(Refusal::WrongBlock);
+    }
+    if !host_state_block::is_formed(block) {
+        return Err(Refusal::IllFormedState);
+    }
+    let Some(i) = host_state_block::slot_of(block, address) else {
+        return Err(Refusal::UnknownNeighbour);
+    };
+    if !host_state_block::slot_at(block, i)
+        .neighbour
+        .phase
+        .is_idle()
+    {
+        return Err(Refusal::NotIdle);
+    }
+    host_state_block::put_slot(block, i, gateway_state::free_slot());
+    Ok(())
+}
+
 pub fn remove(block: &mut [u8], address: u32) -> u64
     ensures value { (table : List ℕ) → result ≡ result_of (M.remove address) block.old table }
     ensures block_after { (table : List ℕ) → block.new ≡ block_after (M.remove address) block.old table }
 {
-    if block.len() != host_state_block::BLOCK {
-        return host_result::alone(20);
-    }
-    if !host_state_block::is_formed(block) {
-        return host_result::alone(1);
-    }
-    let i = host_state_block::slot_of(block, address);
-    if gateway_state::SLOTS <= i {
-        return host_result::alone(5);
-    }
-    let slot = host_state_block::slot_at(block, i);
-    let n = slot.neighbour;
-    let phase = n.phase;
-    if !neighbour::is_idle(phase) {
-        return host_result::alone(18);
-    }
-    host_state_block::put_slot(block, i, gateway_state::free_slot());
-    host_result::alone(0)
+    host_result::answered(free_neighbour(block, address))
 }

@@ -5,7 +5,6 @@ use mathlib.Core.Path.{◌≡◌, refl, sym, ap, ◌∙◌}
 use mathlib.Core.Bool.{Bool, true, false, ◌&&◌}
 use mathlib.Core.List.{List}
 use lib.ListN.{length, take, drop, length-drop}
-use lib.Seq.{drop-drop, length-take-le}
 use Rattle.checks.specs.Lists.{every, distinct}
 use Rattle.checks.proofs.Laws.{part_from_lem}
 use Rattle.neighbour.specs.declared.Settings.{Settings}
@@ -36,53 +35,36 @@ unfolding parts_formed
 parts_end g zero rest h = refl
 parts_end g (suc n) rest h = absurd (omega (arith, h))
 
--- ---- over the octets of so many slots, some of them left
+-- ---- over the octets of the slots, some of them passed
 
-pub record Walked (g : Settings) (slots : List ℕ) (count : ℕ) (rest : List ℕ) (left : ℕ) : Type 0 where
-  pub few : left ≤ count
-  pub size : length rest ≡ left * slot_size
-  pub is : rest ≡ drop ((count - left) * slot_size) slots
+pub record Walked (g : Settings) (slots : List ℕ) (rest : List ℕ) (i : ℕ) : Type 0 where
+  pub size : length rest ≡ (8 - i) * slot_size
   -- those that were passed are formed
-  pub same : parts_formed g count slots ≡ parts_formed g left rest
+  pub same : parts_formed g 8 slots ≡ parts_formed g (8 - i) rest
 
-pub walk_start : (g : Settings) (slots : List ℕ) (count : ℕ) → length slots ≡ count * slot_size → Walked g slots count slots count
-walk_start g slots count e =
-    let z : 0 ≡ (count - count) * slot_size = omega arith in
-    record { few = omega arith; size = e; is = ap (λ (k : ℕ). drop k slots) z; same = refl }
+pub walk_start : (g : Settings) (slots : List ℕ) → length slots ≡ 8 * slot_size → Walked g slots slots 0
+walk_start g slots e = record { size = e; same = refl }
 
-module _ {g : Settings} {slots : List ℕ} {count : ℕ} {rest : List ℕ} {left : ℕ} (w : Walked g slots count rest left) where
-  module _ (h : 0 < left) where
+module _ {g : Settings} {slots rest : List ℕ} {i : ℕ} (w : Walked g slots rest i) where
+  module _ (h : i < 8) where
     pub walk_room : slot_size ≤ length rest
     walk_room = omega (arith, w.size, h)
 
-    pub walk_part : length (take slot_size rest) ≡ slot_size
-    walk_part = length-take-le slot_size rest walk_room
+    module _ (part later : List ℕ) (p : part ≡ take slot_size rest) (l : later ≡ drop slot_size rest) where
+      pub walk_ill : part_formed g part ≡ false → parts_formed g 8 slots ≡ false
+      walk_ill e = w.same ∙ part_ill g (8 - i) rest (omega (arith, h)) (rw p at e)
 
-    pub walk_ill : part_formed g (take slot_size rest) ≡ false → parts_formed g count slots ≡ false
-    walk_ill e = w.same ∙ part_ill g left rest h e
+      pub walk_next : part_formed g part ≡ true → Walked g slots later (i + 1)
+      walk_next e =
+          let k : 8 - i - 1 ≡ 8 - (i + 1) = omega arith in
+          rw l
+          (record {
+            size = length-drop slot_size rest ∙ omega (arith, w.size, h);
+            same = w.same ∙ part_formed_lem g (8 - i) rest (omega (arith, h)) (rw p at e) ∙ ap (λ (n : ℕ). parts_formed g n (drop slot_size rest)) k;
+          })
 
-    behind : part_formed g (take slot_size rest) ≡ true → Walked g slots count (drop slot_size rest) (left - 1)
-    behind e =
-        let k : (count - left) * slot_size + slot_size ≡ (count - (left - 1)) * slot_size = omega (arith, w.few, h) in
-        record {
-          few = omega (arith, w.few);
-          size = length-drop slot_size rest ∙ omega (arith, w.size, h);
-          is =
-              ap (drop slot_size) w.is ∙ drop-drop slot_size ((count - left) * slot_size) slots
-              ∙ ap (λ (m : ℕ). drop m slots) k;
-          same = w.same ∙ part_formed_lem g left rest h e;
-        }
-
-    pub walk_next : part_formed g (take slot_size rest) ≡ true
-        → Walked g slots count (take (length rest - slot_size) (drop slot_size rest)) (left - 1)
-    walk_next e = rw (part_from_lem slot_size rest) (behind e)
-
-  pub walk_end : left ≤ 0 → parts_formed g count slots ≡ true
-  walk_end h = w.same ∙ parts_end g left rest h
-
-  -- what is left decides
-  pub walk_left : parts_formed g count slots ≡ parts_formed g left (drop ((count - left) * slot_size) slots)
-  walk_left = w.same ∙ ap (parts_formed g left) w.is
+  pub walk_end : 8 ≤ i → parts_formed g 8 slots ≡ true
+  walk_end h = w.same ∙ parts_end g (8 - i) rest (omega (arith, h))
 
 -- ---- the whole block
 
@@ -99,20 +81,20 @@ block_formed_lem block =
     settings_first (all_in_range 8 (drop own_size block)) (good_settings (state_in block).settings) (every (slot_formed (state_in block).settings) (slots_in 8 (drop own_size block))) (distinct apart (addresses (state_in block)))
     ∙ ap (λ (b : Bool). good_settings (state_in block).settings && (b && distinct apart (addresses (state_in block)))) (sym (parts_are (state_in block).settings 8 (drop own_size block)))
 
--- what each test says
-module _ (block : List ℕ) (g : Settings) (s : g ≡ (state_in block).settings) where
-  in_order : (slots : List ℕ) → slots ≡ drop own_size block → block_formed block ≡ (good_settings g && (parts_formed g 8 slots && distinct apart (addresses (state_in block))))
-  in_order slots p =
+-- what the tests say together
+module _ (block : List ℕ) (g : Settings) (slots l : List ℕ) (s : g ≡ (state_in block).settings) (p : slots ≡ drop own_size block) (a : l ≡ addresses (state_in block)) where
+  tests_say : block_formed block ≡ (good_settings g && (parts_formed g 8 slots && distinct apart l))
+  tests_say =
       block_formed_lem block
       ∙ ap (λ (x : Settings). good_settings x && (parts_formed x 8 (drop own_size block) && distinct apart (addresses (state_in block)))) (sym s)
-      ∙ ap (λ (l : List ℕ). good_settings g && (parts_formed g 8 l && distinct apart (addresses (state_in block)))) (sym p)
+      ∙ ap (λ (x : List ℕ). good_settings g && (parts_formed g 8 x && distinct apart (addresses (state_in block)))) (sym p)
+      ∙ ap (λ (x : List ℕ). good_settings g && (parts_formed g 8 slots && distinct apart x)) (sym a)
 
-  pub settings_ill : good_settings g ≡ false → block_formed block ≡ false
-  settings_ill e = in_order (drop own_size block) refl ∙ rw e
+  pub settings_ill : good_settings g ≡ false → false ≡ block_formed block
+  settings_ill e = sym (tests_say ∙ rw e)
 
-  module _ (good : good_settings g ≡ true) (slots : List ℕ) (p : slots ≡ drop own_size block) where
-    pub slots_ill : parts_formed g 8 slots ≡ false → block_formed block ≡ false
-    slots_ill e = in_order slots p ∙ rw (good, e)
+  pub slots_ill : good_settings g ≡ true → parts_formed g 8 slots ≡ false → false ≡ block_formed block
+  slots_ill e f = sym (tests_say ∙ rw (e, f))
 
-    pub slots_formed : parts_formed g 8 slots ≡ true → (l : List ℕ) → l ≡ addresses (state_in block) → distinct apart l ≡ block_formed block
-    slots_formed e l q = ap (distinct apart) q ∙ sym (in_order slots p ∙ rw (good, e))
+  pub slots_formed : good_settings g ≡ true → parts_formed g 8 slots ≡ true → distinct apart l ≡ block_formed block
+  slots_formed e f = sym (tests_say ∙ rw (e, f))

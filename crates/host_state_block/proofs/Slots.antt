@@ -7,8 +7,10 @@ use mathlib.Core.Bool.{Bool, true, false, ◌&&◌}
 use mathlib.Core.List.{List, [], ◌∷◌, ◌++◌, map}
 use lib.ListN.{length, get_or, take, drop, set, length-append, length-drop, take-append-drop}
 use lib.Seq.{sets, sets-eq, drop_at, drop-drop, get_or-take, length-take-le}
-use borrow.Author.Tests.{leb-true}
-use lib.Dec.{leb}
+use borrow.Author.Tests.{leb-true, ne_eqb}
+use lib.Dec.{leb, eqb}
+use Rattle.std.specs.Prelude.{Result, Ok, Err, MatchResult}
+use Rattle.std.specs.Result.{result_unwrap_or}
 use Rattle.checks.specs.Lists.{every}
 use Rattle.checks.proofs.Laws.{and_left, and_right}
 use Rattle.octets.specs.Numbers.{Octets}
@@ -54,6 +56,25 @@ mode_number_lem zero h = refl
 mode_number_lem (suc zero) h = refl
 mode_number_lem (suc (suc zero)) h = refl
 mode_number_lem (suc (suc (suc n))) h = absurd (omega (arith, h))
+
+idle_above : (n : ℕ) → 4 < n → Idle ≡ phase_at n
+idle_above n h =
+    let other : (k : ℕ) → k ≤ 4 → eqb n k ≡ false = λ k b. ne_eqb n k (λ e. omega (arith, e, b, h)) in
+    rw (other 1 (omega arith), other 2 (omega arith), other 3 (omega arith), other 4 (omega arith))
+
+unset_above : (n : ℕ) → 2 < n → Unset ≡ mode_at n
+unset_above n h =
+    let other : (k : ℕ) → k ≤ 2 → eqb n k ≡ false = λ k b. ne_eqb n k (λ e. omega (arith, e, b, h)) in
+    rw (other 1 (omega arith), other 2 (omega arith))
+
+-- as they are read, those of a number that stands for none too
+pub phase_read : {E : Type 0} (n : ℕ) (r : Result Phase E) → MatchResult r (λ phase. n ≡ phase_number phase) (λ _. 4 < n) → result_unwrap_or r Idle ≡ phase_at n
+phase_read n (Ok p) e = sym (ap phase_at e ∙ phase_back p)
+phase_read n (Err x) h = idle_above n h
+
+pub mode_read : {E : Type 0} (n : ℕ) (r : Result Mode E) → MatchResult r (λ mode. n ≡ mode_number mode) (λ _. 2 < n) → result_unwrap_or r Unset ≡ mode_at n
+mode_read n (Ok m) e = sym (ap mode_at e ∙ mode_back m)
+mode_read n (Err x) h = unset_above n h
 
 -- ---- one slot
 
@@ -158,19 +179,6 @@ slots_set (x ∷ rest) (suc i) slot h =
 pub address_part : (l : List ℕ) → address_of (slot_in (take slot_size l)) ≡ address_of (slot_in l)
 unfolding slot_in slot_of numbers_at
 address_part l = rw (get_or-take slot_size l 0 0 (omega arith), get_or-take slot_size l 1 0 (omega arith), get_or-take slot_size l 2 0 (omega arith), get_or-take slot_size l 3 0 (omega arith))
-
--- those of n slots from the k-th on
-abbrev pub addresses_from : ℕ → ℕ → List ℕ → List ℕ
-addresses_from zero k l = []
-addresses_from (suc n) k l = address_of (slot_in (drop (k * slot_size) l)) ∷ addresses_from n (suc k) l
-
-pub slots_addresses : (n k : ℕ) (l : List ℕ) → map address_of (slots_in n (drop (k * slot_size) l)) ≡ addresses_from n k l
-unfolding slots_in
-slots_addresses zero k l = refl
-slots_addresses (suc n) k l =
-    let e : k * slot_size + slot_size ≡ suc k * slot_size = omega arith in
-    rw (address_part (drop (k * slot_size) l), drop-drop slot_size (k * slot_size) l, e)
-    (ap (λ (r : List ℕ). address_of (slot_in (drop (k * slot_size) l)) ∷ r) (slots_addresses n (suc k) l))
 
 -- ---- check 1, slot by slot
 

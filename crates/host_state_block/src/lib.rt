@@ -3,10 +3,9 @@
 
 ghost use Rattle.std.specs.Prelude.{◌≡◌, true, ◌+◌, ◌*◌, ◌-◌, ◌≤◌, ◌<◌, length, drop};
 ghost use Rattle.std.proofs.lemmas.List.Edits.{sets};
-ghost use Rattle.checks.specs.Lists.{every, distinct};
 ghost use Rattle.octets.specs.Buffer.{over};
-ghost use Rattle.neighbour.specs.Record.{phase_number, mode_number};
 ghost use Rattle.gateway_state.specs.Slots as Slots;
+ghost use Rattle.gateway_state.specs.Found.{Finds};
 ghost use Rattle.host_state_block.specs.Block.{own_size, slot_size, block_size, slot_start, phase_at, mode_at, own_octets, slot_octets, slots_octets, block_of, settings_in, slot_in, state_in};
 ghost use Rattle.host_state_block.specs.Formed.{in_range, block_formed};
 ghost use Rattle.host_state_block.specs.Steps.{part_formed, parts_formed};
@@ -22,60 +21,20 @@ const OWN: usize = 12;
 
 const SLOT: usize = 49;
 
-const SLOTS: usize = 8;
-
 // The state that a number stands for, counted from 0 in 01's order; numbers above 4 stand for none.
+#[tactic(auto, using(crate::proofs::Slots::phase_read))]
 fn phase_at(number: u8) -> Phase
     ensures { result ≡ phase_at number }
 {
-    if number == 1 {
-        return Phase::Acquisition;
-    }
-    if number == 2 {
-        return Phase::Down;
-    }
-    if number == 3 {
-        return Phase::Up;
-    }
-    if number == 4 {
-        return Phase::Cease;
-    }
-    Phase::Idle
-}
-
-fn phase_number(phase: Phase) -> u8
-    ensures { result ≡ phase_number phase }
-{
-    match phase {
-        Phase::Idle => 0,
-        Phase::Acquisition => 1,
-        Phase::Down => 2,
-        Phase::Up => 3,
-        Phase::Cease => 4,
-    }
+    Phase::try_from(number).unwrap_or(Phase::Idle)
 }
 
 // The mode that a number stands for: none, active, passive.
+#[tactic(auto, using(crate::proofs::Slots::mode_read))]
 fn mode_at(number: u8) -> Mode
     ensures { result ≡ mode_at number }
 {
-    if number == 1 {
-        return Mode::Active;
-    }
-    if number == 2 {
-        return Mode::Passive;
-    }
-    Mode::Unset
-}
-
-fn mode_number(mode: Mode) -> u8
-    ensures { result ≡ mode_number mode }
-{
-    match mode {
-        Mode::Unset => 0,
-        Mode::Active => 1,
-        Mode::Passive => 2,
-    }
+    Mode::try_from(number).unwrap_or(Mode::Unset)
 }
 
 // The settings in their part of a block.
@@ -84,10 +43,10 @@ fn read_settings(part: &[u8]) -> Settings
     ensures { result ≡ settings_in part.now }
 {
     Settings {
-        asn: octets::pair(part[0], part[1]),
-        own: octets::quad(part[2], part[3], part[4], part[5]),
+        asn: u16::from_be_bytes([part[0], part[1]]),
+        own: u32::from_be_bytes([part[2], part[3], part[4], part[5]]),
         capability: part[6],
-        net: octets::quad(part[7], part[8], part[9], part[10]),
+        net: u32::from_be_bytes([part[7], part[8], part[9], part[10]]),
         quiet: part[11],
     }
 }
@@ -98,13 +57,13 @@ fn read_neighbour(part: &[u8]) -> Neighbour
     ensures { result ≡ (slot_in part.now).neighbour }
 {
     Neighbour {
-        s: octets::pair(part[6], part[7]),
-        r: octets::pair(part[8], part[9]),
-        period1: octets::pair(part[10], part[11]),
-        period2: octets::pair(part[12], part[13]),
-        t1: octets::pair(part[14], part[15]),
-        t2: octets::pair(part[16], part[17]),
-        t3: octets::pair(part[18], part[19]),
+        s: u16::from_be_bytes([part[6], part[7]]),
+        r: u16::from_be_bytes([part[8], part[9]]),
+        period1: u16::from_be_bytes([part[10], part[11]]),
+        period2: u16::from_be_bytes([part[12], part[13]]),
+        t1: u16::from_be_bytes([part[14], part[15]]),
+        t2: u16::from_be_bytes([part[16], part[17]]),
+        t3: u16::from_be_bytes([part[18], part[19]]),
         phase: phase_at(part[22]),
         mode: mode_at(part[23]),
         register: part[24],
@@ -121,11 +80,11 @@ fn read_seconds(part: &[u8]) -> Seconds
     ensures { result ≡ (slot_in part.now).seconds }
 {
     Seconds {
-        idle: octets::quad(part[29], part[30], part[31], part[32]),
-        acquisition: octets::quad(part[33], part[34], part[35], part[36]),
-        down: octets::quad(part[37], part[38], part[39], part[40]),
-        up: octets::quad(part[41], part[42], part[43], part[44]),
-        cease: octets::quad(part[45], part[46], part[47], part[48]),
+        idle: u32::from_be_bytes([part[29], part[30], part[31], part[32]]),
+        acquisition: u32::from_be_bytes([part[33], part[34], part[35], part[36]]),
+        down: u32::from_be_bytes([part[37], part[38], part[39], part[40]]),
+        up: u32::from_be_bytes([part[41], part[42], part[43], part[44]]),
+        cease: u32::from_be_bytes([part[45], part[46], part[47], part[48]]),
     }
 }
 
@@ -135,10 +94,10 @@ fn read_slot(part: &[u8]) -> Slot
     ensures { result ≡ slot_in part.now }
 {
     Slot {
-        address: octets::quad(part[0], part[1], part[2], part[3]),
-        asn: octets::pair(part[4], part[5]),
+        address: u32::from_be_bytes([part[0], part[1], part[2], part[3]]),
+        asn: u16::from_be_bytes([part[4], part[5]]),
         neighbour: read_neighbour(part),
-        rows: octets::pair(part[20], part[21]),
+        rows: u16::from_be_bytes([part[20], part[21]]),
         seconds: read_seconds(part),
     }
 }
@@ -165,8 +124,7 @@ pub fn slot_at(block: &[u8], i: usize) -> Slot
     ensures { result ≡ Slots.slot_at (state_in block.now) i }
 {
     let start = slot_start(i);
-    let end = start + SLOT;
-    read_slot(&block[start..end])
+    read_slot(&block[start..start + SLOT])
 }
 
 // The state whose block this is, whole. The calls read one slot.
@@ -174,41 +132,29 @@ pub fn read_state(block: &[u8]) -> State
     requires { block_size ≤ length block.now }
     ensures { result ≡ state_in block.now }
 {
-    let settings = settings_of(block);
-    let slots = [
-        slot_at(block, 0),
-        slot_at(block, 1),
-        slot_at(block, 2),
-        slot_at(block, 3),
-        slot_at(block, 4),
-        slot_at(block, 5),
-        slot_at(block, 6),
-        slot_at(block, 7),
-    ];
-    State { settings, slots }
+    State {
+        settings: settings_of(block),
+        slots: std::array::from_fn(|i| slot_at(block, i)),
+    }
 }
 
 // ---- check 1
 
 // Whether a slot's state and mode stand for one.
+#[tactic(auto, unfolding(crate::specs::Formed::in_range, crate::specs::Layout::numbers_at))]
 fn is_in_range(part: &[u8]) -> bool
     requires { length part.now ≡ slot_size }
     ensures { result ≡ in_range part.now }
 {
-    if 4 < part[22] {
-        return false;
-    }
-    part[23] <= 2
+    part[22] <= 4 && part[23] <= 2
 }
 
+#[tactic(auto, unfolding(crate::specs::Steps::part_formed))]
 fn is_slot_formed(settings: Settings, part: &[u8]) -> bool
     requires { length part.now ≡ slot_size }
     ensures { result ≡ part_formed settings part.now }
 {
-    if !is_in_range(part) {
-        return false;
-    }
-    gateway_state::is_slot_formed(settings, read_slot(part))
+    is_in_range(part) && gateway_state::is_slot_formed(settings, read_slot(part))
 }
 
 // A short way for a slot in Up, which most are: true where it is formed. Of another slot false says nothing.
@@ -216,52 +162,23 @@ fn is_up_formed(settings: Settings, part: &[u8]) -> bool
     requires { length part.now ≡ slot_size }
     ensures { result ≡ true → part_formed settings part.now ≡ true }
 {
-    if !is_in_range(part) {
-        return false;
-    }
-    gateway_state::is_up_slot_formed(
-        settings,
-        octets::quad(part[0], part[1], part[2], part[3]),
-        octets::pair(part[4], part[5]),
-        read_neighbour(part),
-        octets::pair(part[20], part[21]),
-        read_seconds(part),
-    )
+    is_in_range(part)
+        && gateway_state::is_up_slot_formed(
+            settings,
+            u32::from_be_bytes([part[0], part[1], part[2], part[3]]),
+            u16::from_be_bytes([part[4], part[5]]),
+            read_neighbour(part),
+            u16::from_be_bytes([part[20], part[21]]),
+            read_seconds(part),
+        )
 }
 
-// How many of the eight slots' octets are left behind those that the short way finds formed.
-fn left_to_check(settings: Settings, slots: &[u8]) -> usize
-    requires { length slots.now ≡ 8 * slot_size }
-    ensures upper_bound { result ≤ 8 }
-    ensures slots_value { parts_formed settings 8 slots.now ≡ parts_formed settings result (drop ((8 - result) * slot_size) slots.now) }
+// The short way first: most slots are in Up.
+fn is_part_formed(settings: Settings, part: &[u8]) -> bool
+    requires { length part.now ≡ slot_size }
+    ensures { result ≡ part_formed settings part.now }
 {
-    let mut rest = slots;
-    let mut left = SLOTS;
-    while 0 < left {
-        if !is_up_formed(settings, &rest[..SLOT]) {
-            return left;
-        }
-        rest = &rest[SLOT..];
-        left -= 1;
-    }
-    left
-}
-
-// Of so many slots' octets.
-fn are_formed(settings: Settings, slots: &[u8], count: usize) -> bool
-    requires { (count ≤ 8) × (length slots.now ≡ count * slot_size) }
-    ensures { result ≡ parts_formed settings count slots.now }
-{
-    let mut rest = slots;
-    let mut left = count;
-    while 0 < left {
-        if !is_slot_formed(settings, &rest[..SLOT]) {
-            return false;
-        }
-        rest = &rest[SLOT..];
-        left -= 1;
-    }
-    true
+    is_up_formed(settings, part) || is_slot_formed(settings, part)
 }
 
 // Of the eight slots' octets.
@@ -269,18 +186,24 @@ fn are_slots_formed(settings: Settings, slots: &[u8]) -> bool
     requires { length slots.now ≡ 8 * slot_size }
     ensures { result ≡ parts_formed settings 8 slots.now }
 {
-    let left = left_to_check(settings, slots);
-    let from = (SLOTS - left) * SLOT;
-    are_formed(settings, &slots[from..], left)
+    let mut rest = slots;
+    for _ in 0..gateway_state::SLOTS {
+        let (part, later) = rest.split_at(SLOT);
+        if !is_part_formed(settings, part) {
+            return false;
+        }
+        rest = later;
+    }
+    true
 }
 
-// The address at the front of the octets of slot i, of eight slots' octets.
-fn address_at(slots: &[u8], i: usize) -> u32
-    requires { (8 * slot_size ≤ length slots.now) × (i < 8) }
-    ensures { result ≡ Slots.address_of (slot_in (drop (i * slot_size) slots.now)) }
+// The address of slot i, at its front.
+fn address_at(block: &[u8], i: usize) -> u32
+    requires { (block_size ≤ length block.now) × (i < 8) }
+    ensures { result ≡ Slots.address_of (Slots.slot_at (state_in block.now) i) }
 {
-    let at = i * SLOT;
-    octets::quad(slots[at], slots[at + 1], slots[at + 2], slots[at + 3])
+    let at = slot_start(i);
+    u32::from_be_bytes([block[at], block[at + 1], block[at + 2], block[at + 3]])
 }
 
 // The eight addresses: check 1 and the look-up both go over them.
@@ -288,48 +211,7 @@ pub fn addresses_of(block: &[u8]) -> [u32; 8]
     requires { block_size ≤ length block.now }
     ensures { result ≡ Slots.addresses (state_in block.now) }
 {
-    let slots = &block[OWN..];
-    [
-        address_at(slots, 0),
-        address_at(slots, 1),
-        address_at(slots, 2),
-        address_at(slots, 3),
-        address_at(slots, 4),
-        address_at(slots, 5),
-        address_at(slots, 6),
-        address_at(slots, 7),
-    ]
-}
-
-// Whether no address from this index on is that one.
-fn is_apart_from(addresses: [u32; 8], from: usize, address: u32) -> bool
-    requires { from ≤ 8 }
-    ensures { result ≡ every (Slots.apart address) (drop from addresses) }
-{
-    if address == 0 {
-        return true;
-    }
-    let mut i = from;
-    while i < SLOTS {
-        if address == addresses[i] {
-            return false;
-        }
-        i += 1;
-    }
-    true
-}
-
-fn are_distinct(addresses: [u32; 8]) -> bool
-    ensures { result ≡ distinct Slots.apart addresses }
-{
-    let mut i = 0;
-    while i < SLOTS {
-        if !is_apart_from(addresses, i + 1, addresses[i]) {
-            return false;
-        }
-        i += 1;
-    }
-    true
+    std::array::from_fn(|i| address_at(block, i))
 }
 
 // Check 1.
@@ -338,50 +220,27 @@ pub fn is_formed(block: &[u8]) -> bool
     ensures { result ≡ block_formed block.now }
 {
     let settings = settings_of(block);
-    if !gateway_state::good_settings(settings) {
-        return false;
-    }
-    if !are_slots_formed(settings, &block[OWN..]) {
-        return false;
-    }
-    are_distinct(addresses_of(block))
+    gateway_state::good_settings(settings)
+        && are_slots_formed(settings, &block[OWN..])
+        && gateway_state::are_distinct(&addresses_of(block))
 }
 
 // ---- the look-up
 
-// The index of the used slot with this address, or 8.
-pub fn slot_of(block: &[u8], address: u32) -> usize
+// The index of the used slot with this address.
+pub fn slot_of(block: &[u8], address: u32) -> Option<usize>
     requires { block_size ≤ length block.now }
-    ensures { result ≡ Slots.slot_of (state_in block.now) address }
+    ensures { Finds (Slots.slot_of (state_in block.now) address) result }
 {
-    if address == 0 {
-        return SLOTS;
-    }
-    let addresses = addresses_of(block);
-    let mut i = 0;
-    while i < SLOTS {
-        if address == addresses[i] {
-            return i;
-        }
-        i += 1;
-    }
-    i
+    gateway_state::index_of(&addresses_of(block), address)
 }
 
-// The index of the lowest free slot, or 8.
-pub fn lowest_free(block: &[u8]) -> usize
+// The index of the lowest free slot.
+pub fn lowest_free(block: &[u8]) -> Option<usize>
     requires { block_size ≤ length block.now }
-    ensures { result ≡ Slots.lowest_free (state_in block.now) }
+    ensures { Finds (Slots.lowest_free (state_in block.now)) result }
 {
-    let addresses = addresses_of(block);
-    let mut i = 0;
-    while i < SLOTS {
-        if addresses[i] == 0 {
-            return i;
-        }
-        i += 1;
-    }
-    i
+    gateway_state::first_free(&addresses_of(block))
 }
 
 // ---- written
@@ -390,20 +249,13 @@ pub fn lowest_free(block: &[u8]) -> usize
 fn settings_octets(s: Settings) -> [u8; 12]
     ensures { result ≡ own_octets s }
 {
-    [
-        octets::high(s.asn),
-        octets::low(s.asn),
-        octets::first_of(s.own),
-        octets::second_of(s.own),
-        octets::third_of(s.own),
-        octets::fourth_of(s.own),
-        s.capability,
-        octets::first_of(s.net),
-        octets::second_of(s.net),
-        octets::third_of(s.net),
-        octets::fourth_of(s.net),
-        s.quiet,
-    ]
+    let mut octets = [0; 12];
+    octets::put16(&mut octets, 0, s.asn);
+    octets::put32(&mut octets, 2, s.own);
+    octets[6] = s.capability;
+    octets::put32(&mut octets, 7, s.net);
+    octets[11] = s.quiet;
+    octets
 }
 
 // A slot's 49 octets.
@@ -411,60 +263,31 @@ fn slot_octets(slot: Slot) -> [u8; 49]
     ensures { result ≡ slot_octets slot }
 {
     let n = slot.neighbour;
-    let phase = n.phase;
-    let mode = n.mode;
     let s = slot.seconds;
-    [
-        octets::first_of(slot.address),
-        octets::second_of(slot.address),
-        octets::third_of(slot.address),
-        octets::fourth_of(slot.address),
-        octets::high(slot.asn),
-        octets::low(slot.asn),
-        octets::high(n.s),
-        octets::low(n.s),
-        octets::high(n.r),
-        octets::low(n.r),
-        octets::high(n.period1),
-        octets::low(n.period1),
-        octets::high(n.period2),
-        octets::low(n.period2),
-        octets::high(n.t1),
-        octets::low(n.t1),
-        octets::high(n.t2),
-        octets::low(n.t2),
-        octets::high(n.t3),
-        octets::low(n.t3),
-        octets::high(slot.rows),
-        octets::low(slot.rows),
-        phase_number(phase),
-        mode_number(mode),
-        n.register,
-        n.heard,
-        n.cause,
-        n.sincehello,
-        n.sincepoll,
-        octets::first_of(s.idle),
-        octets::second_of(s.idle),
-        octets::third_of(s.idle),
-        octets::fourth_of(s.idle),
-        octets::first_of(s.acquisition),
-        octets::second_of(s.acquisition),
-        octets::third_of(s.acquisition),
-        octets::fourth_of(s.acquisition),
-        octets::first_of(s.down),
-        octets::second_of(s.down),
-        octets::third_of(s.down),
-        octets::fourth_of(s.down),
-        octets::first_of(s.up),
-        octets::second_of(s.up),
-        octets::third_of(s.up),
-        octets::fourth_of(s.up),
-        octets::first_of(s.cease),
-        octets::second_of(s.cease),
-        octets::third_of(s.cease),
-        octets::fourth_of(s.cease),
-    ]
+    let mut octets = [0; 49];
+    octets::put32(&mut octets, 0, slot.address);
+    octets::put16(&mut octets, 4, slot.asn);
+    octets::put16(&mut octets, 6, n.s);
+    octets::put16(&mut octets, 8, n.r);
+    octets::put16(&mut octets, 10, n.period1);
+    octets::put16(&mut octets, 12, n.period2);
+    octets::put16(&mut octets, 14, n.t1);
+    octets::put16(&mut octets, 16, n.t2);
+    octets::put16(&mut octets, 18, n.t3);
+    octets::put16(&mut octets, 20, slot.rows);
+    octets[22] = u8::from(n.phase);
+    octets[23] = u8::from(n.mode);
+    octets[24] = n.register;
+    octets[25] = n.heard;
+    octets[26] = n.cause;
+    octets[27] = n.sincehello;
+    octets[28] = n.sincepoll;
+    octets::put32(&mut octets, 29, s.idle);
+    octets::put32(&mut octets, 33, s.acquisition);
+    octets::put32(&mut octets, 37, s.down);
+    octets::put32(&mut octets, 41, s.up);
+    octets::put32(&mut octets, 45, s.cease);
+    octets
 }
 
 // Writes a slot's octets from index at on.
@@ -488,11 +311,8 @@ fn put_slots(out: &mut [u8], st: State)
     requires { block_size ≤ length out.old }
     ensures { out.new ≡ sets out.old (slot_start 0) (slots_octets st.slots) }
 {
-    let mut i = 0;
-    while i < SLOTS {
-        let slot = st.slots[i];
-        put_slot_at(out, slot_start(i), slot);
-        i += 1;
+    for i in 0..gateway_state::SLOTS {
+        put_slot_at(out, slot_start(i), st.slots[i]);
     }
 }
 
@@ -501,7 +321,6 @@ pub fn write_state(out: &mut [u8], st: State)
     requires { block_size ≤ length out.old }
     ensures { out.new ≡ over (block_of st) out.old }
 {
-    let settings = st.settings;
-    octets::store(out, &settings_octets(settings));
+    octets::store(out, &settings_octets(st.settings));
     put_slots(out, st);
 }

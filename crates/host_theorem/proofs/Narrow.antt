@@ -7,6 +7,9 @@ use mathlib.Core.List.{List, [], ◌∷◌}
 use lib.Dec.{ltb, leb, eqb}
 use lib.ListN.{length, drop, get_or}
 use borrow.Author.Tests.{lt-ltb, ltb-true, leb-true, eqb-true}
+use Rattle.std.specs.Prelude.{Option, Some, None, Result, Ok, Err}
+use Rattle.checks.specs.declared.Refusal.{Refusal}
+use Rattle.checks.specs.declared.Refusal.TheVariants.{BadStatus, BadLength}
 use Rattle.checks.specs.Checks.{if_ok}
 use Rattle.checks.specs.Lists.{every}
 use Rattle.checks.proofs.Laws.{cond_elim, and_left, and_right, and_both}
@@ -15,11 +18,8 @@ use Rattle.nets.specs.Rows.{Row}
 use Rattle.message.specs.Kinds.{kind_of, sequence_of, status_allowed, length_allowed}
 use Rattle.message.specs.declared.Kind.{Kind}
 use Rattle.message.specs.declared.Kind.TheVariants as K
-use Rattle.message.specs.declared.Known.{Known}
-use Rattle.message.specs.declared.Known.TheVariants.{Is, Unknown}
+use Rattle.message.specs.declared.Message.{Message}
 use Rattle.message_reading.specs.Reading.{status_at, sequence_at, kind_in, meaning_of, decode_as, decode_of}
-use Rattle.message_reading.specs.declared.Decoded.{Decoded}
-use Rattle.message_reading.specs.declared.Decoded.TheVariants as D
 use Rattle.update_walk.specs.Body.{Walk, whole, broken, body_of, further, net_at, walked_blocks, read_within, update_of, rows_read}
 use Rattle.update_writing.specs.Writable.{ordered, writable_row, writable_rows}
 use Rattle.update_theorem.specs.Trip.{octets_only}
@@ -121,11 +121,9 @@ update_word net o e =
 -- ---- S and R
 
 -- the sequence number of a message that was read
-unfoldable Carries : Decoded → Type 0
-Carries (D.Good m) = sequence_of m < 65536
-Carries D.UnknownKind = true ≡ true
-Carries D.BadStatus = true ≡ true
-Carries D.BadLength = true ≡ true
+unfoldable Carries : Result Message Refusal → Type 0
+Carries (Ok m) = sequence_of m < 65536
+Carries (Err refused) = true ≡ true
 
 sequence_is : (k : Kind) (o : List ℕ) → sequence_of (meaning_of k o) ≡ sequence_at o
 unfolding meaning_of
@@ -143,16 +141,16 @@ sequence_is K.Error o = refl
 octet_below : (o : List ℕ) → every is_octet o ≡ true → (i : ℕ) → get_or o i 0 < 256
 octet_below o e i = ltb-true (get_or o i 0) 256 (every_get_or is_octet o i 0 e refl)
 
-good_carries : (k : Kind) (o : List ℕ) → every is_octet o ≡ true → Carries (D.Good (meaning_of k o))
+good_carries : (k : Kind) (o : List ℕ) → every is_octet o ≡ true → Carries (Ok (meaning_of k o))
 unfolding Carries
 good_carries k o e = rw (sequence_is k o) (omega (arith, octet_below o e 8, octet_below o e 9))
 
-known_carries : (k : Known) (o : List ℕ) → every is_octet o ≡ true → Carries (decode_as k o)
+known_carries : (k : Option Kind) (o : List ℕ) → every is_octet o ≡ true → Carries (decode_as k o)
 unfolding decode_as Carries
-known_carries Unknown o e = refl
-known_carries (Is k) o e =
-    cond_elim Carries (status_allowed k (status_at o)) _ D.BadStatus
-    (λ _. cond_elim Carries (length_allowed k (length o)) (D.Good (meaning_of k o)) D.BadLength (λ _. good_carries k o e) (λ _. refl)) (λ _. refl)
+known_carries None o e = refl
+known_carries (Some k) o e =
+    cond_elim Carries (status_allowed k (status_at o)) _ (Err BadStatus)
+    (λ _. cond_elim Carries (length_allowed k (length o)) (Ok (meaning_of k o)) (Err BadLength) (λ _. good_carries k o e) (λ _. refl)) (λ _. refl)
 
 decode_carries : (o : List ℕ) → every is_octet o ≡ true → Carries (decode_of o)
 unfolding decode_of
@@ -251,24 +249,20 @@ event_narrow g event (used p) h e =
     (step_narrow g p.asn p.neighbour (as_event event) no_octets h.neighbour f.numbers.s16 (rw (event_brings event p.neighbour.r) f.numbers.r16))
     f.rows32
 
-after_narrow : (g : Settings) (asn : ℕ) (n : Neighbour) (o : List ℕ) (d : Decoded) → well_formed n ≡ true → Narrow n → Carries d
+after_narrow : (g : Settings) (asn : ℕ) (n : Neighbour) (o : List ℕ) (d : Result Message Refusal) → well_formed n ≡ true → Narrow n → Carries d
     → Narrow (after_message g asn n o d).neighbour
 unfolding after_message Carries unanswered
-after_narrow g asn n o (D.Good m) h f c =
+after_narrow g asn n o (Ok m) h f c =
     step_narrow g asn n (Received m) (first_twelve o) h f.s16
     (cond_elim (λ (k : ℕ). k < 65536) (is_command (kind_of m)) (sequence_of m) n.r (λ _. c) (λ _. f.r16))
-after_narrow g asn n o D.UnknownKind h f c = f
-after_narrow g asn n o D.BadStatus h f c = f
-after_narrow g asn n o D.BadLength h f c = f
+after_narrow g asn n o (Err refused) h f c = f
 
-rows_narrow : (g : Settings) (n : Neighbour) (o : List ℕ) (d : Decoded) (rows : List Row) → every is_octet o ≡ true → every word_row rows ≡ true
+rows_narrow : (g : Settings) (n : Neighbour) (o : List ℕ) (d : Result Message Refusal) (rows : List Row) → every is_octet o ≡ true → every word_row rows ≡ true
     → every word_row (rows_after g n o d rows) ≡ true
 unfolding rows_after
-rows_narrow g n o (D.Good m) rows h e =
+rows_narrow g n o (Ok m) rows h e =
     cond_elim (λ l. every word_row l ≡ true) (is_update m && is_up n.phase) _ rows (λ _. update_word g.net o h) (λ _. e)
-rows_narrow g n o D.UnknownKind rows h e = e
-rows_narrow g n o D.BadStatus rows h e = e
-rows_narrow g n o D.BadLength rows h e = e
+rows_narrow g n o (Err refused) rows h e = e
 
 message_narrow : (g : Settings) (o : List ℕ) (slot : Slot) → every is_octet o ≡ true → SlotGood (cell slot) → narrow slot ≡ true
     → narrow (message_move g o slot).slot ≡ true

@@ -4,19 +4,21 @@ use native.Mathlib.Nat.{add-zero, zero-add, add-sub_cancel_left}
 use native.Mathlib.Numerals.{add-one}
 use native.Mathlib.Omega.{arith}
 use borrow.Author.Tests.{eq-eqb, ne_eqb, le-leb, lt-leb}
-use mathlib.Core.Bool.{Bool, true, false, cond, ◌&&◌}
+use mathlib.Core.Bool.{Bool, true, false, cond, not, ◌&&◌}
 use mathlib.Core.Path.{◌≡◌, refl, sym, ap, ◌∙◌}
 use mathlib.Core.List.{List, [], ◌∷◌, ◌++◌, map}
 use lib.Dec.{eqb}
 use lib.ListN.{length, take, drop, get_or, length-take, drop_of_length-le}
-use lib.Seq.{drop-cons, take-take, sets-eq}
+use lib.Seq.{drop-cons, take-take}
+use Rattle.std.specs.List.{filter}
 use Rattle.checks.specs.Lists.{every, join}
 use Rattle.nets.specs.Rows.{rows_of}
-use Rattle.update_writing.proofs.Lists.{rows_turn, rows_short}
-use Rattle.octets.specs.Buffer.{over}
+use Rattle.update_writing.proofs.Lists.{rows_short}
+use Rattle.update_writing.proofs.Lists.{row_at}
 use Rattle.text.specs.Text.{text, decimal, line}
-use Rattle.octets.specs.Written.{Written}
-use Rattle.octets.proofs.Storing.{Writing, start, room, turn, last}
+use Rattle.text.specs.declared.Writer.{Writer}
+use Rattle.text.specs.Writer.{Puts, HasRoom}
+use Rattle.text.proofs.Writing.{puts_nothing, puts_both, room_behind, all_left, part_room}
 use Rattle.gateway_state.specs.declared.Slot.{Slot}
 use Rattle.gateway_state.specs.declared.State.{State}
 use Rattle.gateway_state.specs.Slots.{free_slot, slot_at}
@@ -25,22 +27,31 @@ use Rattle.listing_lines.specs.Lines.{Entry, head_lines, entry_text, listing_tex
 use Rattle.listing_lines.specs.Listing.{entry_of, entries_from, marked_row, listable}
 use Rattle.listing_lines.specs.Steps.{slot_entry, rows_text}
 use Rattle.listing_lines.proofs.Laws.{count_at}
-use Rattle.listing.specs.Steps.{slot_text, slot_listable}
+use Rattle.listing.specs.Steps.{slot_text, slot_listable, is_used}
 
 -- ---- third numbers, row by row
 
-module _ (u : List ℕ) where
-  pub marked_not : 2 < length u → 511 < get_or u 2 0 → every marked_row (rows_of u) ≡ false
-  unfolding every marked_row
-  marked_not h k = rw (rows_turn u h, lt-leb (get_or u 2 0) 511 k)
+marked_turn : (xs u : List ℕ) → length xs ≡ 3 → every marked_row (rows_of (xs ++ u)) ≡ (marked_row (row_at xs) && every marked_row (rows_of u))
+unfolding every rows_of
+marked_turn [] u h = absurd (omega arith)
+marked_turn (a ∷ []) u h = absurd (omega arith)
+marked_turn (a ∷ b ∷ []) u h = absurd (omega arith)
+marked_turn (a ∷ b ∷ c ∷ []) u h = refl
+marked_turn (a ∷ b ∷ c ∷ d ∷ xs) u h = absurd (omega arith)
 
-  pub marked_next : 2 < length u → get_or u 2 0 ≤ 511 → every marked_row (rows_of u) ≡ every marked_row (rows_of (drop 3 u))
-  unfolding every marked_row
-  marked_next h k = rw (rows_turn u h, le-leb (get_or u 2 0) 511 k)
+-- the next three numbers, and those behind them
+module _ {rest : List ℕ} (xs u : List ℕ) (e : rest ≡ xs ++ u) (h : length xs ≡ 3) where
+  pub marked_not : 511 < get_or xs 2 0 → every marked_row (rows_of rest) ≡ false
+  unfolding marked_row
+  marked_not k = rw (e, marked_turn xs u h, lt-leb (get_or xs 2 0) 511 k)
 
-  pub marked_end : length u ≤ 2 → every marked_row (rows_of u) ≡ true
-  unfolding every
-  marked_end h = rw (rows_short u h)
+  pub marked_next : get_or xs 2 0 ≤ 511 → every marked_row (rows_of rest) ≡ every marked_row (rows_of u)
+  unfolding marked_row
+  marked_next k = rw (e, marked_turn xs u h, le-leb (get_or xs 2 0) 511 k)
+
+pub marked_end : (u : List ℕ) → length u ≤ 2 → every marked_row (rows_of u) ≡ true
+unfolding every
+marked_end u h = rw (rows_short u h)
 
 -- ---- the used rows of a slot are a part of the table
 
@@ -71,31 +82,26 @@ module _ (st : State) (i : ℕ) (table : List ℕ) (few : (slot_at st i).rows �
     unfolding slot_text entry_text rows_text entry_of
     used_text = rw (ne_eqb (slot_at st i).address 0 n, used_part)
 
-    module _ (at : ℕ) (old : List ℕ) (h : at + length (slot_text st i table) ≤ length old) where
-      pub head_room : at + length (join (head_lines (slot_entry i (slot_at st i) (rows_of (part p (slot_at st i) table))))) ≤ length old
+    module _ (w : Writer) (h : HasRoom w (slot_text st i table)) where
+      pub head_room : HasRoom w (join (head_lines (slot_entry i (slot_at st i) (rows_of (part p (slot_at st i) table)))))
       head_room =
-          room (start (slot_text st i table) at old h)
+          part_room (all_left (slot_text st i table) w h)
           (join (head_lines (slot_entry i (slot_at st i) (rows_of (part p (slot_at st i) table))))) (rows_text (rows_of (part p (slot_at st i) table))) used_text
 
-      module _ {mid : List ℕ} {o : ℕ} (w : Written (join (head_lines (slot_entry i (slot_at st i) (rows_of (part p (slot_at st i) table))))) at old mid o) where
-        from_rows : Writing (slot_text st i table) at old (rows_text (rows_of (part p (slot_at st i) table))) o mid
-        from_rows =
-            turn (start (slot_text st i table) at old h)
-            (join (head_lines (slot_entry i (slot_at st i) (rows_of (part p (slot_at st i) table))))) (rows_text (rows_of (part p (slot_at st i) table))) used_text w
+      module _ {mid : Writer} (q : Puts (join (head_lines (slot_entry i (slot_at st i) (rows_of (part p (slot_at st i) table))))) w mid) where
+        pub rows_room : HasRoom mid (rows_text (rows_of (part p (slot_at st i) table)))
+        rows_room = room_behind (rows_text (rows_of (part p (slot_at st i) table))) q (rw (← used_text) h)
 
-        pub rows_room : o + length (rows_text (rows_of (part p (slot_at st i) table))) ≤ length mid
-        rows_room = from_rows.fits
-
-        pub slot_done : {new : List ℕ} {end : ℕ} → Written (rows_text (rows_of (part p (slot_at st i) table))) o mid new end → Written (slot_text st i table) at old new end
-        slot_done q = last from_rows q
+        pub slot_done : {new : Writer} → Puts (rows_text (rows_of (part p (slot_at st i) table))) mid new → Puts (slot_text st i table) w new
+        slot_done r = rw used_text (puts_both q r)
 
 pub free_listable : (st : State) (i : ℕ) (table : List ℕ) → (slot_at st i).address ≡ 0 → slot_listable st i table ≡ true
 unfolding slot_listable
 free_listable st i table e = rw (eq-eqb (slot_at st i).address 0 e)
 
-pub free_written : (st : State) (i : ℕ) (table : List ℕ) (at : ℕ) (out : List ℕ) → (slot_at st i).address ≡ 0 → Written (slot_text st i table) at out out at
+pub free_written : (st : State) (i : ℕ) (table : List ℕ) (w : Writer) → (slot_at st i).address ≡ 0 → Puts (slot_text st i table) w w
 unfolding slot_text
-free_written st i table at out e = rw (eq-eqb (slot_at st i).address 0 e) (record { list = refl; after = sym (add-zero at) })
+free_written st i table w e = rw (eq-eqb (slot_at st i).address 0 e) (puts_nothing w)
 
 -- ---- slot by slot
 
@@ -162,28 +168,31 @@ module _ (st : State) (table : List ℕ) (i : ℕ) where
     pub count_end : length (left st table i) ≡ 0
     count_end = ap length left_end
 
+-- how many are listed, wherever the slots begin and whatever the table holds
+pub used_count : (i : ℕ) (slots : List Slot) (table counts : List ℕ) → length (filter is_used slots) ≡ length (entries_from i slots table counts)
+unfolding entries_from
+used_count i [] table counts = refl
+used_count i (slot ∷ rest) table counts = go (eqb slot.address 0) (used_count (suc i) rest table counts)
+  where
+    go : (b : Bool) → length (filter is_used rest) ≡ length (entries_from (suc i) rest table counts)
+        → length (cond (not b) (slot ∷ filter is_used rest) (filter is_used rest))
+        ≡ length (cond b (entries_from (suc i) rest table counts) (entry_of i slot table counts ∷ entries_from (suc i) rest table counts))
+    go true e = e
+    go false e = ap suc e
+
 -- ---- the whole text
 
-module _ (es : List Entry) (n : ℕ) (e : n ≡ length es) (out : List ℕ) (h : length (listing_text es) ≤ length out) where
+module _ (es : List Entry) (n : ℕ) (e : n ≡ length es) (w : Writer) (h : HasRoom w (listing_text es)) where
   text_is : listing_text es ≡ line (text "neighbours=") (decimal n) ++ join (map entry_text es)
   unfolding listing_text
   text_is = rw e
 
-  from_count : Writing (listing_text es) 0 out (listing_text es) 0 out
-  from_count = start (listing_text es) 0 out (rw zero-add h)
+  pub count_room : HasRoom w (line (text "neighbours=") (decimal n))
+  count_room = part_room (all_left (listing_text es) w h) (line (text "neighbours=") (decimal n)) (join (map entry_text es)) text_is
 
-  pub count_room : 0 + length (line (text "neighbours=") (decimal n)) ≤ length out
-  count_room = room from_count (line (text "neighbours=") (decimal n)) (join (map entry_text es)) text_is
+  module _ {mid : Writer} (p : Puts (line (text "neighbours=") (decimal n)) w mid) where
+    pub slots_room : HasRoom mid (join (map entry_text es))
+    slots_room = room_behind (join (map entry_text es)) p (rw (← text_is) h)
 
-  module _ {mid : List ℕ} {o : ℕ} (p : Written (line (text "neighbours=") (decimal n)) 0 out mid o) where
-    from_slots : Writing (listing_text es) 0 out (join (map entry_text es)) o mid
-    from_slots = turn from_count (line (text "neighbours=") (decimal n)) (join (map entry_text es)) text_is p
-
-    pub slots_room : o + length (join (map entry_text es)) ≤ length mid
-    slots_room = from_slots.fits
-
-    pub all_done : {new : List ℕ} {end : ℕ} → Written (join (map entry_text es)) o mid new end → (end ≡ length (listing_text es)) × (new ≡ over (listing_text es) out)
-    unfolding over
-    all_done q =
-        let w = last from_slots q in
-        (w.after ∙ zero-add (length (listing_text es)), w.list ∙ sets-eq (listing_text es) out 0 (rw zero-add h) ∙ rw zero-add)
+    pub all_done : {new : Writer} → Puts (join (map entry_text es)) mid new → Puts (listing_text es) w new
+    all_done q = rw text_is (puts_both p q)

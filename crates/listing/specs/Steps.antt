@@ -1,11 +1,15 @@
 -- What the functions that walk the slots promise.
-use Rattle.std.specs.Prelude.{ℕ, Bool, true, cond, List, [], map, eqb}
+use Rattle.std.specs.Prelude.{ℕ, Bool, true, cond, not, List, [], map, eqb}
 use Rattle.checks.specs.Lists.{join}
+use Rattle.gateway_state.specs.declared.Slot.{Slot}
 use Rattle.gateway_state.specs.declared.State.{State}
 use Rattle.gateway_state.specs.Slots.{slot_at}
 use Rattle.gateway_state.specs.Places.{row_counts}
 use Rattle.listing_lines.specs.Lines.{entry_text}
 use Rattle.listing_lines.specs.Listing.{entry_of, entries, listable}
+
+abbrev pub is_used : Slot → Bool
+is_used slot = not (eqb slot.address 0)
 
 -- slot i's part of the text: none of a free slot's
 unfoldable pub slot_text : State → ℕ → List ℕ → List ℕ

@@ -1,28 +1,31 @@
 // The call that lists the table as text.
 #![tactic(auto)]
 
+ghost use Rattle.checks.specs.Refusals.{answer_of};
 ghost use Rattle.std.specs.Prelude.{◌≡◌, true, List, ℕ, ◌+◌, ◌≤◌, ◌<◌, length};
+ghost use Rattle.std.specs.List.{filter};
 ghost use Rattle.checks.specs.Lists.{every};
+ghost use Rattle.checks.specs.Refusals.{answer_of};
 ghost use Rattle.octets.specs.Buffer.{over};
 ghost use Rattle.nets.specs.Rows.{rows_of};
-ghost use Rattle.octets.specs.Written.{Written};
+ghost use Rattle.text.specs.Writer.{Puts, HasRoom};
 ghost use Rattle.gateway_state.specs.Formed.{state_formed};
 ghost use Rattle.listing_lines.specs.Lines.{listing_text};
 ghost use Rattle.listing_lines.specs.Listing.{entries, marked_row, listable, listing_checks, listing_outcome, listing_buffer};
-ghost use Rattle.listing.specs.Steps.{slot_text, slot_listable, slots_text};
+ghost use Rattle.listing.specs.Steps.{is_used, slot_text, slot_listable, slots_text};
 
+use checks::Refusal;
 use gateway_state::{Outcome, State};
+use text::Writer;
 
 // Whether no third number of rows is above 511.
 fn are_rows_marked(rows: &[u32]) -> bool
     ensures { result ≡ every marked_row (rows_of rows.now) }
 {
-    let mut rest = rows;
-    while 2 < rest.len() {
-        if 511 < rest[2] {
+    for row in rows.chunks_exact(3) {
+        if 511 < row[2] {
             return false;
         }
-        rest = &rest[3..];
     }
     true
 }
@@ -45,91 +48,78 @@ fn are_slots_listable(st: State, table: &[u32]) -> bool
     requires { (state_formed st ≡ true) × (length table.now ≡ 3072) }
     ensures { result ≡ every listable (entries st table.now) }
 {
-    let mut i = 0;
-    while i < gateway_state::SLOTS {
+    for i in 0..gateway_state::SLOTS {
         if !is_slot_listable(st, i, table) {
             return false;
         }
-        i += 1;
     }
     true
 }
 
 // Checks 1, 2 and 3, of a buffer of this length.
-fn listing_answer(st: State, table: &[u32], octets: usize) -> u8
-    ensures { (buffer : List ℕ) → length buffer ≡ octets → result ≡ listing_checks st table.now buffer }
+fn check(st: State, table: &[u32], octets: usize) -> Result<(), Refusal>
+    ensures { (buffer : List ℕ) → length buffer ≡ octets → answer_of result ≡ listing_checks st table.now buffer }
 {
     if !gateway_state::well_formed(st) {
-        return 1;
+        return Err(Refusal::IllFormedState);
     }
     if table.len() != 3072 {
-        return 2;
+        return Err(Refusal::WrongTable);
     }
     if !are_slots_listable(st, table) {
-        return 2;
+        return Err(Refusal::WrongTable);
     }
     if octets < 65536 {
-        return 3;
+        return Err(Refusal::ShortBuffer);
     }
-    0
+    Ok(())
 }
 
 // Writes the lines of slot i, if it is used.
-fn put_slot(out: &mut [u8], at: usize, st: State, i: usize, table: &[u32]) -> usize
+fn put_slot(out: &mut Writer<'_>, st: State, i: usize, table: &[u32])
     requires st_value { (state_formed st ≡ true) × (i < 8) × (length table.now ≡ 3072) }
-    requires table_in_bounds { at + length (slot_text st i table.now) ≤ length out.old }
-    ensures { Written (slot_text st i table.now) at out.old out.new result }
+    requires room { HasRoom out.old (slot_text st i table.now) }
+    ensures { Puts (slot_text st i table.now) out.old out.new }
 {
     let slot = st.slots[i];
     if slot.address == 0 {
-        return at;
+        return;
     }
     let from = gateway_state::place(i);
     let to = from + 3 * slot.rows as usize;
     let rows = &table[from..to];
-    let head = listing_lines::put_head(out, at, i, slot, rows);
-    listing_lines::put_rows(out, head, rows)
+    listing_lines::put_head(out, i, slot, rows);
+    listing_lines::put_rows(out, rows);
 }
 
-fn put_slots(out: &mut [u8], at: usize, st: State, table: &[u32]) -> usize
+fn put_slots(out: &mut Writer<'_>, st: State, table: &[u32])
     requires st_value { (state_formed st ≡ true) × (length table.now ≡ 3072) }
-    requires table_in_bounds { at + length (slots_text st table.now) ≤ length out.old }
-    ensures { Written (slots_text st table.now) at out.old out.new result }
+    requires room { HasRoom out.old (slots_text st table.now) }
+    ensures { Puts (slots_text st table.now) out.old out.new }
 {
-    let mut end = at;
-    let mut i = 0;
-    while i < gateway_state::SLOTS {
-        end = put_slot(out, end, st, i, table);
-        i += 1;
+    for i in 0..gateway_state::SLOTS {
+        put_slot(out, st, i, table);
     }
-    end
 }
 
 // How many slots are used.
-fn neighbours(st: State) -> u32
-    ensures { (table : List ℕ) → result ≡ length (entries st table) }
+fn neighbours(st: State) -> usize
+    ensures { result ≡ length (filter is_used st.slots) }
 {
-    let mut count = 0;
-    let mut i = 0;
-    while i < gateway_state::SLOTS {
-        let slot = st.slots[i];
-        if slot.address != 0 {
-            count += 1;
-        }
-        i += 1;
-    }
-    count
+    st.slots.iter().filter(|slot| slot.address != 0).count()
 }
 
 // Writes the whole text at the front of the buffer.
 fn put_listing(out: &mut [u8], st: State, table: &[u32]) -> usize
     requires st_value { (state_formed st ≡ true) × (length table.now ≡ 3072) }
-    requires table_in_bounds { length (listing_text (entries st table.now)) ≤ length out.old }
+    requires room { length (listing_text (entries st table.now)) ≤ length out.old }
     ensures value { result ≡ length (listing_text (entries st table.now)) }
     ensures out_after { out.new ≡ over (listing_text (entries st table.now)) out.old }
 {
-    let start = text::put_line_decimal(out, 0, b"neighbours=", neighbours(st));
-    put_slots(out, start, st, table)
+    let mut writer = Writer::new(out);
+    writer.put_line(b"neighbours=", neighbours(st) as u64);
+    put_slots(&mut writer, st, table);
+    writer.end()
 }
 
 // Lists the table as text.
@@ -137,9 +127,8 @@ pub fn listing(st: State, table: &[u32], buffer: &mut [u8]) -> Outcome
     ensures value { result ≡ listing_outcome st table.now buffer.old }
     ensures buffer_after { buffer.new ≡ listing_buffer st table.now buffer.old }
 {
-    let answer = listing_answer(st, table, buffer.len());
-    if answer != 0 {
-        return gateway_state::refused(st, answer);
+    if let Err(refusal) = check(st, table, buffer.len()) {
+        return gateway_state::refused(st, refusal);
     }
     let length = put_listing(buffer, st, table);
     Outcome {

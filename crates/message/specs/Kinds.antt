@@ -1,9 +1,7 @@
 -- 01's table of kinds: type and code, status, length. A definition for each column, a line for each kind.
-use Rattle.std.specs.Prelude.{ℕ, Bool, cond, ◌&&◌, ◌||◌, List, [], ◌∷◌, leb, eqb}
+use Rattle.std.specs.Prelude.{ℕ, Bool, Option, Some, None, cond, ◌&&◌, ◌||◌, List, [], ◌∷◌, leb, eqb}
 use Rattle.message.specs.declared.Kind.{Kind}
 use Rattle.message.specs.declared.Kind.TheVariants.{Request, Confirm, Refuse, Cease, CeaseAck, Hello, IHeardYou, Poll, Update, Error}
-use Rattle.message.specs.declared.Known.{Known}
-use Rattle.message.specs.declared.Known.TheVariants.{Is, Unknown}
 use Rattle.message.specs.declared.Message.{Message}
 use Rattle.message.specs.declared.Message.TheVariants as M
 
@@ -34,16 +32,16 @@ code_of Update = 0
 code_of Error = 0
 
 -- the kind among those listed that has this type and this code
-abbrev pub among : List Kind → ℕ → ℕ → Known
-among [] number code = Unknown
-among (k ∷ rest) number code = cond (eqb number (type_of k) && eqb code (code_of k)) (Is k) (among rest number code)
+abbrev pub among : List Kind → ℕ → ℕ → Option Kind
+among [] number code = None
+among (k ∷ rest) number code = cond (eqb number (type_of k) && eqb code (code_of k)) (Some k) (among rest number code)
 
 -- 01: "one of ten kinds"
 abbrev pub all_kinds : List Kind
 all_kinds = Request ∷ Confirm ∷ Refuse ∷ Cease ∷ CeaseAck ∷ Hello ∷ IHeardYou ∷ Poll ∷ Update ∷ Error ∷ []
 
--- the kind that a type and a code name; any other pair is unknown
-unfoldable pub kind_at : ℕ → ℕ → Known
+-- the kind that a type and a code name; any other pair names none
+unfoldable pub kind_at : ℕ → ℕ → Option Kind
 kind_at number code = among all_kinds number code
 
 -- 01: "0 to 2"

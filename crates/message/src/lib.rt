@@ -5,7 +5,7 @@ ghost use Rattle.std.specs.Prelude.{◌≡◌};
 ghost use Rattle.message.specs.Kinds.{type_of, code_of, kind_at, plain_status, refusal_status, marked_status, status_allowed, length_allowed, kind_of, sequence_of, status_of};
 
 // The kinds, in the order of 01's table.
-#[derive(Clone, Copy)]
+#[derive(Clone, Copy, Debug, PartialEq, Eq)]
 pub enum Kind {
     Request,
     Confirm,
@@ -20,7 +20,7 @@ pub enum Kind {
 }
 
 // A message once read. An Update's rows stand outside; the twelve octets that an Error carries are three words.
-#[derive(Clone, Copy)]
+#[derive(Clone, Copy, Debug, PartialEq, Eq)]
 pub enum Message {
     Request {
         asn: u16,
@@ -84,326 +84,126 @@ pub enum Message {
     },
 }
 
-// Which kind a type and a code name.
-#[derive(Clone, Copy)]
-pub enum Known {
-    Is(Kind),
-    Unknown,
-}
+impl Kind {
+    // The kind that a type and a code name, if they name one.
+    #[tactic(auto, unfolding(crate::specs::Kinds::kind_at))]
+    pub fn named(number: u8, code: u8) -> Option<Kind>
+        ensures { result ≡ kind_at number code }
+    {
+        match (number, code) {
+            (3, 0) => Some(Kind::Request),
+            (3, 1) => Some(Kind::Confirm),
+            (3, 2) => Some(Kind::Refuse),
+            (3, 3) => Some(Kind::Cease),
+            (3, 4) => Some(Kind::CeaseAck),
+            (5, 0) => Some(Kind::Hello),
+            (5, 1) => Some(Kind::IHeardYou),
+            (2, 0) => Some(Kind::Poll),
+            (1, 0) => Some(Kind::Update),
+            (8, 0) => Some(Kind::Error),
+            _ => None,
+        }
+    }
 
-pub fn type_of(kind: Kind) -> u8
-    ensures { result ≡ type_of kind }
-{
-    match kind {
-        Kind::Request => 3,
-        Kind::Confirm => 3,
-        Kind::Refuse => 3,
-        Kind::Cease => 3,
-        Kind::CeaseAck => 3,
-        Kind::Hello => 5,
-        Kind::IHeardYou => 5,
-        Kind::Poll => 2,
-        Kind::Update => 1,
-        Kind::Error => 8,
+    pub fn type_number(self) -> u8
+        ensures { result ≡ type_of self }
+    {
+        match self {
+            Kind::Request | Kind::Confirm | Kind::Refuse | Kind::Cease | Kind::CeaseAck => 3,
+            Kind::Hello | Kind::IHeardYou => 5,
+            Kind::Poll => 2,
+            Kind::Update => 1,
+            Kind::Error => 8,
+        }
     }
-}
 
-pub fn code_of(kind: Kind) -> u8
-    ensures { result ≡ code_of kind }
-{
-    match kind {
-        Kind::Request => 0,
-        Kind::Confirm => 1,
-        Kind::Refuse => 2,
-        Kind::Cease => 3,
-        Kind::CeaseAck => 4,
-        Kind::Hello => 0,
-        Kind::IHeardYou => 1,
-        Kind::Poll => 0,
-        Kind::Update => 0,
-        Kind::Error => 0,
+    pub fn code(self) -> u8
+        ensures { result ≡ code_of self }
+    {
+        match self {
+            Kind::Request | Kind::Hello | Kind::Poll | Kind::Update | Kind::Error => 0,
+            Kind::Confirm | Kind::IHeardYou => 1,
+            Kind::Refuse => 2,
+            Kind::Cease => 3,
+            Kind::CeaseAck => 4,
+        }
     }
-}
 
-// The kind that a type and a code name.
-pub fn kind_at(number: u8, code: u8) -> Known
-    ensures { result ≡ kind_at number code }
-{
-    if number == 3 {
-        return acquisition_kind(code);
+    // Whether a message of this kind may have this status.
+    #[tactic(auto, unfolding(crate::specs::Kinds::plain_status, crate::specs::Kinds::refusal_status, crate::specs::Kinds::marked_status))]
+    pub fn allows_status(self, status: u8) -> bool
+        ensures { result ≡ status_allowed self status }
+    {
+        match self {
+            Kind::Refuse | Kind::Cease | Kind::CeaseAck => matches!(status, 0 | 3..=7),
+            Kind::Update | Kind::Error => matches!(status, 0..=2 | 128..=130),
+            _ => status <= 2,
+        }
     }
-    if number == 5 {
-        return reachability_kind(code);
-    }
-    if code != 0 {
-        return Known::Unknown;
-    }
-    if number == 2 {
-        return Known::Is(Kind::Poll);
-    }
-    if number == 1 {
-        return Known::Is(Kind::Update);
-    }
-    if number == 8 {
-        return Known::Is(Kind::Error);
-    }
-    Known::Unknown
-}
 
-// The kind that a code names among those of type 3.
-fn acquisition_kind(code: u8) -> Known
-    ensures { result ≡ kind_at 3 code }
-{
-    if code == 0 {
-        return Known::Is(Kind::Request);
-    }
-    if code == 1 {
-        return Known::Is(Kind::Confirm);
-    }
-    if code == 2 {
-        return Known::Is(Kind::Refuse);
-    }
-    if code == 3 {
-        return Known::Is(Kind::Cease);
-    }
-    if code == 4 {
-        return Known::Is(Kind::CeaseAck);
-    }
-    Known::Unknown
-}
-
-// The kind that a code names among those of type 5.
-fn reachability_kind(code: u8) -> Known
-    ensures { result ≡ kind_at 5 code }
-{
-    if code == 0 {
-        return Known::Is(Kind::Hello);
-    }
-    if code == 1 {
-        return Known::Is(Kind::IHeardYou);
-    }
-    Known::Unknown
-}
-
-// Statuses 0 to 2.
-fn plain_status(status: u8) -> bool
-    ensures { result ≡ plain_status status }
-{
-    status <= 2
-}
-
-// Statuses 0 and 3 to 7.
-fn refusal_status(status: u8) -> bool
-    ensures { result ≡ refusal_status status }
-{
-    if status == 0 {
-        return true;
-    }
-    if status < 3 {
-        return false;
-    }
-    status <= 7
-}
-
-// Statuses 0 to 2, also plus 128.
-fn marked_status(status: u8) -> bool
-    ensures { result ≡ marked_status status }
-{
-    if status <= 2 {
-        return true;
-    }
-    if status < 128 {
-        return false;
-    }
-    status <= 130
-}
-
-// Whether a message of this kind may have this status.
-pub fn status_allowed(kind: Kind, status: u8) -> bool
-    ensures { result ≡ status_allowed kind status }
-{
-    match kind {
-        Kind::Request => plain_status(status),
-        Kind::Confirm => plain_status(status),
-        Kind::Refuse => refusal_status(status),
-        Kind::Cease => refusal_status(status),
-        Kind::CeaseAck => refusal_status(status),
-        Kind::Hello => plain_status(status),
-        Kind::IHeardYou => plain_status(status),
-        Kind::Poll => plain_status(status),
-        Kind::Update => marked_status(status),
-        Kind::Error => marked_status(status),
+    // Whether a message of this kind may have this many octets.
+    pub fn allows_length(self, length: usize) -> bool
+        ensures { result ≡ length_allowed self length }
+    {
+        match self {
+            Kind::Request | Kind::Confirm => length == 14,
+            Kind::Poll => length == 16,
+            Kind::Update => 16 <= length,
+            Kind::Error => length == 24,
+            _ => length == 10,
+        }
     }
 }
 
-// Whether a message of this kind may have this many octets.
-pub fn length_allowed(kind: Kind, length: usize) -> bool
-    ensures { result ≡ length_allowed kind length }
-{
-    match kind {
-        Kind::Request => length == 14,
-        Kind::Confirm => length == 14,
-        Kind::Refuse => length == 10,
-        Kind::Cease => length == 10,
-        Kind::CeaseAck => length == 10,
-        Kind::Hello => length == 10,
-        Kind::IHeardYou => length == 10,
-        Kind::Poll => length == 16,
-        Kind::Update => 16 <= length,
-        Kind::Error => length == 24,
+impl Message {
+    pub fn kind(self) -> Kind
+        ensures { result ≡ kind_of self }
+    {
+        match self {
+            Message::Request { .. } => Kind::Request,
+            Message::Confirm { .. } => Kind::Confirm,
+            Message::Refuse { .. } => Kind::Refuse,
+            Message::Cease { .. } => Kind::Cease,
+            Message::CeaseAck { .. } => Kind::CeaseAck,
+            Message::Hello { .. } => Kind::Hello,
+            Message::IHeardYou { .. } => Kind::IHeardYou,
+            Message::Poll { .. } => Kind::Poll,
+            Message::Update { .. } => Kind::Update,
+            Message::Error { .. } => Kind::Error,
+        }
     }
-}
 
-// The kind of a message.
-pub fn kind_of(message: Message) -> Kind
-    ensures { result ≡ kind_of message }
-{
-    match message {
-        Message::Request { .. } => Kind::Request,
-        Message::Confirm { .. } => Kind::Confirm,
-        Message::Refuse { .. } => Kind::Refuse,
-        Message::Cease { .. } => Kind::Cease,
-        Message::CeaseAck { .. } => Kind::CeaseAck,
-        Message::Hello { .. } => Kind::Hello,
-        Message::IHeardYou { .. } => Kind::IHeardYou,
-        Message::Poll { .. } => Kind::Poll,
-        Message::Update { .. } => Kind::Update,
-        Message::Error { .. } => Kind::Error,
+    pub fn sequence(self) -> u16
+        ensures { result ≡ sequence_of self }
+    {
+        match self {
+            Message::Request { sequence, .. }
+            | Message::Confirm { sequence, .. }
+            | Message::Refuse { sequence, .. }
+            | Message::Cease { sequence, .. }
+            | Message::CeaseAck { sequence, .. }
+            | Message::Hello { sequence, .. }
+            | Message::IHeardYou { sequence, .. }
+            | Message::Poll { sequence, .. }
+            | Message::Update { sequence, .. }
+            | Message::Error { sequence, .. } => sequence,
+        }
     }
-}
 
-// The sequence number of a message.
-pub fn sequence_of(message: Message) -> u16
-    ensures { result ≡ sequence_of message }
-{
-    match message {
-        Message::Request {
-            asn: _,
-            sequence,
-            status: _,
-            hello: _,
-            poll: _,
-        } => sequence,
-        Message::Confirm {
-            asn: _,
-            sequence,
-            status: _,
-            hello: _,
-            poll: _,
-        } => sequence,
-        Message::Refuse {
-            asn: _,
-            sequence,
-            status: _,
-        } => sequence,
-        Message::Cease {
-            asn: _,
-            sequence,
-            status: _,
-        } => sequence,
-        Message::CeaseAck {
-            asn: _,
-            sequence,
-            status: _,
-        } => sequence,
-        Message::Hello {
-            asn: _,
-            sequence,
-            status: _,
-        } => sequence,
-        Message::IHeardYou {
-            asn: _,
-            sequence,
-            status: _,
-        } => sequence,
-        Message::Poll {
-            asn: _,
-            sequence,
-            status: _,
-            net: _,
-        } => sequence,
-        Message::Update {
-            asn: _,
-            sequence,
-            status: _,
-            net: _,
-        } => sequence,
-        Message::Error {
-            asn: _,
-            sequence,
-            status: _,
-            reason: _,
-            first: _,
-            second: _,
-            third: _,
-        } => sequence,
-    }
-}
-
-// The status of a message.
-pub fn status_of(message: Message) -> u8
-    ensures { result ≡ status_of message }
-{
-    match message {
-        Message::Request {
-            asn: _,
-            sequence: _,
-            status,
-            hello: _,
-            poll: _,
-        } => status,
-        Message::Confirm {
-            asn: _,
-            sequence: _,
-            status,
-            hello: _,
-            poll: _,
-        } => status,
-        Message::Refuse {
-            asn: _,
-            sequence: _,
-            status,
-        } => status,
-        Message::Cease {
-            asn: _,
-            sequence: _,
-            status,
-        } => status,
-        Message::CeaseAck {
-            asn: _,
-            sequence: _,
-            status,
-        } => status,
-        Message::Hello {
-            asn: _,
-            sequence: _,
-            status,
-        } => status,
-        Message::IHeardYou {
-            asn: _,
-            sequence: _,
-            status,
-        } => status,
-        Message::Poll {
-            asn: _,
-            sequence: _,
-            status,
-            net: _,
-        } => status,
-        Message::Update {
-            asn: _,
-            sequence: _,
-            status,
-            net: _,
-        } => status,
-        Message::Error {
-            asn: _,
-            sequence: _,
-            status,
-            reason: _,
-            first: _,
-            second: _,
-            third: _,
-        } => status,
+    pub fn status(self) -> u8
+        ensures { result ≡ status_of self }
+    {
+        match self {
+            Message::Request { status, .. }
+            | Message::Confirm { status, .. }
+            | Message::Refuse { status, .. }
+            | Message::Cease { status, .. }
+            | Message::CeaseAck { status, .. }
+            | Message::Hello { status, .. }
+            | Message::IHeardYou { status, .. }
+            | Message::Poll { status, .. }
+            | Message::Update { status, .. }
+            | Message::Error { status, .. } => status,
+        }
     }
 }

@@ -2,68 +2,47 @@
 #![tactic(auto)]
 
 ghost use Rattle.std.specs.Prelude.{◌≡◌};
-ghost use Rattle.message_reading.specs.Reading.{header_answer, meaning_of, decode_as, decode_of, decoded_number};
+ghost use Rattle.message_reading.specs.Reading.{header_of, meaning_of, decode_as, decode_of};
 
-use message::{Kind, Known, Message};
+use checks::Refusal;
+use message::{Kind, Message};
 
-// The answer of the kind stage.
-#[derive(Clone, Copy)]
-pub enum Decoded {
-    Good(Message),
-    UnknownKind,
-    BadStatus,
-    BadLength,
-}
-
-// 01's number for each answer of the kind stage.
-pub fn decoded_number(decoded: Decoded) -> u8
-    ensures { result ≡ decoded_number decoded }
+// The header stage: size, version and checksum, in this order.
+#[tactic(auto, unfolding(crate::specs::Reading::header_of))]
+pub fn read_header(message: &[u8]) -> Result<(), Refusal>
+    ensures { result ≡ header_of message.now }
 {
-    match decoded {
-        Decoded::Good(_) => 0,
-        Decoded::UnknownKind => 10,
-        Decoded::BadStatus => 11,
-        Decoded::BadLength => 12,
-    }
-}
-
-// The header stage: 6, 7 or 8 for the first check that fails, else 0.
-pub fn read_header(message: &[u8]) -> u8
-    ensures { result ≡ header_answer message.now }
-{
-    if message.len() < 10 {
-        return 6;
-    }
-    if 2048 < message.len() {
-        return 6;
+    if message.len() < 10 || 2048 < message.len() {
+        return Err(Refusal::BadSize);
     }
     if octets::octet(message, 0) != 2 {
-        return 7;
+        return Err(Refusal::OtherVersion);
     }
     if octets::word16_at(message, 4) != octets_checksum::checksum(message) {
-        return 8;
+        return Err(Refusal::WrongChecksum);
     }
-    0
+    Ok(())
 }
 
-// The kind stage: 10, 11 and 12, or the message's meaning.
-pub fn decode(message: &[u8]) -> Decoded
+// The kind stage: the kind, its status and its length; then what the message says.
+#[tactic(auto, unfolding(crate::specs::Reading::decode_as, crate::specs::Reading::decode_of))]
+pub fn decode(message: &[u8]) -> Result<Message, Refusal>
     ensures { result ≡ decode_of message.now }
 {
-    let known = message::kind_at(octets::octet(message, 1), octets::octet(message, 2));
-    let Known::Is(kind) = known else {
-        return Decoded::UnknownKind;
+    let Some(kind) = Kind::named(octets::octet(message, 1), octets::octet(message, 2)) else {
+        return Err(Refusal::UnknownKind);
     };
-    if !message::status_allowed(kind, octets::octet(message, 3)) {
-        return Decoded::BadStatus;
+    if !kind.allows_status(octets::octet(message, 3)) {
+        return Err(Refusal::BadStatus);
     }
-    if !message::length_allowed(kind, message.len()) {
-        return Decoded::BadLength;
+    if !kind.allows_length(message.len()) {
+        return Err(Refusal::BadLength);
     }
-    Decoded::Good(meaning(kind, message))
+    Ok(meaning(kind, message))
 }
 
 // What a message of this kind says.
+#[tactic(auto, unfolding(crate::specs::Reading::meaning_of))]
 fn meaning(kind: Kind, message: &[u8]) -> Message
     ensures { result ≡ meaning_of kind message.now }
 {

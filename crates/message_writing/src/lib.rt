@@ -14,17 +14,19 @@ use message::Kind;
 fn header(kind: Kind, asn: u16, sequence: u16, status: u8) -> [u8; 10]
     ensures { result ≡ headed kind asn sequence status [] }
 {
+    let [asn_high, asn_low] = asn.to_be_bytes();
+    let [sequence_high, sequence_low] = sequence.to_be_bytes();
     [
         2,
-        message::type_of(kind),
-        message::code_of(kind),
+        kind.type_number(),
+        kind.code(),
         status,
         0,
         0,
-        octets::high(asn),
-        octets::low(asn),
-        octets::high(sequence),
-        octets::low(sequence),
+        asn_high,
+        asn_low,
+        sequence_high,
+        sequence_low,
     ]
 }
 
@@ -49,21 +51,12 @@ fn short_checksum(number: u8, code: u8, asn: u16, sequence: u16, status: u8) -> 
 fn short(kind: Kind, asn: u16, sequence: u16, status: u8) -> [u8; 10]
     ensures { result ≡ sealed (headed kind asn sequence status []) }
 {
-    let number = message::type_of(kind);
-    let code = message::code_of(kind);
+    let number = kind.type_number();
+    let code = kind.code();
+    let mut octets = header(kind, asn, sequence, status);
     let sum = short_checksum(number, code, asn, sequence, status);
-    [
-        2,
-        number,
-        code,
-        status,
-        octets::high(sum),
-        octets::low(sum),
-        octets::high(asn),
-        octets::low(asn),
-        octets::high(sequence),
-        octets::low(sequence),
-    ]
+    octets::put16(&mut octets, 4, sum);
+    octets
 }
 
 // Fills in the checksum of the message in the first octets of the buffer, and says how many they are.

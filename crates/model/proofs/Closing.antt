@@ -11,8 +11,8 @@ use Rattle.neighbour.specs.declared.Mode.{Mode}
 use Rattle.neighbour.specs.declared.Mode.TheVariants.{Unset, Active, Passive}
 use Rattle.neighbour.specs.declared.Settings.{Settings}
 use Rattle.neighbour.specs.declared.Neighbour.{Neighbour}
-use Rattle.neighbour.specs.declared.Offer.{Offer}
-use Rattle.neighbour.specs.declared.Offer.TheVariants.{Acceptable, Unacceptable}
+use Rattle.std.specs.Prelude.{Option, Some, None}
+use Rattle.neighbour.specs.declared.Terms.{Terms}
 use Rattle.neighbour.specs.Record.{under, idle, is_idle, left_idle, with_numbers, with_timers, with_reach, waiting, initialised, shifted, leave_up, polled, aged, is_up}
 use Rattle.neighbour.specs.Rules.{offer_of, commanded, noted, recounted, ones_of, goes_down, judged}
 use Rattle.neighbour.proofs.Laws.{at_up}
@@ -70,12 +70,12 @@ a_not_up : (g : Settings) (n : Neighbour) (hello poll : ℕ) (mode : Mode) → N
 unfolding does_a answers initialised
 a_not_up g n hello poll mode = hello_not_up mode g _ refl
 
-requested : (g : Settings) (n : Neighbour) (q : ℕ) (offer : Offer) → NotUp (on_request g n q offer)
+requested : (g : Settings) (n : Neighbour) (q : ℕ) (offer : Option Terms) → NotUp (on_request g n q offer)
 unfolding on_request ceases repeats_cease answers waiting unanswered idle
-requested g n q (Acceptable hello poll mode) =
-    let a = a_not_up g n hello poll mode in
-    under_elim NotUp n.phase _ _ _ _ _ (λ _. a_not_up g (left_idle q) hello poll mode) (λ _. a) (λ _. a) (λ _. a) (λ e. ap is_up e)
-requested g n q Unacceptable = under_elim NotUp n.phase _ _ _ _ _ (λ e. ap is_up e) (λ _. refl) (λ _. refl) (λ _. refl) (λ e. ap is_up e)
+requested g n q (Some t) =
+    let a = a_not_up g n t.period1 t.period2 t.mode in
+    under_elim NotUp n.phase _ _ _ _ _ (λ _. a_not_up g (left_idle q) t.period1 t.period2 t.mode) (λ _. a) (λ _. a) (λ _. a) (λ e. ap is_up e)
+requested g n q None = under_elim NotUp n.phase _ _ _ _ _ (λ e. ap is_up e) (λ _. refl) (λ _. refl) (λ _. refl) (λ e. ap is_up e)
 
 pub reacquired : (g : Settings) (asn : ℕ) (n : Neighbour) (head : Head) (a q s hello poll : ℕ) → NotUp (step_of g asn n (Received (M.Request a q s hello poll)) head)
 unfolding step_of on_message

@@ -8,6 +8,7 @@ use mathlib.Core.List.{List, [], ◌∷◌, ◌++◌, append_assoc}
 use lib.Dec.{ltb, leb, eqb}
 use lib.ListN.{length, length-set}
 use borrow.Author.Tests.{eqb-true, ne_eqb, ltb-true, not-true}
+use Rattle.std.specs.Prelude.{Ok}
 use Rattle.checks.specs.Checks.{check}
 use Rattle.checks.proofs.Laws.{and_left, and_right}
 use Rattle.neighbour.specs.Record.{is_up, acquired, with_numbers, with_timers, with_reach}
@@ -23,7 +24,6 @@ use Rattle.message.specs.declared.Message.TheVariants.{Request, Confirm, Refuse,
 use Rattle.message_reading.specs.Reading as Wire
 use Rattle.message_reading.specs.Reading.{header_answer, asn_at, decode_of}
 use Rattle.message_writing.specs.Writing as Writing
-use Rattle.message_reading.specs.declared.Decoded.TheVariants as D
 use Rattle.update_walk.specs.Body as Body
 use Rattle.update_writing.specs.Blocks as Blocks
 use Rattle.codec_writing.specs.Octets as Octets
@@ -168,7 +168,7 @@ home_empty : good_home some_settings [] ≡ true
 unfolding Home.good_home Home.own_first Rows.rows_of every
 home_empty = refl
 
-says : (o : List ℕ) (x : Message) → header_answer o ≡ 0 → asn_at o ≡ 7 → decode_of o ≡ D.Good x → Says (run some_settings eight) 0 o [] lent_buffer x
+says : (o : List ℕ) (x : Message) → header_answer o ≡ 0 → asn_at o ≡ 7 → decode_of o ≡ Ok x → Says (run some_settings eight) 0 o [] lent_buffer x
 says o x h a d =
     record {
       room = enough;
@@ -181,7 +181,7 @@ says o x h a d =
 pub record Reads (o : List ℕ) (x : Message) : Type 0 where
   pub header : header_answer o ≡ 0
   pub from : asn_at o ≡ 7
-  pub meaning : decode_of o ≡ D.Good x
+  pub meaning : decode_of o ≡ Ok x
 
 -- the octets of these messages, read back
 pub record ReadBack : Type 0 where
@@ -209,7 +209,7 @@ pub record StraysBack : Type 0 where
   pub error : Reads (message_octets (Error 7 4 1 2 0 0 0) []) (Error 7 4 1 2 0 0 0)
 
 read_back : ReadBack
-unfolding check Wire.header_answer Wire.meaning_of Wire.decode_as Wire.decode_of Wire.decoded_number Writing.head_of Octets.plain_octets Blocks.side_rows Blocks.joined Blocks.runs Blocks.each Blocks.address_octets Blocks.net_octets Blocks.host_octets Blocks.nets_octets Blocks.group_octets Blocks.groups_octets Blocks.block_octets Blocks.side_octets Blocks.blocks_written Blocks.internal_blocks Blocks.external_blocks Kinds.kind_at Kinds.plain_status Kinds.refusal_status Kinds.marked_status Checksum.ones_add Checksum.ones_sum Checksum.checksum_of Checksum.sealed Checksum.word_total Checksum.folded Octets.message_octets Classes.net_width Classes.host_span Classes.good_net Classes.on_net Body.extended Body.many Body.left_justified Body.row_of_width Body.net_row Body.group_rows Body.host_width Body.gateway_of Body.block_rows Body.group_at Body.block_at Body.sides_at Body.groups_hold Body.blocks_hold Body.sides_hold Body.read_as Body.both_sides Body.nothing_left Body.body_of Body.further Body.net_at Body.walked_blocks Body.read_within Body.update_of Body.update_number Body.rows_read class_a some_settings join
+unfolding check Wire.header_of Wire.header_answer Wire.meaning_of Wire.decode_as Wire.decode_of Writing.head_of Octets.plain_octets Blocks.side_rows Blocks.joined Blocks.runs Blocks.each Blocks.address_octets Blocks.net_octets Blocks.host_octets Blocks.nets_octets Blocks.group_octets Blocks.groups_octets Blocks.block_octets Blocks.side_octets Blocks.blocks_written Blocks.internal_blocks Blocks.external_blocks Kinds.kind_at Kinds.plain_status Kinds.refusal_status Kinds.marked_status Checksum.ones_add Checksum.ones_sum Checksum.checksum_of Checksum.sealed Checksum.word_total Checksum.folded Octets.message_octets Classes.net_width Classes.host_span Classes.good_net Classes.on_net Body.extended Body.many Body.left_justified Body.row_of_width Body.net_row Body.group_rows Body.host_width Body.gateway_of Body.block_rows Body.group_at Body.block_at Body.sides_at Body.groups_hold Body.blocks_hold Body.sides_hold Body.read_as Body.both_sides Body.nothing_left Body.body_of Body.further Body.net_at Body.walked_blocks Body.read_within Body.update_of Body.update_number Body.rows_read class_a some_settings join
 read_back =
     record {
       cease = record { header = refl; from = refl; meaning = refl };
@@ -225,7 +225,7 @@ read_back =
     }
 
 strays_back : StraysBack
-unfolding check Wire.header_answer Wire.meaning_of Wire.decode_as Wire.decode_of Wire.decoded_number Writing.head_of Octets.plain_octets Blocks.side_rows Blocks.joined Blocks.runs Blocks.each Blocks.address_octets Blocks.net_octets Blocks.host_octets Blocks.nets_octets Blocks.group_octets Blocks.groups_octets Blocks.block_octets Blocks.side_octets Blocks.blocks_written Blocks.internal_blocks Blocks.external_blocks Kinds.kind_at Kinds.plain_status Kinds.refusal_status Kinds.marked_status Checksum.ones_add Checksum.ones_sum Checksum.checksum_of Checksum.sealed Checksum.word_total Checksum.folded Octets.message_octets Classes.net_width Classes.host_span Classes.good_net Classes.on_net Body.extended Body.many Body.left_justified Body.row_of_width Body.net_row Body.group_rows Body.host_width Body.gateway_of Body.block_rows Body.group_at Body.block_at Body.sides_at Body.groups_hold Body.blocks_hold Body.sides_hold Body.read_as Body.both_sides Body.nothing_left Body.body_of Body.further Body.net_at Body.walked_blocks Body.read_within Body.update_of Body.update_number Body.rows_read class_a some_settings join
+unfolding check Wire.header_of Wire.header_answer Wire.meaning_of Wire.decode_as Wire.decode_of Writing.head_of Octets.plain_octets Blocks.side_rows Blocks.joined Blocks.runs Blocks.each Blocks.address_octets Blocks.net_octets Blocks.host_octets Blocks.nets_octets Blocks.group_octets Blocks.groups_octets Blocks.block_octets Blocks.side_octets Blocks.blocks_written Blocks.internal_blocks Blocks.external_blocks Kinds.kind_at Kinds.plain_status Kinds.refusal_status Kinds.marked_status Checksum.ones_add Checksum.ones_sum Checksum.checksum_of Checksum.sealed Checksum.word_total Checksum.folded Octets.message_octets Classes.net_width Classes.host_span Classes.good_net Classes.on_net Body.extended Body.many Body.left_justified Body.row_of_width Body.net_row Body.group_rows Body.host_width Body.gateway_of Body.block_rows Body.group_at Body.block_at Body.sides_at Body.groups_hold Body.blocks_hold Body.sides_hold Body.read_as Body.both_sides Body.nothing_left Body.body_of Body.further Body.net_at Body.walked_blocks Body.read_within Body.update_of Body.update_number Body.rows_read class_a some_settings join
 strays_back =
     record {
       confirm = record { header = refl; from = refl; meaning = refl };

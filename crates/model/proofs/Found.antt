@@ -8,12 +8,12 @@ use lib.Dec.{leb, eqb}
 use lib.ListN.{length}
 use lib.Seq.{get_or-set_same}
 use borrow.Author.Tests.{lt-ltb, eq-eqb, eqb-false, not-true}
+use Rattle.std.specs.Prelude.{Ok}
 use Rattle.checks.specs.Checks.{check, if_ok}
 use Rattle.nets.specs.Rows.{Row, rows_of}
 use Rattle.message.specs.declared.Message.{Message}
 use Rattle.message.specs.declared.Message.TheVariants as M
 use Rattle.message_reading.specs.Reading.{header_answer, asn_at, decode_of}
-use Rattle.message_reading.specs.declared.Decoded.TheVariants as D
 use Rattle.update_walk.specs.Body.{accepted, update_of, rows_read}
 use Rattle.neighbour.specs.declared.Phase.TheVariants.{Up}
 use Rattle.neighbour.specs.declared.Settings.{Settings}
@@ -98,11 +98,11 @@ event_phase g event peer = refl
 
 module _ (g : Settings) (peer : Peer) (o : List ℕ) (header : header_answer o ≡ 0) (from : asn_at o ≡ peer.asn) where
   -- a message that is neither out of sequence nor an Update is carried out
-  plain_zero : (m : Message) → decode_of o ≡ D.Good m → in_sequence peer.neighbour m ≡ true → too_quick peer.neighbour m ≡ false → is_update m ≡ false → answer_to g peer.asn peer.neighbour o ≡ 0
+  plain_zero : (m : Message) → decode_of o ≡ Ok m → in_sequence peer.neighbour m ≡ true → too_quick peer.neighbour m ≡ false → is_update m ≡ false → answer_to g peer.asn peer.neighbour o ≡ 0
   unfolding answer_to if_ok check kind_answer
   plain_zero m d i t u = rw (header, eq-eqb (asn_at o) peer.asn from, d, i, t, u)
 
-  plain_move : (m : Message) → decode_of o ≡ D.Good m → in_sequence peer.neighbour m ≡ true → too_quick peer.neighbour m ≡ false → is_update m ≡ false
+  plain_move : (m : Message) → decode_of o ≡ Ok m → in_sequence peer.neighbour m ≡ true → too_quick peer.neighbour m ≡ false → is_update m ≡ false
       → (cell (message_move g o (used peer)).slot).neighbour ≡ (step_of g peer.asn peer.neighbour (Received m) (first_twelve o)).neighbour
   unfolding message_move if_ok after_message moved cell
   plain_move m d i t u = rw (plain_zero m d i t u, d)
@@ -123,20 +123,20 @@ module _ (g : Settings) (peer : Peer) (o : List ℕ) (header : header_answer o �
       go true = refl
       go false = refl
 
-  pub cease_move : (a q s : ℕ) → decode_of o ≡ D.Good (M.Cease a q s)
+  pub cease_move : (a q s : ℕ) → decode_of o ≡ Ok (M.Cease a q s)
       → is_up (cell (message_move g o (used peer)).slot).neighbour.phase ≡ false
   unfolding is_update too_quick
   cease_move a q s d =
       rw (plain_move (M.Cease a q s) d (sequenced_cease a q s) (unhurried (acquired peer.neighbour.phase)) refl) (ceased g peer.asn peer.neighbour (first_twelve o) a q s)
 
-  pub request_move : (a q s hello poll : ℕ) → decode_of o ≡ D.Good (M.Request a q s hello poll)
+  pub request_move : (a q s hello poll : ℕ) → decode_of o ≡ Ok (M.Request a q s hello poll)
       → is_up (cell (message_move g o (used peer)).slot).neighbour.phase ≡ false
   unfolding is_update too_quick
   request_move a q s hello poll d =
       rw (plain_move (M.Request a q s hello poll) d (sequenced_request a q s hello poll) (unhurried (acquired peer.neighbour.phase)) refl) (reacquired g peer.asn peer.neighbour (first_twelve o) a q s hello poll)
 
   -- an Update in Up that carries S, its body good
-  module _ (a q s net : ℕ) (d : decode_of o ≡ D.Good (M.Update a q s net)) (up : peer.neighbour.phase ≡ Up) (number : q ≡ peer.neighbour.s) (new : List Row) (body : update_of 128 g.net o ≡ accepted new) where
+  module _ (a q s net : ℕ) (d : decode_of o ≡ Ok (M.Update a q s net)) (up : peer.neighbour.phase ≡ Up) (number : q ≡ peer.neighbour.s) (new : List Row) (body : update_of 128 g.net o ≡ accepted new) where
     sequenced : in_sequence peer.neighbour (M.Update a q s net) ≡ true
     unfolding in_sequence
     sequenced = go (is_idle peer.neighbour.phase)

@@ -8,13 +8,14 @@ use lib.Dec.{eqb}
 use lib.ListN.{get_or, replicate}
 use lib.Seq.{get_or-set_same, get_or-set_other}
 use borrow.Author.Tests.{eq-eqb, ne_eqb, eqb-true, eqb-false, not-true}
+use Rattle.std.specs.Prelude.{Result, Ok, Err}
+use Rattle.checks.specs.declared.Refusal.{Refusal}
 use Rattle.checks.specs.Checks.{if_ok}
 use Rattle.checks.proofs.Laws.{and_left, and_right}
 use Rattle.checks.specs.Lists.{every}
+use Rattle.message.specs.declared.Message.{Message}
 use Rattle.nets.specs.Rows.{Row}
 use Rattle.message_reading.specs.Reading.{decode_of}
-use Rattle.message_reading.specs.declared.Decoded.{Decoded}
-use Rattle.message_reading.specs.declared.Decoded.TheVariants as D
 use Rattle.update_walk.specs.Body.{update_of, rows_read}
 use Rattle.neighbour.specs.declared.Settings.{Settings}
 use Rattle.neighbour.specs.declared.Neighbour.{Neighbour}
@@ -59,10 +60,10 @@ event_tells g event (used peer) read good =
     cond_held (is_up (step_of g peer.asn peer.neighbour (as_event event) no_octets).neighbour.phase) peer.rows (is_up peer.neighbour.phase) (λ e. none_held (used peer) good e)
 
 -- a message carried out: the rows by the kind of what was read
-kind_tells : (g : Settings) (n : Neighbour) (o : List ℕ) (d : Decoded) (rows : List Row) (b : Bool) → (is_up n.phase ≡ false → rows ≡ [])
+kind_tells : (g : Settings) (n : Neighbour) (o : List ℕ) (d : Result Message Refusal) (rows : List Row) (b : Bool) → (is_up n.phase ≡ false → rows ≡ [])
     → cond b (rows_after g n o d rows) [] ≡ cond b (cond (is_up n.phase && says_update d) (rows_read (update_of 128 g.net o)) (cond (is_up n.phase) rows [])) []
 unfolding rows_after says_update
-kind_tells g n o (D.Good m) rows b h = go b (is_update m) (is_up n.phase) h
+kind_tells g n o (Ok m) rows b h = go b (is_update m) (is_up n.phase) h
   where
     go : (b u p : Bool) → (p ≡ false → rows ≡ [])
         → cond b (cond (u && p) (rows_read (update_of 128 g.net o)) rows) [] ≡ cond b (cond (p && u) (rows_read (update_of 128 g.net o)) (cond p rows [])) []
@@ -71,17 +72,7 @@ kind_tells g n o (D.Good m) rows b h = go b (is_update m) (is_up n.phase) h
     go true true false k = k refl
     go true false true k = refl
     go true false false k = k refl
-kind_tells g n o D.UnknownKind rows b h = go (is_up n.phase) h
-  where
-    go : (p : Bool) → (p ≡ false → rows ≡ []) → cond b rows [] ≡ cond b (cond (p && false) (rows_read (update_of 128 g.net o)) (cond p rows [])) []
-    go true k = refl
-    go false k = rw (k refl)
-kind_tells g n o D.BadStatus rows b h = go (is_up n.phase) h
-  where
-    go : (p : Bool) → (p ≡ false → rows ≡ []) → cond b rows [] ≡ cond b (cond (p && false) (rows_read (update_of 128 g.net o)) (cond p rows [])) []
-    go true k = refl
-    go false k = rw (k refl)
-kind_tells g n o D.BadLength rows b h = go (is_up n.phase) h
+kind_tells g n o (Err refused) rows b h = go (is_up n.phase) h
   where
     go : (p : Bool) → (p ≡ false → rows ≡ []) → cond b rows [] ≡ cond b (cond (p && false) (rows_read (update_of 128 g.net o)) (cond p rows [])) []
     go true k = refl

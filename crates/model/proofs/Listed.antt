@@ -7,13 +7,14 @@ use mathlib.Core.List.{List, [], ◌∷◌, map}
 use lib.Dec.{eqb}
 use lib.ListN.{length, get_or}
 use borrow.Author.Tests.{eq-eqb, not-true}
+use Rattle.std.specs.Prelude.{Result, Ok, Err}
+use Rattle.checks.specs.declared.Refusal.{Refusal}
 use Rattle.checks.specs.Checks.{check, if_ok}
 use Rattle.checks.specs.Lists.{every}
 use Rattle.checks.proofs.Laws.{cond_elim, and_left, and_right, and_both, check_holds}
+use Rattle.message.specs.declared.Message.{Message}
 use Rattle.nets.specs.Rows.{Row}
 use Rattle.message_reading.specs.Reading.{decode_of}
-use Rattle.message_reading.specs.declared.Decoded.{Decoded}
-use Rattle.message_reading.specs.declared.Decoded.TheVariants as D
 use Rattle.neighbour.specs.declared.Phase.{Phase}
 use Rattle.neighbour.specs.declared.Settings.{Settings}
 use Rattle.neighbour.specs.declared.Neighbour.{Neighbour}
@@ -115,14 +116,12 @@ unfolding marked rows_held event_move moved no_move every
 event_marks g event free e = refl
 event_marks g event (used peer) e = rows_marks (step_of g peer.asn peer.neighbour (as_event event) no_octets).neighbour.phase peer.rows e
 
-after_marks : (g : Settings) (n : Neighbour) (o : List ℕ) (d : Decoded) (rows : List Row) → every is_octet o ≡ true → every marked_row rows ≡ true
+after_marks : (g : Settings) (n : Neighbour) (o : List ℕ) (d : Result Message Refusal) (rows : List Row) → every is_octet o ≡ true → every marked_row rows ≡ true
     → every marked_row (rows_after g n o d rows) ≡ true
 unfolding rows_after
-after_marks g n o (D.Good m) rows h e =
+after_marks g n o (Ok m) rows h e =
     cond_elim (λ l. every marked_row l ≡ true) (is_update m && is_up n.phase) _ rows (λ _. update_marks 128 g.net o h) (λ _. e)
-after_marks g n o D.UnknownKind rows h e = e
-after_marks g n o D.BadStatus rows h e = e
-after_marks g n o D.BadLength rows h e = e
+after_marks g n o (Err refused) rows h e = e
 
 message_marks : (g : Settings) (o : List ℕ) (slot : Slot) → every is_octet o ≡ true → marked slot ≡ true → marked (message_move g o slot).slot ≡ true
 unfolding marked rows_held message_move moved no_move if_ok every

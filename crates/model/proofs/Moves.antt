@@ -7,14 +7,15 @@ use mathlib.Core.List.{List, [], ◌∷◌}
 use lib.Dec.{eqb}
 use lib.ListN.{length}
 use borrow.Author.Tests.{ne_eqb}
+use Rattle.std.specs.Prelude.{Result, Ok, Err}
+use Rattle.checks.specs.declared.Refusal.{Refusal}
 use Rattle.neighbour.specs.Record.{is_up}
 use Rattle.checks.specs.Checks.{check, if_ok}
 use Rattle.nets.specs.Rows.{Row, flat}
 use Rattle.message.specs.Kinds.{kind_of}
 use Rattle.message.specs.declared.Kind.TheVariants as K
+use Rattle.message.specs.declared.Message.{Message}
 use Rattle.message_reading.specs.Reading.{header_answer, asn_at, decode_of}
-use Rattle.message_reading.specs.declared.Decoded.{Decoded}
-use Rattle.message_reading.specs.declared.Decoded.TheVariants as D
 use Rattle.update_walk.specs.Body.{UpdateRead, accepted, broken_at, too_many, update_of, rows_read}
 use Rattle.update_walk.specs.Body as Body
 use Rattle.update_rows.specs.Storing.{padded}
@@ -112,12 +113,10 @@ body_same (accepted rows) = refl
 body_same (broken_at offset) = refl
 body_same too_many = refl
 
-kind_same : (g : Settings) (n : Neighbour) (o : List ℕ) (d : Decoded) → kind_number 128 g n o d ≡ kind_answer g n o d
+kind_same : (g : Settings) (n : Neighbour) (o : List ℕ) (d : Result Message Refusal) → kind_number 128 g n o d ≡ kind_answer g n o d
 unfolding kind_number meaning_number kind_answer is_update body_number
-kind_same g n o (D.Good m) = rw (body_same (update_of 128 g.net o))
-kind_same g n o D.UnknownKind = refl
-kind_same g n o D.BadStatus = refl
-kind_same g n o D.BadLength = refl
+kind_same g n o (Ok m) = rw (body_same (update_of 128 g.net o))
+kind_same g n o (Err refused) = refl
 
 number_same : (g : Settings) (asn : ℕ) (n : Neighbour) (o : List ℕ) → message_number 128 g asn n o ≡ answer_to g asn n o
 unfolding answer_to
@@ -129,12 +128,10 @@ reply_same : (g : Settings) (n : Neighbour) (o : List ℕ) (k : ℕ) → named_r
 unfolding named_reply refusal_reply refuse_to refuse_reply error_to error_reply error_head first_twelve
 reply_same g n o k = refl
 
-after_same : (g : Settings) (asn : ℕ) (n : Neighbour) (o : List ℕ) (d : Decoded) → Ruled.taken_step g asn n o d ≡ after_message g asn n o d
+after_same : (g : Settings) (asn : ℕ) (n : Neighbour) (o : List ℕ) (d : Result Message Refusal) → Ruled.taken_step g asn n o d ≡ after_message g asn n o d
 unfolding Ruled.taken_step after_message error_head first_twelve
-after_same g asn n o (D.Good m) = refl
-after_same g asn n o D.UnknownKind = refl
-after_same g asn n o D.BadStatus = refl
-after_same g asn n o D.BadLength = refl
+after_same g asn n o (Ok m) = refl
+after_same g asn n o (Err refused) = refl
 
 module _ (peer : Peer) (good : SlotGood (cell (used peer))) where
   none_unless_up : is_up peer.neighbour.phase ≡ false → length peer.rows ≡ 0

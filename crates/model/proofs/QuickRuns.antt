@@ -7,15 +7,16 @@ use mathlib.Core.List.{List, [], ◌∷◌, ◌++◌}
 use mathlib.Core.Option.{Option, none, some}
 use lib.Dec.{ltb, eqb}
 use borrow.Author.Tests.{eq-eqb, eqb-true, ltb-true, not-true}
+use Rattle.std.specs.Prelude.{Result, Ok, Err}
+use Rattle.checks.specs.declared.Refusal.{Refusal}
 use Rattle.checks.specs.Checks.{check, if_ok}
 use Rattle.checks.proofs.Laws.{cond_elim, and_left, and_right, and_both}
 use Rattle.nets.specs.Rows.{rows_of}
 use Rattle.message.specs.Kinds.{kind_of, status_of}
 use Rattle.message.specs.declared.Kind.TheVariants as K
 use Rattle.message.specs.declared.Message.TheVariants as M
+use Rattle.message.specs.declared.Message.{Message}
 use Rattle.message_reading.specs.Reading.{header_answer, asn_at, decode_of}
-use Rattle.message_reading.specs.declared.Decoded.{Decoded}
-use Rattle.message_reading.specs.declared.Decoded.TheVariants as D
 use Rattle.neighbour.specs.declared.Mode.TheVariants.{Passive}
 use Rattle.neighbour.specs.declared.Settings.{Settings}
 use Rattle.neighbour.specs.declared.Neighbour.{Neighbour}
@@ -58,7 +59,7 @@ too_soon : (quick : Bool) → ◌≡◌ {A = ℕ} (cond (not quick) 0 21) (cond 
 too_soon true = refl
 too_soon false = refl
 
-hello_answered : (g : Settings) (asn : ℕ) (n : Neighbour) (o : List ℕ) (a q s : ℕ) → header_answer o ≡ 0 → asn_at o ≡ asn → decode_of o ≡ D.Good (M.Hello a q s)
+hello_answered : (g : Settings) (asn : ℕ) (n : Neighbour) (o : List ℕ) (a q s : ℕ) → header_answer o ≡ 0 → asn_at o ≡ asn → decode_of o ≡ Ok (M.Hello a q s)
     → acquired n.phase ≡ true → answer_to g asn n o ≡ cond (ltb n.sincehello 30) 21 0
 unfolding answer_to if_ok check kind_answer is_update
 hello_answered g asn n o a q s h f d r =
@@ -71,13 +72,11 @@ move_says g o peer =
     (λ e. sym (eqb-true (answer_to g peer.asn peer.neighbour o) 0 e)) (λ _. refl)
 
 -- octets that say such a Hello
-says_elim : (Q : Type 0) (d : Decoded) → says_hello_up d ≡ true → ((a q s : ℕ) → d ≡ D.Good (M.Hello a q s) → Q) → Q
+says_elim : (Q : Type 0) (d : Result Message Refusal) → says_hello_up d ≡ true → ((a q s : ℕ) → d ≡ Ok (M.Hello a q s) → Q) → Q
 unfolding says_hello_up
-says_elim Q (D.Good x) e k =
-    hello_elim (λ y. D.Good x ≡ D.Good y → Q) (λ a q s f. k a q s f) x (and_left (same (kind_of x) K.Hello) (eqb (status_of x) 1) e) refl
-says_elim Q D.UnknownKind e k = absurd (false≢true e)
-says_elim Q D.BadStatus e k = absurd (false≢true e)
-says_elim Q D.BadLength e k = absurd (false≢true e)
+says_elim Q (Ok x) e k =
+    hello_elim (λ y. ◌≡◌ {A = Result Message Refusal} (Ok x) (Ok y) → Q) (λ a q s f. k a q s f) x (and_left (same (kind_of x) K.Hello) (eqb (status_of x) 1) e) refl
+says_elim Q (Err refused) e k = absurd (false≢true e)
 
 -- what it passed
 record Came (m : Model) (j a : ℕ) (o home buffer : List ℕ) : Type 0 where
@@ -149,11 +148,9 @@ module _ (m : Model) (j : ℕ) where
       let c = came m j a o home buffer e in
       go (eqb (step (receive a o home buffer) m).said.answer 0) (eqb (found_at m a) j) (decode_of o) (eq-eqb (found_at m a) j c.place) c.meaning
     where
-      go : (b c : Bool) (d : Decoded) → c ≡ true → says_hello_up d ≡ true → holds_of (is_up_hello (record_in m j)) (cond (b && c) (said_event d) none) ≡ b
-      go true true (D.Good x) f q = q
-      go true true D.UnknownKind f q = q
-      go true true D.BadStatus f q = q
-      go true true D.BadLength f q = q
+      go : (b c : Bool) (d : Result Message Refusal) → c ≡ true → says_hello_up d ≡ true → holds_of (is_up_hello (record_in m j)) (cond (b && c) (said_event d) none) ≡ b
+      go true true (Ok x) f q = q
+      go true true (Err refused) f q = q
       go true false d f q = absurd (false≢true f)
       go false c d f q = refl
   comes_brings (listing buffer) e = absurd (false≢true e)

@@ -7,11 +7,11 @@ use mathlib.Core.Option.{Option, none, some}
 use lib.Dec.{eqb}
 use lib.ListN.{get_or, replicate}
 use borrow.Author.Tests.{eqb-true}
+use Rattle.std.specs.Prelude.{Ok}
 use Rattle.checks.proofs.Laws.{and_left, and_right}
 use Rattle.nets.specs.Rows.{Row}
 use Rattle.message.specs.declared.Message.TheVariants as M
 use Rattle.message_reading.specs.Reading.{decode_of}
-use Rattle.message_reading.specs.declared.Decoded.TheVariants as D
 use Rattle.neighbour.specs.declared.Mode.TheVariants.{Passive}
 use Rattle.neighbour.specs.declared.Phase.{Phase}
 use Rattle.neighbour.specs.declared.Phase.TheVariants as Phases
@@ -158,7 +158,7 @@ unwrapped none = Tick
 unwrapped (some event) = event
 
 module _ (m : Model) (ok : Good m) (j : ℕ) (j8 : j < 8) (a : ℕ) (o home buffer : List ℕ) (asn number status net : ℕ)
-    (taken : accepts m j (receive a o home buffer) ≡ true) (says : decode_of o ≡ D.Good (M.Update asn number status net)) where
+    (taken : accepts m j (receive a o home buffer) ≡ true) (says : decode_of o ≡ Ok (M.Update asn number status net)) where
   abbrev call : Call
   call = receive a o home buffer
 

@@ -16,8 +16,8 @@ use Rattle.neighbour.specs.declared.Mode.{Mode}
 use Rattle.neighbour.specs.declared.Mode.TheVariants.{Unset, Active, Passive}
 use Rattle.neighbour.specs.declared.Settings.{Settings}
 use Rattle.neighbour.specs.declared.Neighbour.{Neighbour}
-use Rattle.neighbour.specs.declared.Offer.{Offer}
-use Rattle.neighbour.specs.declared.Offer.TheVariants.{Acceptable, Unacceptable}
+use Rattle.std.specs.Prelude.{Option, Some, None}
+use Rattle.neighbour.specs.declared.Terms.{Terms}
 use Rattle.neighbour.specs.Record.{under, is_idle, is_up, acquired, idle, left_idle, with_numbers, with_timers, with_reach, waiting, initialised, heard_from, shifted, enter_up, leave_up, polled, aged}
 use Rattle.neighbour.specs.Rules.{is_command, commanded, indicates, noted, recounted, offer_of, ones_of, goes_up, goes_down, judged}
 use Rattle.neighbour.proofs.Laws.{at_up, at_down}
@@ -108,17 +108,17 @@ module _ (P : Neighbour → Type 0) (g : Settings) (n : Neighbour) (same : P n) 
   unfolding does_b unanswered
   does_b_lem k hello poll mode = rw (hello_same _ g _) (begins k hello poll mode)
 
-  request_row : (sequence : ℕ) (offer : Offer) → Ends (on_request g n sequence offer)
+  request_row : (sequence : ℕ) (offer : Option Terms) → Ends (on_request g n sequence offer)
   unfolding on_request ceases repeats_cease answers unanswered
-  request_row sequence (Acceptable hello poll mode) =
-      let a = does_a_lem n hello poll mode in
-      under_elim Ends n.phase _ _ _ _ _ (λ _. does_a_lem (left_idle sequence) hello poll mode) (λ _. a) (λ _. a) (λ _. a) (λ _. same)
-  request_row sequence Unacceptable = under_elim Ends n.phase _ _ _ _ _ (λ _. same) (λ _. idles) (λ _. ends n 6) (λ _. ends n 6) (λ _. same)
+  request_row sequence (Some t) =
+      let a = does_a_lem n t.period1 t.period2 t.mode in
+      under_elim Ends n.phase _ _ _ _ _ (λ _. does_a_lem (left_idle sequence) t.period1 t.period2 t.mode) (λ _. a) (λ _. a) (λ _. a) (λ _. same)
+  request_row sequence None = under_elim Ends n.phase _ _ _ _ _ (λ _. same) (λ _. idles) (λ _. ends n 6) (λ _. ends n 6) (λ _. same)
 
-  settled : (offer : Offer) → Ends (settles g n offer)
+  settled : (offer : Option Terms) → Ends (settles g n offer)
   unfolding settles unanswered
-  settled (Acceptable hello poll mode) = does_b_lem n hello poll mode
-  settled Unacceptable = idles
+  settled (Some t) = does_b_lem n t.period1 t.period2 t.mode
+  settled None = idles
 
   poll_answered : (net : ℕ) (head : Head) → Ends (answers_poll g n net head)
   unfolding answers_poll answers

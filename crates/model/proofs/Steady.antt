@@ -4,19 +4,21 @@ use mathlib.Core.Path.{◌≡◌, refl, sym, ◌∙◌, ap}
 use mathlib.Core.Bool.{Bool, true, false, not, ◌&&◌, ◌||◌, false≢true}
 use mathlib.Core.List.{List, [], ◌∷◌}
 use lib.Dec.{ltb, leb, eqb}
-use lib.ListN.{length, get_or}
+use lib.ListN.{length}
 use lib.Seq.{set-get_or}
 use borrow.Author.Tests.{eqb-true, eqb-false}
+use Rattle.std.specs.Prelude.{Option, Some, None, Result, Ok}
+use Rattle.checks.specs.declared.Refusal.{Refusal}
 use Rattle.checks.specs.Checks.{check, if_ok}
 use Rattle.checks.specs.Lists.{every}
 use Rattle.neighbour.specs.Record.{is_up}
 use Rattle.checks.proofs.Laws.{cond_elim, and_left, and_right, check_holds, if_ok_new, if_ok_old}
-use Rattle.octets.specs.Numbers.{word16}
-use Rattle.octets_checksum.specs.Checksum.{checksum_of}
+use Rattle.message.specs.Kinds.{status_allowed, length_allowed}
+use Rattle.message.specs.declared.Kind.{Kind}
+use Rattle.message.specs.declared.Message.{Message}
 use Rattle.nets.specs.Rows.{Row, rows_of}
-use Rattle.message_reading.specs.Reading.{header_answer, asn_at, decode_of}
-use Rattle.message_reading.specs.declared.Decoded.{Decoded}
-use Rattle.message_reading.specs.declared.Decoded.TheVariants as D
+use Rattle.message_reading.specs.Reading.{size_allowed, version_is2, checksum_holds, header_answer, asn_at, status_at, kind_in, meaning_of, decode_as, decode_of}
+use Rattle.message_reading.proofs.Laws.{header_checks}
 use Rattle.update_walk.specs.Body.{UpdateRead, accepted, broken_at, too_many, update_of}
 use Rattle.neighbour.specs.declared.Settings.{Settings}
 use Rattle.neighbour.specs.declared.Neighbour.{Neighbour}
@@ -57,10 +59,9 @@ unfolding if_ok silent
 when_high k s h r = cond_elim (λ (x : Said). High x.answer) (eqb k 0) s _ (λ _. r) (λ _. h)
 
 header_high : (o : List ℕ) → High (header_answer o)
-unfolding header_answer
 header_high o =
-    check_high (leb 10 (length o) && leb (length o) 2048) 6 _ refl
-    (check_high (eqb (get_or o 0 0) 2) 7 _ refl (check_high (eqb (word16 o 4) (checksum_of o)) 8 0 refl refl))
+    rw (header_checks o)
+    (check_high (size_allowed o) 6 _ refl (check_high (version_is2 o) 7 _ refl (check_high (checksum_holds o) 8 0 refl refl)))
 
 body_high : (u : UpdateRead) → High (body_answer u)
 unfolding body_answer
@@ -68,20 +69,29 @@ body_high (accepted rows) = refl
 body_high (broken_at offset) = refl
 body_high too_many = refl
 
-kind_high : (g : Settings) (n : Neighbour) (o : List ℕ) (d : Decoded) → High (kind_answer g n o d)
+meaning_high : (g : Settings) (n : Neighbour) (o : List ℕ) (m : Message) → High (kind_answer g n o (Ok m))
 unfolding kind_answer
-kind_high g n o (D.Good m) =
+meaning_high g n o m =
     check_high (in_sequence n m) 13 _ refl
     (check_high (not (too_quick n m)) 21 _ refl (cond_elim High (is_update m && is_up n.phase) _ 0 (λ _. body_high (update_of 128 g.net o)) (λ _. refl)))
-kind_high g n o D.UnknownKind = refl
-kind_high g n o D.BadStatus = refl
-kind_high g n o D.BadLength = refl
+
+-- the kind stage's refusals are 10, 11 and 12
+kind_high : (g : Settings) (n : Neighbour) (o : List ℕ) → High (kind_answer g n o (decode_of o))
+unfolding kind_answer decode_of decode_as
+kind_high g n o = go (kind_in o)
+  where
+    go : (k : Option Kind) → High (kind_answer g n o (decode_as k o))
+    go None = refl
+    go (Some kind) =
+        cond_elim (λ (d : Result Message Refusal). High (kind_answer g n o d)) (status_allowed kind (status_at o)) _ _
+        (λ _. cond_elim (λ (d : Result Message Refusal). High (kind_answer g n o d)) (length_allowed kind (length o)) _ _
+        (λ _. meaning_high g n o (meaning_of kind o)) (λ _. refl)) (λ _. refl)
 
 answer_high : (g : Settings) (asn : ℕ) (n : Neighbour) (o : List ℕ) → High (answer_to g asn n o)
 unfolding answer_to if_ok
 answer_high g asn n o =
     cond_elim High (eqb (header_answer o) 0) _ (header_answer o)
-    (λ _. check_high (eqb (asn_at o) asn) 9 _ refl (kind_high g n o (decode_of o))) (λ _. header_high o)
+    (λ _. check_high (eqb (asn_at o) asn) 9 _ refl (kind_high g n o)) (λ _. header_high o)
 
 event_answers : (g : Settings) (event : Intrinsic) (slot : Slot) → (event_move g event slot).answer ≡ 0
 unfolding event_move no_move moved

@@ -6,6 +6,7 @@ use mathlib.Core.List.{List, [], ◌∷◌, append-nil}
 use lib.Dec.{leb}
 use lib.ListN.{length}
 use borrow.Author.Tests.{eq-eqb}
+use Rattle.std.specs.Prelude.{Ok}
 use Rattle.checks.specs.Checks.{check, if_ok}
 use Rattle.octets.specs.Buffer.{over}
 use Rattle.octets_checksum.proofs.Laws.{sealed_length}
@@ -13,7 +14,6 @@ use Rattle.nets.specs.Rows.{Row, rows_of}
 use Rattle.message.specs.declared.Message.{Message}
 use Rattle.message.specs.declared.Message.TheVariants as M
 use Rattle.message_reading.specs.Reading.{header_answer, asn_at, decode_of}
-use Rattle.message_reading.specs.declared.Decoded.TheVariants as D
 use Rattle.codec_writing.specs.Octets.{plain_octets, message_octets}
 use Rattle.neighbour.specs.declared.Phase.{Phase}
 use Rattle.neighbour.specs.declared.Phase.TheVariants.{Idle, Acquisition, Down, Up, Cease}
@@ -51,7 +51,7 @@ use Rattle.model.proofs.Corollaries.{from_model, up_shown, slot_is, mine, here, 
 record Reaches (asn : ℕ) (n : Neighbour) (o : List ℕ) (x : Message) : Type 0 where
   header : header_answer o ≡ 0
   from : asn_at o ≡ asn
-  meaning : decode_of o ≡ D.Good x
+  meaning : decode_of o ≡ Ok x
   idle : n.phase ≡ Idle
 
 module _ (g : Settings) (asn : ℕ) (n : Neighbour) (o : List ℕ) (x : Message) (h : Reaches asn n o x) where

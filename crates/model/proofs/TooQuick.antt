@@ -7,6 +7,8 @@ use mathlib.Core.List.{List, [], append-nil}
 use lib.Dec.{leb, eqb}
 use lib.ListN.{length, get_or}
 use borrow.Author.Tests.{lt-ltb, eq-eqb, ne_eqb}
+use Rattle.std.specs.Prelude.{Option, Some, None, Result, Ok, Err}
+use Rattle.checks.specs.declared.Refusal.{Refusal}
 use Rattle.checks.specs.Checks.{check, if_ok}
 use Rattle.checks.proofs.Laws.{cond_elim}
 use Rattle.octets.specs.Buffer.{over}
@@ -14,13 +16,10 @@ use Rattle.octets_checksum.proofs.Laws.{sealed_length}
 use Rattle.nets.specs.Rows.{Row, rows_of}
 use Rattle.message.specs.Kinds.{kind_at, status_allowed, length_allowed, kind_of}
 use Rattle.message.specs.declared.Kind.TheVariants as K
-use Rattle.message.specs.declared.Known.{Known}
-use Rattle.message.specs.declared.Known.TheVariants.{Is, Unknown}
 use Rattle.message.specs.declared.Message.{Message}
 use Rattle.message.specs.declared.Message.TheVariants as M
+use Rattle.message.specs.declared.Kind.{Kind}
 use Rattle.message_reading.specs.Reading.{header_answer, status_at, asn_at, meaning_of, decode_as, decode_of}
-use Rattle.message_reading.specs.declared.Decoded.{Decoded}
-use Rattle.message_reading.specs.declared.Decoded.TheVariants as D
 use Rattle.codec_writing.specs.Octets.{plain_octets, message_octets}
 use Rattle.neighbour.specs.declared.Settings.{Settings}
 use Rattle.neighbour.specs.declared.Neighbour.{Neighbour}
@@ -48,27 +47,25 @@ use Rattle.model.proofs.QuickRuns.{hello_sequenced, hello_quick}
 -- ---- 21
 
 -- an Error, or no message
-unfoldable no_other : Decoded → Bool
-no_other (D.Good x) = same (kind_of x) K.Error
-no_other D.UnknownKind = true
-no_other D.BadStatus = true
-no_other D.BadLength = true
+unfoldable no_other : Result Message Refusal → Bool
+no_other (Ok x) = same (kind_of x) K.Error
+no_other (Err refused) = true
 
 -- is all that type 8 says
 type_8 : (o : List ℕ) → get_or o 1 0 ≡ 8 → no_other (decode_of o) ≡ true
 unfolding no_other decode_of decode_as kind_at meaning_of
 type_8 o e =
     rw e
-    (cond_elim (λ (k : Known). no_other (decode_as k o) ≡ true) (eqb (get_or o 2 0) 0) (Is K.Error) Unknown
-    (λ _. cond_elim (λ (d : Decoded). no_other d ≡ true) (status_allowed K.Error (status_at o)) _ _
-    (λ _. cond_elim (λ (d : Decoded). no_other d ≡ true) (length_allowed K.Error (length o)) _ _ (λ _. refl) (λ _. refl)) (λ _. refl))
+    (cond_elim (λ (k : Option Kind). no_other (decode_as k o) ≡ true) (eqb (get_or o 2 0) 0) (Some K.Error) None
+    (λ _. cond_elim (λ (d : Result Message Refusal). no_other d ≡ true) (status_allowed K.Error (status_at o)) _ _
+    (λ _. cond_elim (λ (d : Result Message Refusal). no_other d ≡ true) (length_allowed K.Error (length o)) _ _ (λ _. refl) (λ _. refl)) (λ _. refl))
     (λ _. refl))
 
 -- a message that comes too soon
 record Hasty (g : Settings) (asn : ℕ) (n : Neighbour) (o : List ℕ) (x : Message) : Type 0 where
   header : header_answer o ≡ 0
   from : asn_at o ≡ asn
-  meaning : decode_of o ≡ D.Good x
+  meaning : decode_of o ≡ Ok x
   reached : acquired n.phase ≡ true
   sequenced : in_sequence n x ≡ true
   quick : too_quick n x ≡ true

@@ -8,12 +8,13 @@ use mathlib.Core.Option.{none, some}
 use lib.Dec.{eqb}
 use lib.ListN.{length}
 use borrow.Author.Tests.{eq-eqb, eqb-true, eqb-false, not-true, le-ltb}
+use Rattle.std.specs.Prelude.{Result, Ok, Err}
+use Rattle.checks.specs.declared.Refusal.{Refusal}
 use Rattle.checks.specs.Checks.{check, if_ok}
-use Rattle.checks.proofs.Laws.{and_left, and_right}
+use Rattle.checks.proofs.Laws.{number_some, and_left, and_right}
+use Rattle.message.specs.declared.Message.{Message}
 use Rattle.nets.specs.Rows.{Row, rows_of}
 use Rattle.message_reading.specs.Reading.{header_answer, asn_at, decode_of}
-use Rattle.message_reading.specs.declared.Decoded.{Decoded}
-use Rattle.message_reading.specs.declared.Decoded.TheVariants as D
 use Rattle.neighbour.specs.declared.Mode.TheVariants.{Passive}
 use Rattle.neighbour.specs.declared.Phase.TheVariants as Phases
 use Rattle.neighbour.specs.declared.Settings.{Settings}
@@ -129,13 +130,11 @@ module _ (m : Model) (ok : Good m) (j : ℕ) (j8 : j < 8) where
         unfolding done_for moved
         done_answer f = c ∙ rw (message_answer_lem, z, e, here, done_move f, eq-eqb j j refl)
 
-        by_kind : (d : Decoded) → decode_of o ≡ d → kind_answer m.settings peer.neighbour o d ≡ 0 → event_for m j call ≡ said_event d
+        by_kind : (d : Result Message Refusal) → decode_of o ≡ d → kind_answer m.settings peer.neighbour o d ≡ 0 → event_for m j call ≡ said_event d
             → P (moved peer (after_message m.settings peer.asn peer.neighbour o d) (rows_after m.settings peer.neighbour o d peer.rows) peer.seconds).slot
         unfolding moved after_message kind_answer said_event seconds_after
-        by_kind (D.Good x) d k q = goes peer here (Received x) q (first_twelve o) _
-        by_kind D.UnknownKind d k q = absurd (omega (arith, k))
-        by_kind D.BadStatus d k q = absurd (omega (arith, k))
-        by_kind D.BadLength d k q = absurd (omega (arith, k))
+        by_kind (Ok x) d k q = goes peer here (Received x) q (first_twelve o) _
+        by_kind (Err refused) d k q = absurd (number_some refused k)
 
         heard_here : P (message_move m.settings o (used peer)).slot
         heard_here = go (eqb (answer_to m.settings peer.asn peer.neighbour o) 0) refl

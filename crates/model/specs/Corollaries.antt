@@ -1,6 +1,6 @@
 -- What a technician asks of a gateway, in a few lines each. All follow from the theorem about lists of calls; the proofs are in proofs/.
 -- Where a claim speaks of any sensible state and table, it holds after every list of calls from fresh: those are sensible (`RunsAreSensible`).
-use Rattle.std.specs.Prelude.{ℕ, ◌+◌, ◌*◌, ◌%◌, ◌<◌, ◌≡◌, Bool, true, false, not, ◌&&◌, ◌||◌, List, [], ◌∷◌, ◌++◌, map, leb, eqb, length}
+use Rattle.std.specs.Prelude.{ℕ, ◌+◌, ◌*◌, ◌%◌, ◌<◌, ◌≡◌, Bool, true, false, not, ◌&&◌, ◌||◌, List, [], ◌∷◌, ◌++◌, map, leb, eqb, length, Ok}
 use Rattle.neighbour.specs.Record.{is_up}
 use Rattle.checks.specs.Lists.{every, join}
 use Rattle.nets.specs.Rows.{Row, flat}
@@ -9,7 +9,6 @@ use Rattle.message.specs.declared.Message.{Message}
 use Rattle.neighbour_seconds.specs.Seconds.{clock_full}
 use Rattle.message.specs.declared.Message.TheVariants as M
 use Rattle.message_reading.specs.Reading.{header_answer, asn_at, decode_of}
-use Rattle.message_reading.specs.declared.Decoded.TheVariants as D
 use Rattle.update_walk.specs.Body.{accepted, update_of}
 use Rattle.neighbour.specs.declared.Mode.TheVariants.{Passive}
 use Rattle.neighbour.specs.declared.Settings.{Settings}
@@ -59,7 +58,7 @@ pub record Says (b : Gateway) (j : ℕ) (o home buffer : List ℕ) (m : Message)
   pub good_home_lem : good_home b.state.settings home ≡ true
   pub header : header_answer o ≡ 0
   pub from : asn_at o ≡ (slot_on b j).asn
-  pub meaning : decode_of o ≡ D.Good m
+  pub meaning : decode_of o ≡ Ok m
 
 -- ---- every run from fresh
 
@@ -277,6 +276,6 @@ pub record UpdateStatus (g : Settings) (calls : List Call) (call : Call) (j stat
 abbrev pub UpdateIndicates : Type 0
 UpdateIndicates =
     (g : Settings) → Taken g → (calls : List Call) (j a : ℕ) (o home buffer : List ℕ) (asn number status net : ℕ) → j < 8
-    → accepts (model g calls) j (receive a o home buffer) ≡ true → decode_of o ≡ D.Good (M.Update asn number status net)
+    → accepts (model g calls) j (receive a o home buffer) ≡ true → decode_of o ≡ Ok (M.Update asn number status net)
     → (slot_on (run g calls) j).neighbour.mode ≡ Passive
     → UpdateStatus g calls (receive a o home buffer) j status

@@ -2,13 +2,12 @@
 -- fall silent, poll 65,535 times, are heard of by their Updates alone, say Hello every second, and call on when we gave
 -- them up; one that is for seconds in each state, and is removed and added again; and two that no run comes to, one
 -- with its t3 run out and one whose clock is full.
-use Rattle.std.specs.Prelude.{ℕ, zero, suc, ◌+◌, ◌*◌, ◌%◌, ◌<◌, ◌≡◌, true, false, List, [], ◌∷◌, ◌++◌, map, leb, length}
+use Rattle.std.specs.Prelude.{ℕ, zero, suc, ◌+◌, ◌*◌, ◌%◌, ◌<◌, ◌≡◌, true, false, List, [], ◌∷◌, ◌++◌, map, leb, length, Ok}
 use Rattle.nets.specs.Rows.{Row}
 use Rattle.update_rows.specs.Storing.{zeros}
 use Rattle.message.specs.declared.Message.{Message}
 use Rattle.message.specs.declared.Message.TheVariants.{Request, Confirm, Refuse, Cease, CeaseAck, Hello, IHeardYou, Poll, Update, Error}
 use Rattle.message_reading.specs.Reading.{decode_of}
-use Rattle.message_reading.specs.declared.Decoded.TheVariants as D
 use Rattle.codec_writing.specs.Octets.{message_octets}
 use Rattle.neighbour.specs.declared.Mode.TheVariants.{Passive}
 use Rattle.neighbour.specs.declared.Settings.{Settings}
@@ -205,7 +204,7 @@ pub record IndicationMet : Type 0 where
   pub taken :
       accepts (model some_settings (almost_up ++ (tick 1 lent_buffer ∷ []))) 0
       (receive 1 (message_octets (Update 7 1 129 2148073472) (class_a 10 1)) [] lent_buffer) ≡ true
-  pub says : decode_of (message_octets (Update 7 1 129 2148073472) (class_a 10 1)) ≡ D.Good (Update 7 1 129 2148073472)
+  pub says : decode_of (message_octets (Update 7 1 129 2148073472) (class_a 10 1)) ≡ Ok (Update 7 1 129 2148073472)
   pub passive : (slot_on (run some_settings (almost_up ++ (tick 1 lent_buffer ∷ []))) 0).neighbour.mode ≡ Passive
 
 -- a passive neighbour that says Hello every second through two windows

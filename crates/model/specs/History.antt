@@ -1,10 +1,10 @@
 -- Which rows a slot must have, told from the history alone: who was Up after each prefix of the list, and which message was accepted there. It reads no rows of the model.
-use Rattle.std.specs.Prelude.{ℕ, Bool, true, false, cond, not, ◌&&◌, List, [], ◌∷◌, ◌++◌, eqb}
+use Rattle.std.specs.Prelude.{ℕ, Bool, true, false, cond, not, ◌&&◌, List, [], ◌∷◌, ◌++◌, eqb, Result, Ok, Err}
+use Rattle.checks.specs.declared.Refusal.{Refusal}
+use Rattle.message.specs.declared.Message.{Message}
 use Rattle.neighbour.specs.Record.{is_up}
 use Rattle.nets.specs.Rows.{Row}
 use Rattle.message_reading.specs.Reading.{decode_of}
-use Rattle.message_reading.specs.declared.Decoded.{Decoded}
-use Rattle.message_reading.specs.declared.Decoded.TheVariants as D
 use Rattle.update_walk.specs.Body.{update_of, rows_read}
 use Rattle.neighbour.specs.declared.Settings.{Settings}
 use Rattle.model.specs.Model.{Call, add, remove, happen, receive, listing, Slot, free, used, Model, slot_in, found_at, is_update, step, model}
@@ -13,11 +13,9 @@ unfoldable pub is_up_slot : Slot → Bool
 is_up_slot free = false
 is_up_slot (used p) = is_up p.neighbour.phase
 
-unfoldable pub says_update : Decoded → Bool
-says_update (D.Good m) = is_update m
-says_update D.UnknownKind = false
-says_update D.BadStatus = false
-says_update D.BadLength = false
+unfoldable pub says_update : Result Message Refusal → Bool
+says_update (Ok m) = is_update m
+says_update (Err refused) = false
 
 -- 01: "An Update that finds its slot Up and fails no check is accepted": in slot j
 unfoldable pub accepts : Model → ℕ → Call → Bool

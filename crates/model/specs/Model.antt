@@ -1,5 +1,7 @@
 -- The model that every list of calls is measured by (01: ledger). It is "fed only the arguments of fresh and the calls, without state and table", and makes the checks itself.
-use Rattle.std.specs.Prelude.{ℕ, suc, Bool, true, false, cond, not, ◌&&◌, List, [], ◌∷◌, ltb, leb, eqb, length, get_or, set, replicate}
+use Rattle.std.specs.Prelude.{ℕ, suc, Bool, true, false, cond, not, ◌&&◌, List, [], ◌∷◌, ltb, leb, eqb, length, get_or, set, replicate, Result, Ok, Err}
+use Rattle.checks.specs.Refusals.{number_of}
+use Rattle.checks.specs.declared.Refusal.{Refusal}
 use Rattle.checks.specs.Checks.{check, if_ok}
 use Rattle.checks.specs.Lists.{first}
 use Rattle.octets.specs.Numbers.{word32}
@@ -8,8 +10,6 @@ use Rattle.message.specs.Kinds.{kind_of, plain_status}
 use Rattle.message.specs.declared.Kind.TheVariants as K
 use Rattle.message.specs.declared.Message.{Message}
 use Rattle.message_reading.specs.Reading.{header_answer, asn_at, status_at, sequence_at, decode_of}
-use Rattle.message_reading.specs.declared.Decoded.{Decoded}
-use Rattle.message_reading.specs.declared.Decoded.TheVariants as D
 use Rattle.update_walk.specs.Body.{UpdateRead, accepted, broken_at, too_many, update_of, rows_read}
 use Rattle.codec_writing.specs.Octets.{message_octets}
 use Rattle.neighbour.specs.declared.Phase.{Phase}
@@ -215,13 +215,11 @@ unfoldable pub is_update : Message → Bool
 is_update m = same (kind_of m) K.Update
 
 -- 10 to 12, then 13 "response out of sequence", then 02's 21 "after 13", then of an Update in Up its body
-unfoldable pub kind_answer : Settings → Neighbour → List ℕ → Decoded → ℕ
-kind_answer g n o (D.Good m) =
+unfoldable pub kind_answer : Settings → Neighbour → List ℕ → Result Message Refusal → ℕ
+kind_answer g n o (Ok m) =
     check (in_sequence n m) 13
     (check (not (too_quick n m)) 21 (cond (is_update m && is_up n.phase) (body_answer (update_of 128 g.net o)) 0))
-kind_answer g n o D.UnknownKind = 10
-kind_answer g n o D.BadStatus = 11
-kind_answer g n o D.BadLength = 12
+kind_answer g n o (Err refused) = number_of refused
 
 -- 6 to 8, then 9 "AS is not this neighbour's", then the rest
 unfoldable pub answer_to : Settings → ℕ → Neighbour → List ℕ → ℕ
@@ -253,18 +251,14 @@ refusal_reply g n o answer =
     Nothing))))
 
 -- the machine's step for a message that passed; 10 to 12 have refused the others
-unfoldable pub after_message : Settings → ℕ → Neighbour → List ℕ → Decoded → After
-after_message g asn n o (D.Good m) = step_of g asn n (Received m) (first_twelve o)
-after_message g asn n o D.UnknownKind = unanswered n
-after_message g asn n o D.BadStatus = unanswered n
-after_message g asn n o D.BadLength = unanswered n
+unfoldable pub after_message : Settings → ℕ → Neighbour → List ℕ → Result Message Refusal → After
+after_message g asn n o (Ok m) = step_of g asn n (Received m) (first_twelve o)
+after_message g asn n o (Err refused) = unanswered n
 
 -- 01: "An Update that finds its slot Up and fails no check is accepted: its rows replace the slot's."
-unfoldable pub rows_after : Settings → Neighbour → List ℕ → Decoded → List Row → List Row
-rows_after g n o (D.Good m) rows = cond (is_update m && is_up n.phase) (rows_read (update_of 128 g.net o)) rows
-rows_after g n o D.UnknownKind rows = rows
-rows_after g n o D.BadStatus rows = rows
-rows_after g n o D.BadLength rows = rows
+unfoldable pub rows_after : Settings → Neighbour → List ℕ → Result Message Refusal → List Row → List Row
+rows_after g n o (Ok m) rows = cond (is_update m && is_up n.phase) (rows_read (update_of 128 g.net o)) rows
+rows_after g n o (Err refused) rows = rows
 
 -- a refusal keeps the slot
 abbrev pub refused_move : Settings → List ℕ → Peer → ℕ → Move

@@ -1,13 +1,13 @@
 -- A neighbour that is too quick (02, L5): what a Hello or a Poll that comes too soon draws, and that a neighbour whose
 -- Hello comes every second is none the worse for it while our mode is passive. The proofs are in proofs/.
-use Rattle.std.specs.Prelude.{ℕ, suc, ◌%◌, ◌<◌, ◌≡◌, Bool, true, false, cond, not, ◌&&◌, ◌||◌, List, [], ◌∷◌, ◌++◌, ltb, eqb}
+use Rattle.std.specs.Prelude.{ℕ, suc, ◌%◌, ◌<◌, ◌≡◌, Bool, true, false, cond, not, ◌&&◌, ◌||◌, List, [], ◌∷◌, ◌++◌, ltb, eqb, Result, Ok, Err}
+use Rattle.checks.specs.declared.Refusal.{Refusal}
 use Rattle.octets.specs.Buffer.{over}
 use Rattle.message.specs.Kinds.{kind_of, status_of}
 use Rattle.message.specs.declared.Kind.TheVariants as K
 use Rattle.message.specs.declared.Message.TheVariants as M
+use Rattle.message.specs.declared.Message.{Message}
 use Rattle.message_reading.specs.Reading.{header_answer, asn_at, decode_of}
-use Rattle.message_reading.specs.declared.Decoded.{Decoded}
-use Rattle.message_reading.specs.declared.Decoded.TheVariants as D
 use Rattle.codec_writing.specs.Octets.{message_octets}
 use Rattle.neighbour.specs.declared.Mode.TheVariants.{Passive}
 use Rattle.neighbour.specs.declared.Settings.{Settings}
@@ -52,11 +52,9 @@ TooQuickDrawsFour =
 -- ---- Hellos, by the calls
 
 -- a Hello of status 1, the one that passive mode hears
-unfoldable pub says_hello_up : Decoded → Bool
-says_hello_up (D.Good x) = same (kind_of x) K.Hello && eqb (status_of x) 1
-says_hello_up D.UnknownKind = false
-says_hello_up D.BadStatus = false
-says_hello_up D.BadLength = false
+unfoldable pub says_hello_up : Result Message Refusal → Bool
+says_hello_up (Ok x) = same (kind_of x) K.Hello && eqb (status_of x) 1
+says_hello_up (Err refused) = false
 
 -- such a Hello comes from the neighbour in slot j and passes 3 to 5, 6 to 8 and 9; 10 to 12 refuse no octets that say
 -- one, and 13 is about responses

@@ -1,13 +1,13 @@
 -- What happened to the neighbour in a slot, told from the calls: the events carried out for it, and its windows. A
 -- window is the stretch between two consecutive evaluations of the register.
-use Rattle.std.specs.Prelude.{ℕ, Bool, true, false, cond, not, ◌&&◌, ◌||◌, List, [], ◌∷◌, ◌++◌, ltb, eqb, length, take}
+use Rattle.std.specs.Prelude.{ℕ, Bool, true, false, cond, not, ◌&&◌, ◌||◌, List, [], ◌∷◌, ◌++◌, ltb, eqb, length, take, Result, Ok, Err}
 use Rattle.std.proofs.Math.Option.{Option, none, some}
+use Rattle.checks.specs.declared.Refusal.{Refusal}
 use Rattle.nets.specs.Rows.{Row}
 use Rattle.message.specs.Kinds.{kind_of, status_of}
 use Rattle.message.specs.declared.Kind.TheVariants as K
+use Rattle.message.specs.declared.Message.{Message}
 use Rattle.message_reading.specs.Reading.{decode_of}
-use Rattle.message_reading.specs.declared.Decoded.{Decoded}
-use Rattle.message_reading.specs.declared.Decoded.TheVariants as D
 use Rattle.neighbour.specs.declared.Neighbour.{Neighbour}
 use Rattle.neighbour.specs.Record.{acquired}
 use Rattle.neighbour.specs.Rules.{one_of, indicates}
@@ -48,11 +48,9 @@ unfoldable pub record_in : Model → ℕ → Neighbour
 record_in m j = (cell (slot_in m j)).neighbour
 
 -- the event that octets say, if they say a message
-unfoldable pub said_event : Decoded → Option Event
-said_event (D.Good x) = some (Received x)
-said_event D.UnknownKind = none
-said_event D.BadStatus = none
-said_event D.BadLength = none
+unfoldable pub said_event : Result Message Refusal → Option Event
+said_event (Ok x) = some (Received x)
+said_event (Err refused) = none
 
 -- this event, if the call is answered 0 and about the neighbour in slot j
 unfoldable pub done_for : Model → ℕ → ℕ → Call → Option Event → Option Event

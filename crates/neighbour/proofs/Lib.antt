@@ -2,4 +2,3 @@ pub mod Laws
 pub mod Table
 pub mod Counting
 pub mod Sheet
-pub mod Counts

@@ -1,5 +1,5 @@
 -- The rules of "One neighbour" that need no event: numbers in sequence, what Request and Confirm agree on, reachability.
-use Rattle.std.specs.Prelude.{ℕ, ◌+◌, ◌/◌, ◌%◌, Bool, false, cond, not, ◌&&◌, ◌||◌, List, [], ◌∷◌, ltb, leb, eqb}
+use Rattle.std.specs.Prelude.{ℕ, ◌+◌, ◌/◌, ◌%◌, Bool, false, Option, Some, None, cond, not, ◌&&◌, ◌||◌, List, [], ◌∷◌, ltb, leb, eqb}
 use Rattle.message.specs.Kinds.{type_of, code_of, kind_of, sequence_of, status_of}
 use Rattle.message.specs.declared.Kind.{Kind}
 use Rattle.message.specs.declared.Kind.TheVariants as K
@@ -7,8 +7,7 @@ use Rattle.message.specs.declared.Message.{Message}
 use Rattle.neighbour.specs.declared.Settings.{Settings}
 use Rattle.neighbour.specs.declared.Mode.{Mode}
 use Rattle.neighbour.specs.declared.Mode.TheVariants.{Unset, Active, Passive}
-use Rattle.neighbour.specs.declared.Offer.{Offer}
-use Rattle.neighbour.specs.declared.Offer.TheVariants.{Acceptable, Unacceptable}
+use Rattle.neighbour.specs.declared.Terms.{Terms}
 use Rattle.neighbour.specs.declared.Neighbour.{Neighbour}
 use Rattle.neighbour.specs.Record.{P1, P2, under, is_idle, acquired, with_numbers, with_counts, heard_from, enter_up, leave_up}
 
@@ -84,10 +83,10 @@ mode_of capability status own peer =
     (cond (ltb own peer) Active Passive))))
 
 -- what a Request or a Confirm offers a gateway with these settings: T1, T2 and M, or nothing that it takes
-unfoldable pub offer_of : Settings → ℕ → ℕ → ℕ → ℕ → Offer
+unfoldable pub offer_of : Settings → ℕ → ℕ → ℕ → ℕ → Option Terms
 offer_of g asn status hello poll =
-    cond (unacceptable g.capability status hello poll) Unacceptable
-    (Acceptable (period1_of hello) (period2_of poll) (mode_of g.capability status g.asn asn))
+    cond (unacceptable g.capability status hello poll) None
+    (Some (record { period1 = period1_of hello; period2 = period2_of poll; mode = mode_of g.capability status g.asn asn }))
 
 -- 01: "With n ones": the ones among the register's four bits
 unfoldable pub ones_of : ℕ → ℕ

@@ -1,11 +1,13 @@
 // One neighbour: its record, the settings, and the rules of 01's "One neighbour" that need no event.
 #![tactic(auto)]
 
-ghost use Rattle.std.specs.Prelude.{◌≡◌};
-ghost use Rattle.neighbour.specs.Record.{is_idle, acquired, with_timers, with_reach, idle, left_idle, waiting, initialised, shifted, polled, one_more, aged};
-ghost use Rattle.neighbour.specs.Rules.{is_command, must_carry_s, in_sequence, commanded, indicates, noted, too_quick, recounted, larger, unacceptable, mode_of, offer_of, ones_of, goes_up, goes_down, judged};
+ghost use Rattle.std.specs.Prelude.{◌≡◌, ◌<◌, MatchResult};
+ghost use Rattle.neighbour.specs.Record.{is_idle, is_up, acquired, phase_number, mode_number, idle, left_idle, waiting, initialised, shifted, polled, one_more, aged};
+ghost use Rattle.neighbour.specs.Rules.{is_command, must_carry_s, in_sequence, commanded, indicates, noted, too_quick, recounted, unacceptable, mode_of, offer_of, ones_of, goes_up, goes_down, judged};
 
 use message::{Kind, Message};
+use std::error::Error;
+use std::fmt;
 
 // RFC 904's parameters, in seconds: hello and poll intervals, retry, and the two lengths of t3.
 pub const P1: u16 = 30;
@@ -22,8 +24,9 @@ pub const P5: u16 = 120;
 pub const HOLDS_AT: u8 = 120;
 
 // RFC 904's states (01: state), in 01's order.
-#[derive(Clone, Copy)]
+#[derive(Clone, Copy, Debug, Default, PartialEq, Eq)]
 pub enum Phase {
+    #[default]
     Idle,
     Acquisition,
     Down,
@@ -32,15 +35,20 @@ pub enum Phase {
 }
 
 // 01: M. It is unset outside Down and Up.
-#[derive(Clone, Copy)]
+#[derive(Clone, Copy, Debug, Default, PartialEq, Eq)]
 pub enum Mode {
+    #[default]
     Unset,
     Active,
     Passive,
 }
 
+// A number that stands for no state, or for no mode.
+#[derive(Clone, Copy, Debug, PartialEq, Eq)]
+pub struct UnknownNumber(pub u8);
+
 // What a gateway is told when its state is made, in an order that leaves no gap: a state is handed on by value.
-#[derive(Clone, Copy)]
+#[derive(Clone, Copy, Debug, PartialEq, Eq)]
 pub struct Settings {
     pub asn: u16,
     // Which modes we can take; a number, since a bad one must be refused.
@@ -52,7 +60,7 @@ pub struct Settings {
 }
 
 // What is kept of one neighbour, in the order of the state block. Address, AS and row count stand outside.
-#[derive(Clone, Copy)]
+#[derive(Clone, Copy, Debug, Default, PartialEq, Eq)]
 pub struct Neighbour {
     // The number that our commands carry, and that responses must carry.
     pub s: u16,
@@ -76,160 +84,296 @@ pub struct Neighbour {
     pub sincepoll: u8,
 }
 
-// What a Request or a Confirm offers: T1, T2 and M, or nothing that we take.
-#[derive(Clone, Copy)]
-pub enum Offer {
-    Acceptable {
-        period1: u16,
-        period2: u16,
-        mode: Mode,
-    },
-    Unacceptable,
+// What a Request or a Confirm that we take agrees on: T1, T2 and M.
+#[derive(Clone, Copy, Debug, PartialEq, Eq)]
+pub struct Terms {
+    pub period1: u16,
+    pub period2: u16,
+    pub mode: Mode,
 }
 
-pub fn is_idle(phase: Phase) -> bool
-    ensures { result ≡ is_idle phase }
-{
-    match phase {
-        Phase::Idle => true,
-        Phase::Acquisition => false,
-        Phase::Down => false,
-        Phase::Up => false,
-        Phase::Cease => false,
+impl Phase {
+    pub fn is_idle(self) -> bool
+        ensures { result ≡ is_idle self }
+    {
+        self == Phase::Idle
+    }
+
+    pub fn is_up(self) -> bool
+        ensures { result ≡ is_up self }
+    {
+        self == Phase::Up
+    }
+
+    // Down and Up, where alone an Error is sent and an indication noted.
+    pub fn is_acquired(self) -> bool
+        ensures { result ≡ acquired self }
+    {
+        matches!(self, Phase::Down | Phase::Up)
     }
 }
 
-// Down and Up, where alone an Error is sent and an indication noted.
-pub fn is_acquired(phase: Phase) -> bool
-    ensures { result ≡ acquired phase }
-{
-    match phase {
-        Phase::Idle => false,
-        Phase::Acquisition => false,
-        Phase::Down => true,
-        Phase::Up => true,
-        Phase::Cease => false,
+impl From<Phase> for u8 {
+    ghost from_gives = { λ phase number. number ≡ phase_number phase };
+
+    // The state's place in 01's order, from 0 on.
+    fn from(phase: Phase) -> u8 {
+        match phase {
+            Phase::Idle => 0,
+            Phase::Acquisition => 1,
+            Phase::Down => 2,
+            Phase::Up => 3,
+            Phase::Cease => 4,
+        }
     }
 }
 
-// The records that a transition leaves.
+impl TryFrom<u8> for Phase {
+    type Error = UnknownNumber;
 
-pub fn to_idle() -> Neighbour
-    ensures { result ≡ idle }
-{
-    Neighbour {
-        s: 0,
-        r: 0,
-        period1: 0,
-        period2: 0,
-        t1: 0,
-        t2: 0,
-        t3: 0,
-        phase: Phase::Idle,
-        mode: Mode::Unset,
-        register: 0,
-        heard: 0,
-        cause: 0,
-        sincehello: 0,
-        sincepoll: 0,
+    ghost try_from_gives = { λ number result. MatchResult result (λ phase. number ≡ phase_number phase) (λ _. 4 < number) };
+
+    fn try_from(number: u8) -> Result<Phase, UnknownNumber> {
+        match number {
+            0 => Ok(Phase::Idle),
+            1 => Ok(Phase::Acquisition),
+            2 => Ok(Phase::Down),
+            3 => Ok(Phase::Up),
+            4 => Ok(Phase::Cease),
+            _ => Err(UnknownNumber(number)),
+        }
     }
 }
 
-// A neighbour that leaves Idle: S is 0, R is given.
-pub fn leave_idle(r: u16) -> Neighbour
-    ensures { result ≡ left_idle r }
-{
-    let mut n = to_idle();
-    n.r = r;
-    n
-}
+impl From<Mode> for u8 {
+    ghost from_gives = { λ mode number. number ≡ mode_number mode };
 
-// Entering Acquisition or Cease.
-pub fn to_waiting(n: Neighbour, phase: Phase, cause: u8) -> Neighbour
-    ensures { result ≡ waiting n phase cause }
-{
-    Neighbour {
-        period1: 0,
-        period2: 0,
-        t1: P3,
-        t2: 0,
-        t3: P5,
-        phase,
-        mode: Mode::Unset,
-        register: 0,
-        heard: 0,
-        cause,
-        ..n
+    // None, active and passive, from 0 on.
+    fn from(mode: Mode) -> u8 {
+        match mode {
+            Mode::Unset => 0,
+            Mode::Active => 1,
+            Mode::Passive => 2,
+        }
     }
 }
 
-// What 01's A and B have in common: Down with the intervals and the mode agreed on.
-pub fn initialise(n: Neighbour, period1: u16, period2: u16, mode: Mode) -> Neighbour
-    ensures { result ≡ initialised n period1 period2 mode }
-{
-    Neighbour {
-        period1,
-        period2,
-        t1: period1,
-        t2: 0,
-        t3: P5,
-        phase: Phase::Down,
-        mode,
-        register: 0,
-        heard: 0,
-        cause: 0,
-        sincehello: HOLDS_AT,
-        sincepoll: HOLDS_AT,
-        ..n
+impl TryFrom<u8> for Mode {
+    type Error = UnknownNumber;
+
+    ghost try_from_gives = { λ number result. MatchResult result (λ mode. number ≡ mode_number mode) (λ _. 2 < number) };
+
+    fn try_from(number: u8) -> Result<Mode, UnknownNumber> {
+        match number {
+            0 => Ok(Mode::Unset),
+            1 => Ok(Mode::Active),
+            2 => Ok(Mode::Passive),
+            _ => Err(UnknownNumber(number)),
+        }
     }
 }
 
-// The end of a hello interval. The register is shifted in a wider type, where nothing is lost.
-pub fn shift(n: Neighbour) -> Neighbour
-    ensures { result ≡ shifted n }
-{
-    let mut m = n;
-    m.register = (((n.register as u16) * 2 + (n.heard as u16)) % 16) as u8;
-    m.heard = 0;
-    m.t1 = n.period1;
-    m
+impl fmt::Display for UnknownNumber {
+    fn fmt<W: fmt::Write>(&self, f: &mut fmt::Formatter<W>) -> fmt::Result {
+        write!(f, "no state or mode has the number {}", self.0)
+    }
 }
 
-// The same record in another state, with another t2: enumerations are not stored to a field.
-fn move_to(n: Neighbour, phase: Phase, t2: u16) -> Neighbour
-    ensures { result ≡ with_reach (with_timers n n.t1 t2 n.t3) phase n.register n.heard }
-{
-    Neighbour { phase, t2, ..n }
+impl Error for UnknownNumber {}
+
+// The records that a transition leaves, and the rules for a message that need no table.
+impl Neighbour {
+    #[tactic(auto, unfolding(crate::specs::Record::idle))]
+    pub fn idle() -> Neighbour
+        ensures { result ≡ idle }
+    {
+        Neighbour::default()
+    }
+
+    // A neighbour that leaves Idle: S is 0, R is given.
+    #[tactic(auto, unfolding(crate::specs::Record::left_idle, crate::specs::Record::idle, crate::specs::Record::with_numbers))]
+    pub fn leave_idle(r: u16) -> Neighbour
+        ensures { result ≡ left_idle r }
+    {
+        Neighbour {
+            r,
+            ..Neighbour::idle()
+        }
+    }
+
+    // Entering Acquisition or Cease.
+    #[tactic(auto, unfolding(crate::specs::Record::waiting, crate::specs::Record::idle))]
+    pub fn to_waiting(self, phase: Phase, cause: u8) -> Neighbour
+        ensures { result ≡ waiting self phase cause }
+    {
+        Neighbour {
+            s: self.s,
+            r: self.r,
+            t1: P3,
+            t3: P5,
+            phase,
+            cause,
+            sincehello: self.sincehello,
+            sincepoll: self.sincepoll,
+            ..Neighbour::idle()
+        }
+    }
+
+    // What 01's A and B have in common: Down with the intervals and the mode agreed on.
+    #[tactic(auto, unfolding(crate::specs::Record::initialised, crate::specs::Record::idle))]
+    pub fn initialise(self, terms: Terms) -> Neighbour
+        ensures { result ≡ initialised self terms.period1 terms.period2 terms.mode }
+    {
+        Neighbour {
+            s: self.s,
+            r: self.r,
+            period1: terms.period1,
+            period2: terms.period2,
+            t1: terms.period1,
+            t3: P5,
+            phase: Phase::Down,
+            mode: terms.mode,
+            sincehello: HOLDS_AT,
+            sincepoll: HOLDS_AT,
+            ..Neighbour::idle()
+        }
+    }
+
+    // The end of a hello interval. The register is shifted in a wider type, where nothing is lost.
+    #[tactic(auto, unfolding(crate::specs::Record::shifted, crate::specs::Record::with_reach, crate::specs::Record::with_timers))]
+    pub fn shift(self) -> Neighbour
+        ensures { result ≡ shifted self }
+    {
+        Neighbour {
+            t1: self.period1,
+            register: ((u16::from(self.register) * 2 + u16::from(self.heard)) % 16) as u8,
+            heard: 0,
+            ..self
+        }
+    }
+
+    // A Poll is about to be sent.
+    #[tactic(auto, unfolding(crate::specs::Record::polled, crate::specs::Record::with_numbers, crate::specs::Record::with_timers))]
+    pub fn count_poll(self) -> Neighbour
+        ensures { result ≡ polled self }
+    {
+        Neighbour {
+            s: self.s.wrapping_add(1),
+            t2: self.period2,
+            ..self
+        }
+    }
+
+    // A tick outside Idle, as far as it concerns the two counts.
+    #[tactic(auto, unfolding(crate::specs::Record::aged))]
+    pub fn age(self) -> Neighbour
+        ensures { result ≡ aged self }
+    {
+        Neighbour {
+            sincehello: one_more(self.sincehello),
+            sincepoll: one_more(self.sincepoll),
+            ..self
+        }
+    }
+
+    // 01's check 13: a response carries S. In Idle none is checked.
+    #[tactic(auto, unfolding(crate::specs::Rules::in_sequence))]
+    pub fn in_sequence(self, m: Message) -> bool
+        ensures { result ≡ in_sequence self m }
+    {
+        self.phase.is_idle() || !must_carry_s(m.kind()) || m.sequence() == self.s
+    }
+
+    // Outside Idle a command sets R, whether or not its cell does anything.
+    #[tactic(auto, unfolding(crate::specs::Rules::commanded, crate::specs::Record::with_numbers))]
+    pub fn set_r(self, m: Message) -> Neighbour
+        ensures { result ≡ commanded self m }
+    {
+        if self.phase.is_idle() || !is_command(m.kind()) {
+            return self;
+        }
+        Neighbour {
+            r: m.sequence(),
+            ..self
+        }
+    }
+
+    // Whether a Hello or a Poll comes too soon after the last one carried out, in Down and Up alone.
+    #[tactic(auto, unfolding(crate::specs::Rules::too_quick))]
+    pub fn is_too_quick(self, m: Message) -> bool
+        ensures { result ≡ too_quick self m }
+    {
+        self.phase.is_acquired()
+            && match m {
+                Message::Hello { .. } => u16::from(self.sincehello) < P1,
+                Message::Poll { .. } => u16::from(self.sincepoll) < P2,
+                _ => false,
+            }
+    }
+
+    // A Hello or a Poll carried out in Down or Up: its own count starts anew.
+    #[tactic(auto, unfolding(crate::specs::Rules::recounted))]
+    pub fn recount(self, m: Message) -> Neighbour
+        ensures { result ≡ recounted self m }
+    {
+        if !self.phase.is_acquired() {
+            return self;
+        }
+        match m {
+            Message::Hello { .. } => Neighbour {
+                sincehello: 0,
+                ..self
+            },
+            Message::Poll { .. } => Neighbour {
+                sincepoll: 0,
+                ..self
+            },
+            _ => self,
+        }
+    }
+
+    // An indication, in Down and Up alone.
+    #[tactic(auto, unfolding(crate::specs::Rules::noted, crate::specs::Record::heard_from, crate::specs::Record::with_reach, crate::specs::Record::with_timers))]
+    pub fn note(self, m: Message) -> Neighbour
+        ensures { result ≡ noted self m }
+    {
+        if !self.phase.is_acquired() || !is_indication(self.mode, m.kind(), m.status()) {
+            return self;
+        }
+        Neighbour {
+            heard: 1,
+            t3: P4,
+            ..self
+        }
+    }
+
+    // The state that the register calls for.
+    #[tactic(auto, unfolding(crate::specs::Rules::judged, crate::specs::Record::under, crate::specs::Record::enter_up, crate::specs::Record::leave_up, crate::specs::Record::with_reach, crate::specs::Record::with_timers))]
+    pub fn judge(self) -> Neighbour
+        ensures { result ≡ judged self }
+    {
+        let count = ones(self.register);
+        match self.phase {
+            Phase::Down if goes_up(self.mode, count) => Neighbour {
+                phase: Phase::Up,
+                ..self
+            },
+            Phase::Up if goes_down(self.mode, count) => Neighbour {
+                phase: Phase::Down,
+                t2: 0,
+                ..self
+            },
+            _ => self,
+        }
+    }
 }
 
-// A Poll is about to be sent.
-pub fn count_poll(n: Neighbour) -> Neighbour
-    ensures { result ≡ polled n }
-{
-    let mut m = n;
-    m.s = (((n.s as u32) + 1) % 65536) as u16;
-    m.t2 = n.period2;
-    m
-}
-
-// A tick more, up to 120.
+// A tick more, up to 120. A count above that, which no call leaves, stays as it is: `min` would lower it.
+#[tactic(auto, unfolding(crate::specs::Record::one_more))]
 fn one_more(count: u8) -> u8
     ensures { result ≡ one_more count }
 {
-    if count < HOLDS_AT {
-        return count + 1;
-    }
-    count
-}
-
-// A tick outside Idle, as far as it concerns the two counts.
-pub fn age(n: Neighbour) -> Neighbour
-    ensures { result ≡ aged n }
-{
-    let mut m = n;
-    m.sincehello = one_more(n.sincehello);
-    m.sincepoll = one_more(n.sincepoll);
-    m
+    if count < HOLDS_AT { count + 1 } else { count }
 }
 
 // Sequence numbers.
@@ -237,208 +381,44 @@ pub fn age(n: Neighbour) -> Neighbour
 fn is_command(kind: Kind) -> bool
     ensures { result ≡ is_command kind }
 {
-    match kind {
-        Kind::Request => true,
-        Kind::Confirm => false,
-        Kind::Refuse => false,
-        Kind::Cease => true,
-        Kind::CeaseAck => false,
-        Kind::Hello => true,
-        Kind::IHeardYou => false,
-        Kind::Poll => true,
-        Kind::Update => false,
-        Kind::Error => false,
-    }
+    matches!(kind, Kind::Request | Kind::Cease | Kind::Hello | Kind::Poll)
 }
 
 fn must_carry_s(kind: Kind) -> bool
     ensures { result ≡ must_carry_s kind }
 {
-    match kind {
-        Kind::Request => false,
-        Kind::Confirm => true,
-        Kind::Refuse => true,
-        Kind::Cease => false,
-        Kind::CeaseAck => true,
-        Kind::Hello => false,
-        Kind::IHeardYou => true,
-        Kind::Poll => false,
-        Kind::Update => true,
-        Kind::Error => false,
-    }
-}
-
-// 01's check 13: a response carries S. In Idle none is checked.
-pub fn in_sequence(n: Neighbour, m: Message) -> bool
-    ensures { result ≡ in_sequence n m }
-{
-    let phase = n.phase;
-    if is_idle(phase) {
-        return true;
-    }
-    let kind = message::kind_of(m);
-    if !must_carry_s(kind) {
-        return true;
-    }
-    message::sequence_of(m) == n.s
-}
-
-// Outside Idle a command sets R, whether or not its cell does anything.
-pub fn set_r(n: Neighbour, m: Message) -> Neighbour
-    ensures { result ≡ commanded n m }
-{
-    let phase = n.phase;
-    if is_idle(phase) {
-        return n;
-    }
-    let kind = message::kind_of(m);
-    if !is_command(kind) {
-        return n;
-    }
-    let mut next = n;
-    next.r = message::sequence_of(m);
-    next
-}
-
-// Too-quick neighbours.
-
-// Whether a Hello or a Poll comes too soon after the last one carried out, in Down and Up alone.
-pub fn is_too_quick(n: Neighbour, m: Message) -> bool
-    ensures { result ≡ too_quick n m }
-{
-    let phase = n.phase;
-    if !is_acquired(phase) {
-        return false;
-    }
-    if let Message::Hello {
-        asn: _,
-        sequence: _,
-        status: _,
-    } = m
-    {
-        return (n.sincehello as u16) < P1;
-    }
-    if let Message::Poll {
-        asn: _,
-        sequence: _,
-        status: _,
-        net: _,
-    } = m
-    {
-        return (n.sincepoll as u16) < P2;
-    }
-    false
-}
-
-// A Hello or a Poll carried out in Down or Up: its own count starts anew.
-pub fn recount(n: Neighbour, m: Message) -> Neighbour
-    ensures { result ≡ recounted n m }
-{
-    let phase = n.phase;
-    if !is_acquired(phase) {
-        return n;
-    }
-    let mut next = n;
-    if let Message::Hello {
-        asn: _,
-        sequence: _,
-        status: _,
-    } = m
-    {
-        next.sincehello = 0;
-        return next;
-    }
-    if let Message::Poll {
-        asn: _,
-        sequence: _,
-        status: _,
-        net: _,
-    } = m
-    {
-        next.sincepoll = 0;
-        return next;
-    }
-    n
+    matches!(
+        kind,
+        Kind::Confirm | Kind::Refuse | Kind::CeaseAck | Kind::IHeardYou | Kind::Update
+    )
 }
 
 // Reachability.
 
 // Whether a message carried out in Down or Up shows that the neighbour is reachable.
+#[tactic(auto, unfolding(crate::specs::Rules::indicates))]
 fn is_indication(mode: Mode, kind: Kind, status: u8) -> bool
     ensures { result ≡ indicates mode kind status }
 {
-    match mode {
-        Mode::Unset => false,
-        Mode::Active => is_active_indication(kind),
-        Mode::Passive => is_passive_indication(kind, status),
+    match (mode, kind) {
+        (Mode::Active, Kind::Confirm | Kind::IHeardYou | Kind::Update) => true,
+        (Mode::Passive, Kind::Hello | Kind::Poll) => status == 1,
+        // solicited or not
+        (Mode::Passive, Kind::Update) => status % 128 == 1,
+        _ => false,
     }
-}
-
-// In active mode a Confirm, an I-H-U or an Update.
-fn is_active_indication(kind: Kind) -> bool
-    ensures { result ≡ indicates Mode.Active kind 0 }
-{
-    match kind {
-        Kind::Request => false,
-        Kind::Confirm => true,
-        Kind::Refuse => false,
-        Kind::Cease => false,
-        Kind::CeaseAck => false,
-        Kind::Hello => false,
-        Kind::IHeardYou => true,
-        Kind::Poll => false,
-        Kind::Update => true, // whatever its status
-        Kind::Error => false,
-    }
-}
-
-// In passive mode a Hello or a Poll whose status says Up, and an Update whose status does, solicited or not.
-fn is_passive_indication(kind: Kind, status: u8) -> bool
-    ensures { result ≡ indicates Mode.Passive kind status }
-{
-    match kind {
-        Kind::Request => false,
-        Kind::Confirm => false,
-        Kind::Refuse => false,
-        Kind::Cease => false,
-        Kind::CeaseAck => false,
-        Kind::Hello => status == 1,
-        Kind::IHeardYou => false,
-        Kind::Poll => status == 1,
-        Kind::Update => status % 128 == 1,
-        Kind::Error => false,
-    }
-}
-
-// An indication, in Down and Up alone.
-pub fn note(n: Neighbour, m: Message) -> Neighbour
-    ensures { result ≡ noted n m }
-{
-    let phase = n.phase;
-    if !is_acquired(phase) {
-        return n;
-    }
-    let mode = n.mode;
-    let kind = message::kind_of(m);
-    let status = message::status_of(m);
-    if !is_indication(mode, kind, status) {
-        return n;
-    }
-    let mut next = n;
-    next.heard = 1;
-    next.t3 = P4;
-    next
 }
 
 // How many of the register's four bits are ones.
-fn ones(register: u8) -> u8
+fn ones(register: u8) -> u32
     ensures { result ≡ ones_of register }
 {
-    register % 2 + register / 2 % 2 + register / 4 % 2 + register / 8 % 2
+    (register % 16).count_ones()
 }
 
 // Whether Down goes Up with so many ones.
-fn goes_up(mode: Mode, count: u8) -> bool
+#[tactic(auto, unfolding(crate::specs::Rules::goes_up))]
+fn goes_up(mode: Mode, count: u32) -> bool
     ensures { result ≡ goes_up mode count }
 {
     match mode {
@@ -449,7 +429,8 @@ fn goes_up(mode: Mode, count: u8) -> bool
 }
 
 // Whether Up goes Down with so many ones.
-fn goes_down(mode: Mode, count: u8) -> bool
+#[tactic(auto, unfolding(crate::specs::Rules::goes_down))]
+fn goes_down(mode: Mode, count: u32) -> bool
     ensures { result ≡ goes_down mode count }
 {
     match mode {
@@ -459,92 +440,43 @@ fn goes_down(mode: Mode, count: u8) -> bool
     }
 }
 
-// The state that the register calls for.
-pub fn judge(n: Neighbour) -> Neighbour
-    ensures { result ≡ judged n }
-{
-    let phase = n.phase;
-    let mode = n.mode;
-    let count = ones(n.register);
-    match phase {
-        Phase::Idle => n,
-        Phase::Acquisition => n,
-        Phase::Down => {
-            if goes_up(mode, count) {
-                move_to(n, Phase::Up, n.t2)
-            } else {
-                n
-            }
-        }
-        Phase::Up => {
-            if goes_down(mode, count) {
-                move_to(n, Phase::Down, 0)
-            } else {
-                n
-            }
-        }
-        Phase::Cease => n,
-    }
-}
-
 // What Request and Confirm agree on.
 
-fn max_of(a: u16, b: u16) -> u16
-    ensures { result ≡ larger a b }
-{
-    if a <= b {
-        return b;
-    }
-    a
-}
-
+#[tactic(auto, unfolding(crate::specs::Rules::unacceptable))]
 fn is_unacceptable(capability: u8, status: u8, hello: u16, poll: u16) -> bool
     ensures { result ≡ unacceptable capability status hello poll }
 {
-    if 120 < hello {
-        return true;
-    }
-    if 480 < poll {
-        return true;
-    }
-    if capability != 2 {
-        return false;
-    }
-    status == 2
+    120 < hello || 480 < poll || (capability == 2 && status == 2)
 }
 
 // The mode of this end, given the other end's status on Request or Confirm and its AS.
+#[tactic(auto, unfolding(crate::specs::Rules::mode_of))]
 fn mode_of(capability: u8, status: u8, own: u16, peer: u16) -> Mode
     ensures { result ≡ mode_of capability status own peer }
 {
-    if capability == 1 {
-        return Mode::Active;
+    match (capability, status) {
+        (1, _) => Mode::Active,
+        (2, _) => Mode::Passive,
+        (_, 1) => Mode::Passive,
+        (_, 2) => Mode::Active,
+        _ if own < peer => Mode::Active,
+        _ => Mode::Passive,
     }
-    if capability == 2 {
-        return Mode::Passive;
-    }
-    if status == 1 {
-        return Mode::Passive;
-    }
-    if status == 2 {
-        return Mode::Active;
-    }
-    if own < peer {
-        return Mode::Active;
-    }
-    Mode::Passive
 }
 
-// What a Request or a Confirm with these fields offers. Only acceptable intervals are added to.
-pub fn offer_of(settings: Settings, asn: u16, status: u8, hello: u16, poll: u16) -> Offer
-    ensures { result ≡ offer_of settings asn status hello poll }
-{
-    if is_unacceptable(settings.capability, status, hello, poll) {
-        return Offer::Unacceptable;
-    }
-    Offer::Acceptable {
-        period1: max_of(P1, hello) + 2,
-        period2: max_of(P2, poll) + 2,
-        mode: mode_of(settings.capability, status, settings.asn, asn),
+impl Settings {
+    // What a Request or a Confirm with these fields offers, if we take it. Only acceptable intervals are added to.
+    #[tactic(auto, unfolding(crate::specs::Rules::offer_of, crate::specs::Rules::unacceptable, crate::specs::Rules::period1_of, crate::specs::Rules::period2_of))]
+    pub fn offer_of(self, asn: u16, status: u8, hello: u16, poll: u16) -> Option<Terms>
+        ensures { result ≡ offer_of self asn status hello poll }
+    {
+        if is_unacceptable(self.capability, status, hello, poll) {
+            return None;
+        }
+        Some(Terms {
+            period1: P1.max(hello) + 2,
+            period2: P2.max(poll) + 2,
+            mode: mode_of(self.capability, status, self.asn, asn),
+        })
     }
 }

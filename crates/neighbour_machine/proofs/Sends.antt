@@ -12,8 +12,8 @@ use Rattle.neighbour.specs.declared.Phase.{Phase}
 use Rattle.neighbour.specs.declared.Phase.TheVariants.{Idle, Acquisition, Down, Up, Cease}
 use Rattle.neighbour.specs.declared.Mode.{Mode}
 use Rattle.neighbour.specs.declared.Mode.TheVariants.{Unset, Active, Passive}
-use Rattle.neighbour.specs.declared.Offer.{Offer}
-use Rattle.neighbour.specs.declared.Offer.TheVariants.{Acceptable, Unacceptable}
+use Rattle.std.specs.Prelude.{Option, Some, None}
+use Rattle.neighbour.specs.declared.Terms.{Terms}
 use Rattle.neighbour.specs.declared.Settings.{Settings}
 use Rattle.neighbour.specs.declared.Neighbour.{Neighbour}
 use Rattle.neighbour.specs.Record.{under, is_idle, shifted, aged}
@@ -125,17 +125,17 @@ module _ (g : Settings) where
   unfolding does_b
   b_sends n hello poll mode = hello_sends _ _ (unanswered_roomy _)
 
-  request_sends : (n : Neighbour) (sequence : ℕ) (offer : Offer) → Sends (on_request g n sequence offer)
+  request_sends : (n : Neighbour) (sequence : ℕ) (offer : Option Terms) → Sends (on_request g n sequence offer)
   unfolding on_request repeats_cease ceases
-  request_sends n sequence (Acceptable hello poll mode) =
-      each n.phase _ _ _ _ _ (a_sends _ hello poll mode) (a_sends n hello poll mode) (a_sends n hello poll mode) (a_sends n hello poll mode) (answers_sends n _ refl)
-  request_sends n sequence Unacceptable =
+  request_sends n sequence (Some t) =
+      each n.phase _ _ _ _ _ (a_sends _ t.period1 t.period2 t.mode) (a_sends n t.period1 t.period2 t.mode) (a_sends n t.period1 t.period2 t.mode) (a_sends n t.period1 t.period2 t.mode) (answers_sends n _ refl)
+  request_sends n sequence None =
       each n.phase _ _ _ _ _ (answers_sends n _ refl) (unanswered_sends _) (answers_sends _ _ refl) (answers_sends _ _ refl) (answers_sends n _ refl)
 
-  settles_sends : (n : Neighbour) (offer : Offer) → Sends (settles g n offer)
+  settles_sends : (n : Neighbour) (offer : Option Terms) → Sends (settles g n offer)
   unfolding settles
-  settles_sends n (Acceptable hello poll mode) = b_sends n hello poll mode
-  settles_sends n Unacceptable = unanswered_sends _
+  settles_sends n (Some t) = b_sends n t.period1 t.period2 t.mode
+  settles_sends n None = unanswered_sends _
 
   -- a Poll in Up: our Update has the status of Up
   answers_poll_sends : (n : Neighbour) (net : ℕ) (head : Head) → Sends (answers_poll g (at n Up) net head)

@@ -16,8 +16,8 @@ use Rattle.neighbour.specs.declared.Mode.{Mode}
 use Rattle.neighbour.specs.declared.Mode.TheVariants.{Unset, Active, Passive}
 use Rattle.neighbour.specs.declared.Settings.{Settings}
 use Rattle.neighbour.specs.declared.Neighbour.{Neighbour}
-use Rattle.neighbour.specs.declared.Offer.{Offer}
-use Rattle.neighbour.specs.declared.Offer.TheVariants.{Acceptable, Unacceptable}
+use Rattle.std.specs.Prelude.{Option, Some, None}
+use Rattle.neighbour.specs.declared.Terms.{Terms}
 use Rattle.neighbour_messages.specs.declared.Head.{Head}
 use Rattle.neighbour.specs.Record.{under, is_idle, acquired, idle, left_idle, waiting, initialised, with_numbers, with_timers, with_reach, with_counts, heard_from, shifted, enter_up, leave_up, polled, one_more, aged, is_up, with_quiet}
 use Rattle.neighbour.specs.Rules.{same, is_command, commanded, indicates, noted, recounted, offer_of, goes_up, goes_down, ones_of, judged}
@@ -512,15 +512,15 @@ module _ (g : Settings) (quiet : ℕ) where
   unfolding does_b
   b_same n h q m = hello_same _ _
 
-  request_same : (n : Neighbour) (sequence : ℕ) (offer : Offer) → on_request (with_quiet g quiet) n sequence offer ≡ on_request g n sequence offer
+  request_same : (n : Neighbour) (sequence : ℕ) (offer : Option Terms) → on_request (with_quiet g quiet) n sequence offer ≡ on_request g n sequence offer
   unfolding on_request ceases repeats_cease
-  request_same n sequence (Acceptable h q m) = rw (a_same n h q m, a_same (left_idle sequence) h q m)
-  request_same n sequence Unacceptable = refl
+  request_same n sequence (Some t) = rw (a_same n t.period1 t.period2 t.mode, a_same (left_idle sequence) t.period1 t.period2 t.mode)
+  request_same n sequence None = refl
 
-  settles_same : (n : Neighbour) (offer : Offer) → settles (with_quiet g quiet) n offer ≡ settles g n offer
+  settles_same : (n : Neighbour) (offer : Option Terms) → settles (with_quiet g quiet) n offer ≡ settles g n offer
   unfolding settles
-  settles_same n (Acceptable h q m) = b_same n h q m
-  settles_same n Unacceptable = refl
+  settles_same n (Some t) = b_same n t.period1 t.period2 t.mode
+  settles_same n None = refl
 
   listens_same : (n : Neighbour) → listens (with_quiet g quiet) n ≡ listens g n
   unfolding listens

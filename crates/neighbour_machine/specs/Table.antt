@@ -1,6 +1,6 @@
 -- 01's table of "One neighbour": a definition for each row, its cells in the order Idle, Acquisition, Down, Up, Cease.
 -- A row is given the record once R is set by a command, an indication is noted, and a Hello's or a Poll's count zeroed.
-use Rattle.std.specs.Prelude.{ℕ, cond, eqb}
+use Rattle.std.specs.Prelude.{ℕ, Option, Some, None, cond, eqb}
 use Rattle.message.specs.declared.Message.{Message}
 use Rattle.message.specs.declared.Message.TheVariants as M
 use Rattle.neighbour.specs.declared.Phase.TheVariants.{Acquisition, Cease}
@@ -9,8 +9,7 @@ use Rattle.neighbour.specs.declared.Mode.TheVariants.{Unset, Active, Passive}
 use Rattle.neighbour.specs.declared.Settings.{Settings}
 use Rattle.neighbour.specs.declared.Neighbour.{Neighbour}
 use Rattle.neighbour_messages.specs.declared.Head.{Head}
-use Rattle.neighbour.specs.declared.Offer.{Offer}
-use Rattle.neighbour.specs.declared.Offer.TheVariants.{Acceptable, Unacceptable}
+use Rattle.neighbour.specs.declared.Terms.{Terms}
 use Rattle.neighbour.specs.Record.{under, idle, left_idle, waiting, initialised}
 use Rattle.neighbour_messages.specs.Sent.{request_message, confirm_message, refuse_message, cease_message, stray_cease_message, cease_ack_message, hello_message, i_heard_you_message, update_message, error_message}
 use Rattle.neighbour_machine.specs.declared.Reply.{Reply}
@@ -76,22 +75,22 @@ stray g n = cond (eqb g.quiet 1) (unanswered n) (answers n (stray_cease_message 
 
 -- | Request, acceptable   | Down, A | Down, A | Down, A | Down, A | send Cease |
 -- | Request, unacceptable | send Refuse 6 | Idle | Cease 6 | Cease 6 | send Cease |
-unfoldable pub on_request : Settings → Neighbour → ℕ → Offer → After
-on_request g n sequence (Acceptable period1 period2 mode) =
+unfoldable pub on_request : Settings → Neighbour → ℕ → Option Terms → After
+on_request g n sequence (Some t) =
     under n.phase
-    (does_a g (left_idle sequence) period1 period2 mode)
-    (does_a g n period1 period2 mode) (does_a g n period1 period2 mode) (does_a g n period1 period2 mode)
+    (does_a g (left_idle sequence) t.period1 t.period2 t.mode)
+    (does_a g n t.period1 t.period2 t.mode) (does_a g n t.period1 t.period2 t.mode) (does_a g n t.period1 t.period2 t.mode)
     (repeats_cease g n)
-on_request g n sequence Unacceptable =
+on_request g n sequence None =
     under n.phase (answers n (refuse_message g sequence 6)) (unanswered idle) (ceases g n 6) (ceases g n 6) (repeats_cease g n)
 
 -- 01: "Down, B, or Idle if unacceptable"
-unfoldable pub settles : Settings → Neighbour → Offer → After
-settles g n (Acceptable period1 period2 mode) = does_b g n period1 period2 mode
-settles g n Unacceptable = unanswered idle
+unfoldable pub settles : Settings → Neighbour → Option Terms → After
+settles g n (Some t) = does_b g n t.period1 t.period2 t.mode
+settles g n None = unanswered idle
 
 -- | Confirm | stray | Down, B, or Idle if unacceptable | - | - | - |
-unfoldable pub on_confirm : Settings → Neighbour → Offer → After
+unfoldable pub on_confirm : Settings → Neighbour → Option Terms → After
 on_confirm g n offer = under n.phase (stray g n) (settles g n offer) (unanswered n) (unanswered n) (unanswered n)
 
 -- | Refuse | stray | Idle | - | - | - |

@@ -1,6 +1,7 @@
 -- 01's paragraph "Tick", sentence by sentence.
-use Rattle.std.specs.Prelude.{◌-◌, cond, eqb}
+use Rattle.std.specs.Prelude.{◌-◌, ◌<◌, ◌≡◌, cond, eqb}
 use Rattle.message.specs.declared.Message.{Message}
+use Rattle.neighbour.specs.declared.Phase.TheVariants.{Up}
 use Rattle.neighbour.specs.declared.Settings.{Settings}
 use Rattle.neighbour.specs.declared.Neighbour.{Neighbour}
 use Rattle.neighbour.specs.Record.{P3, under, is_idle, with_timers, shifted, polled, aged}
@@ -61,3 +62,7 @@ tick_outside g n = cond (eqb (n.t3 - 1) 0) (expired g n) (tick_on g (with_timers
 -- which t3 ends; where it ends in Idle, Idle zeroes them
 unfoldable pub on_tick : Settings → Neighbour → After
 on_tick g n = cond (is_idle n.phase) (unanswered n) (tick_outside g (aged n))
+
+-- the neighbour is Up, and the next tick ends no timer: such a tick only counts
+abbrev pub OnlyCounts : Neighbour → Type 0
+OnlyCounts n = (n.phase ≡ Up) × (1 < n.t1) × (1 < n.t2) × (1 < n.t3)

@@ -1,5 +1,5 @@
-// The state machine of one neighbour: 01's table and tick are in specs/, with the sheet of literal cases. Here are the types of an event and of
-// what it leaves.
+// The state machine of one neighbour: 01's table and tick are in specs/, with the sheet of literal cases. Here are the
+// types of an event and of what it leaves.
 #![tactic(auto)]
 
 use message::Message;
@@ -15,6 +15,7 @@ pub enum Event {
 }
 
 // What is sent: at most two messages, in this order. An Update's rows are added where the home list is.
+// No pair of options: that could hold a second message without a first.
 #[derive(Clone, Copy)]
 pub enum Reply {
     Nothing,

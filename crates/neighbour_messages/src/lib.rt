@@ -8,7 +8,7 @@ use message::Message;
 use neighbour::{Neighbour, P1, P2, Phase, Settings};
 
 // A received message's first twelve octets, zero-filled, for Error.
-#[derive(Clone, Copy)]
+#[derive(Clone, Copy, Debug, PartialEq, Eq)]
 pub struct Head {
     pub first: u32,
     pub second: u32,
@@ -20,11 +20,9 @@ fn status_in(phase: Phase) -> u8
     ensures { result ≡ status_in phase }
 {
     match phase {
-        Phase::Idle => 0,
-        Phase::Acquisition => 0,
         Phase::Down => 2,
         Phase::Up => 1,
-        Phase::Cease => 0,
+        Phase::Idle | Phase::Acquisition | Phase::Cease => 0,
     }
 }
 
@@ -96,33 +94,30 @@ pub fn cease_ack_message(settings: Settings, sequence: u16) -> Message
 pub fn hello_message(settings: Settings, n: Neighbour) -> Message
     ensures { result ≡ hello_message settings n }
 {
-    let phase = n.phase;
     Message::Hello {
         asn: settings.asn,
         sequence: n.s,
-        status: status_in(phase),
+        status: status_in(n.phase),
     }
 }
 
 pub fn i_heard_you_message(settings: Settings, n: Neighbour) -> Message
     ensures { result ≡ i_heard_you_message settings n }
 {
-    let phase = n.phase;
     Message::IHeardYou {
         asn: settings.asn,
         sequence: n.r,
-        status: status_in(phase),
+        status: status_in(n.phase),
     }
 }
 
 pub fn poll_message(settings: Settings, n: Neighbour) -> Message
     ensures { result ≡ poll_message settings n }
 {
-    let phase = n.phase;
     Message::Poll {
         asn: settings.asn,
         sequence: n.s,
-        status: status_in(phase),
+        status: status_in(n.phase),
         net: settings.net,
     }
 }
@@ -131,11 +126,10 @@ pub fn poll_message(settings: Settings, n: Neighbour) -> Message
 pub fn update_message(settings: Settings, n: Neighbour) -> Message
     ensures { result ≡ update_message settings n }
 {
-    let phase = n.phase;
     Message::Update {
         asn: settings.asn,
         sequence: n.r,
-        status: status_in(phase),
+        status: status_in(n.phase),
         net: settings.net,
     }
 }
@@ -143,11 +137,10 @@ pub fn update_message(settings: Settings, n: Neighbour) -> Message
 pub fn error_message(settings: Settings, n: Neighbour, reason: u16, head: Head) -> Message
     ensures { result ≡ error_message settings n reason head }
 {
-    let phase = n.phase;
     Message::Error {
         asn: settings.asn,
         sequence: n.r,
-        status: status_in(phase),
+        status: status_in(n.phase),
         reason,
         first: head.first,
         second: head.second,

@@ -1,182 +1,138 @@
 // The tick of one neighbour: 01's paragraph, a function for each part of it.
 #![tactic(auto)]
 
-ghost use Rattle.std.specs.Prelude.{◌≡◌, true, ◌<◌};
+ghost use Rattle.std.specs.Prelude.{◌≡◌, true};
 ghost use Rattle.neighbour_machine.specs.Table.{unanswered};
-ghost use Rattle.neighbour_machine.specs.Tick.{expired, repeats, listens, polls, polls_on_entry, takes_t2, polls_in_up, tick_on, tick_outside, on_tick};
+ghost use Rattle.neighbour_machine.specs.Tick.{repeats, listens, polls, takes_t2, tick_on, tick_outside, on_tick, OnlyCounts};
 
 use message::Message;
 use neighbour::{Neighbour, P3, Phase, Settings};
 use neighbour_machine::After;
 
-// t3 reached 0.
-fn expire(settings: Settings, n: Neighbour) -> After
-    ensures { result ≡ expired settings n }
-{
-    neighbour_transitions::on_stop(settings, n)
-}
-
 // Acquisition and Cease send their command again when t1 reaches 0.
+#[tactic(auto, unfolding(neighbour_machine::specs::Tick::repeats, neighbour::specs::Record::with_timers))]
 fn repeat(n: Neighbour, m: Message) -> After
     ensures { result ≡ repeats n m }
 {
-    let mut next = n;
     if n.t1 <= 1 {
-        next.t1 = P3;
-        return neighbour_transitions::answer(next, m);
+        neighbour_transitions::answer(Neighbour { t1: P3, ..n }, m)
+    } else {
+        neighbour_transitions::keep(Neighbour { t1: n.t1 - 1, ..n })
     }
-    next.t1 = n.t1 - 1;
-    neighbour_transitions::keep(next)
 }
 
 // Down and Up judge the register when t1 reaches 0. Hello then has the new state.
+#[tactic(auto, unfolding(neighbour_machine::specs::Tick::listens, neighbour::specs::Record::with_timers))]
 fn listen(settings: Settings, n: Neighbour) -> After
     ensures { result ≡ listens settings n }
 {
     if n.t1 <= 1 {
-        let next = neighbour::judge(neighbour::shift(n));
-        let mode = next.mode;
-        return neighbour_transitions::hello_if(mode, settings, neighbour_transitions::keep(next));
+        let next = n.shift().judge();
+        neighbour_transitions::then_hello(settings, neighbour_transitions::keep(next))
+    } else {
+        neighbour_transitions::keep(Neighbour { t1: n.t1 - 1, ..n })
     }
-    let mut next = n;
-    next.t1 = n.t1 - 1;
-    neighbour_transitions::keep(next)
 }
 
 // S goes up, and then the Poll is said.
+#[tactic(auto, unfolding(neighbour_machine::specs::Tick::polls))]
 fn poll(settings: Settings, x: After) -> After
     ensures { result ≡ polls settings x }
 {
-    let n = x.neighbour;
-    let reply = x.reply;
-    let next = neighbour::count_poll(n);
+    let next = x.neighbour.count_poll();
     neighbour_transitions::say(
         After {
             neighbour: next,
-            reply,
+            ..x
         },
         neighbour_messages::poll_message(settings, next),
     )
 }
 
-// The state before this tick was Down.
-fn poll_on_entry(settings: Settings, x: After) -> After
-    ensures { result ≡ polls_on_entry settings x }
-{
-    let n = x.neighbour;
-    let phase = n.phase;
-    match phase {
-        Phase::Idle => x,
-        Phase::Acquisition => x,
-        Phase::Down => x,
-        Phase::Up => poll(settings, x),
-        Phase::Cease => x,
-    }
-}
-
-// The state before this tick was Up.
-fn poll_in_up(settings: Settings, x: After) -> After
-    ensures { result ≡ polls_in_up settings x }
-{
-    let n = x.neighbour;
-    let phase = n.phase;
-    match phase {
-        Phase::Idle => x,
-        Phase::Acquisition => x,
-        Phase::Down => x,
-        Phase::Up => take_t2(settings, x),
-        Phase::Cease => x,
-    }
-}
-
+// Up before this tick and after it: the Poll when t2 reaches 0.
+#[tactic(auto, unfolding(neighbour_machine::specs::Tick::takes_t2, neighbour::specs::Record::with_timers))]
 fn take_t2(settings: Settings, x: After) -> After
     ensures { result ≡ takes_t2 settings x }
 {
     let n = x.neighbour;
-    let reply = x.reply;
     if n.t2 <= 1 {
-        return poll(settings, x);
-    }
-    let mut next = n;
-    next.t2 = n.t2 - 1;
-    After {
-        neighbour: next,
-        reply,
+        poll(settings, x)
+    } else {
+        After {
+            neighbour: Neighbour { t2: n.t2 - 1, ..n },
+            ..x
+        }
     }
 }
 
 // The rest of a tick, once 1 is taken from t3.
+#[tactic(auto, unfolding(neighbour_machine::specs::Tick::tick_on, neighbour_machine::specs::Tick::polls_on_entry, neighbour_machine::specs::Tick::polls_in_up, neighbour::specs::Record::under))]
 fn run(settings: Settings, n: Neighbour) -> After
     ensures { result ≡ tick_on settings n }
 {
-    let phase = n.phase;
-    match phase {
+    match n.phase {
         Phase::Idle => neighbour_transitions::keep(n),
         Phase::Acquisition => repeat(n, neighbour_messages::request_message(settings, n)),
-        Phase::Down => poll_on_entry(settings, listen(settings, n)),
-        Phase::Up => poll_in_up(settings, listen(settings, n)),
+        Phase::Down => {
+            let x = listen(settings, n);
+            match x.neighbour.phase {
+                Phase::Up => poll(settings, x),
+                _ => x,
+            }
+        }
+        Phase::Up => {
+            let x = listen(settings, n);
+            match x.neighbour.phase {
+                Phase::Up => take_t2(settings, x),
+                _ => x,
+            }
+        }
         Phase::Cease => repeat(n, neighbour_messages::cease_message(settings, n)),
     }
 }
 
-// A tick outside Idle, once the counts have gone up.
+// A tick outside Idle, once the counts have gone up. Where t3 reaches 0 it is Stop.
+#[tactic(auto, unfolding(neighbour_machine::specs::Tick::tick_outside, neighbour_machine::specs::Tick::expired, neighbour::specs::Record::with_timers))]
 fn tick_outside(settings: Settings, n: Neighbour) -> After
     ensures { result ≡ tick_outside settings n }
 {
     if n.t3 <= 1 {
-        return expire(settings, n);
+        neighbour_transitions::on_stop(settings, n)
+    } else {
+        run(settings, Neighbour { t3: n.t3 - 1, ..n })
     }
-    let mut next = n;
-    next.t3 = n.t3 - 1;
-    run(settings, next)
 }
 
+#[tactic(auto, unfolding(neighbour_machine::specs::Tick::on_tick))]
 pub fn on_tick(settings: Settings, n: Neighbour) -> After
     ensures { result ≡ on_tick settings n }
 {
-    let phase = n.phase;
-    if neighbour::is_idle(phase) {
-        return neighbour_transitions::keep(n);
+    if n.phase.is_idle() {
+        neighbour_transitions::keep(n)
+    } else {
+        tick_outside(settings, n.age())
     }
-    tick_outside(settings, neighbour::age(n))
-}
-
-// Whether all three timers run on after the next tick.
-fn run_on(n: Neighbour) -> bool
-    ensures { result ≡ true → (1 < n.t1) × (1 < n.t2) × (1 < n.t3) }
-{
-    if n.t1 <= 1 {
-        return false;
-    }
-    if n.t2 <= 1 {
-        return false;
-    }
-    1 < n.t3
 }
 
 // Whether a tick does nothing but count: the neighbour is Up, and no timer ends.
 pub fn only_counts(n: Neighbour) -> bool
-    ensures { result ≡ true → (n.phase ≡ Phase.Up) × (1 < n.t1) × (1 < n.t2) × (1 < n.t3) }
+    ensures { result ≡ true → OnlyCounts n }
 {
-    let phase = n.phase;
-    match phase {
-        Phase::Idle => false,
-        Phase::Acquisition => false,
-        Phase::Down => false,
-        Phase::Up => run_on(n),
-        Phase::Cease => false,
-    }
+    n.phase == Phase::Up && 1 < n.t1 && 1 < n.t2 && 1 < n.t3
 }
 
 // Such a tick, without the machine.
+#[tactic(auto, unfolding(neighbour::specs::Record::aged))]
 pub fn count_down(n: Neighbour) -> Neighbour
-    requires { (n.phase ≡ Phase.Up) × (1 < n.t1) × (1 < n.t2) × (1 < n.t3) }
+    requires { OnlyCounts n }
     ensures result_value { (settings : Settings) → unanswered result ≡ on_tick settings n }
     ensures phase_value { result.phase ≡ Phase.Up }
 {
-    let mut left = neighbour::age(n);
-    left.t1 = n.t1 - 1;
-    left.t2 = n.t2 - 1;
-    left.t3 = n.t3 - 1;
-    left
+    let aged = n.age();
+    Neighbour {
+        t1: aged.t1 - 1,
+        t2: aged.t2 - 1,
+        t3: aged.t3 - 1,
+        ..aged
+    }
 }

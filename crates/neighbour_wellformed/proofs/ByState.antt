@@ -1,104 +1,108 @@
--- A record's well-formedness by its state: what each test that a function makes refuses, and what the last decides. Assumes nothing.
+-- A record's well-formedness by its state: what the code asks in each is what the definition asks. Assumes nothing.
 use Prim.Native.Nat.{ℕ, ◌≤◌}
 use native.Mathlib.Omega.{arith}
 use mathlib.Core.Path.{◌≡◌, refl, sym, ◌∙◌, ap}
 use mathlib.Core.Bool.{Bool, true, false, ◌&&◌, ◌||◌, false≢true}
 use lib.Dec.{leb, eqb}
-use borrow.Author.Tests.{le-leb, leb-true, eqb-true, eqb-false}
+use borrow.Author.Tests.{le-leb, leb-true, eqb-true, not-true}
 use Rattle.checks.proofs.Laws.{and_left, and_right}
+use denote.Enum.Bare.{sameb}
+use Rattle.neighbour.specs.contracts.Phase as Phases
+use Rattle.neighbour.specs.contracts.Mode as Modes
 use Rattle.neighbour.specs.declared.Phase.{Phase}
 use Rattle.neighbour.specs.declared.Phase.TheVariants.{Idle, Acquisition, Down, Up, Cease}
 use Rattle.neighbour.specs.declared.Mode.{Mode}
 use Rattle.neighbour.specs.declared.Mode.TheVariants.{Unset, Active, Passive}
 use Rattle.neighbour.specs.declared.Neighbour.{Neighbour}
-use Rattle.neighbour.specs.Record.{under, is_idle, acquired, idle}
-use Rattle.neighbour_wellformed.specs.Formed.{is_unset, within, all_zero, idle_formed, timers_below, timers_run, t2_formed, register_formed, intervals_formed, cause_formed, counts_formed, well_formed}
-use Rattle.neighbour_wellformed.proofs.Formed.{at, Fine, pieces, whole, below_numbers, run_numbers, fine_of, moded, below_ok, run_ok, register_ok, interval_ok, counts_numbers, counts_ok, t2_elsewhere}
+use Rattle.neighbour.specs.Record.{under, is_idle, is_up, acquired, idle}
+use Rattle.neighbour_wellformed.specs.Formed.{is_unset, all_zero, idle_formed, timers_below, timers_run, t2_formed, register_formed, agreed, intervals_formed, cause_formed, counts_formed, well_formed}
+use Rattle.neighbour_wellformed.specs.ByState.{reached_formed, waiting_formed}
+use Rattle.neighbour_wellformed.proofs.Formed.{at, Fine, pieces, whole, below_numbers, run_numbers, fine_of, moded, below_ok, run_ok, counts_numbers, counts_ok, t2_elsewhere, down_ok, up_ok}
 
--- one test of both timers and both counts
-abbrev pub timed : ℕ → ℕ → ℕ → ℕ → Bool
-timed t1 t3 hello poll = within 1 122 t1 && within 1 3600 t3 && (leb hello 120 && leb poll 120)
+same_bool : (a b : Bool) → (a ≡ true → b ≡ true) → (b ≡ true → a ≡ true) → a ≡ b
+same_bool true b f g = sym (f refl)
+same_bool false false f g = refl
+same_bool false true f g = g refl
 
-pub timers_both : (t1 t3 hello poll : ℕ) → timed t1 t3 hello poll ≡ true
-    → (1 ≤ t1) × (t1 ≤ 122) × (1 ≤ t3) × (t3 ≤ 3600) × (hello ≤ 120) × (poll ≤ 120)
-timers_both t1 t3 hello poll h =
-    let t = and_left (within 1 122 t1 && within 1 3600 t3) (leb hello 120 && leb poll 120) h in
-    let k = and_right (within 1 122 t1 && within 1 3600 t3) (leb hello 120 && leb poll 120) h in
-    let a = and_left (within 1 122 t1) (within 1 3600 t3) t in
-    let b = and_right (within 1 122 t1) (within 1 3600 t3) t in (
-      leb-true 1 t1 (and_left (leb 1 t1) (leb t1 122) a),
-      leb-true t1 122 (and_right (leb 1 t1) (leb t1 122) a),
-      leb-true 1 t3 (and_left (leb 1 t3) (leb t3 3600) b),
-      leb-true t3 3600 (and_right (leb 1 t3) (leb t3 3600) b),
-      leb-true hello 120 (and_left (leb hello 120) (leb poll 120) k),
-      leb-true poll 120 (and_right (leb hello 120) (leb poll 120) k),
-    )
-
-pub timers_all : (t1 t3 hello poll : ℕ) → 1 ≤ t1 → t1 ≤ 122 → 1 ≤ t3 → t3 ≤ 3600 → hello ≤ 120 → poll ≤ 120 → timed t1 t3 hello poll ≡ true
-timers_all t1 t3 hello poll a b c d e f = rw (le-leb _ _ a, le-leb _ _ b, le-leb _ _ c, le-leb _ _ d, le-leb _ _ e, le-leb _ _ f)
-
--- false of what can't be true
-refused : (b : Bool) → (b ≡ true → ⊥) → false ≡ b
-refused false n = refl
-refused true n = absurd (n refl)
-
--- ---- Down and Up
-
-pub reached_not_idle : (p : Phase) → acquired p ≡ true → is_idle p ≡ false
-reached_not_idle Idle a = absurd (false≢true a)
-reached_not_idle Acquisition a = refl
-reached_not_idle Down a = refl
-reached_not_idle Up a = refl
-reached_not_idle Cease a = refl
+up_of : (p : Phase) → is_up p ≡ true → p ≡ Up
+up_of Idle e = absurd (false≢true e)
+up_of Acquisition e = absurd (false≢true e)
+up_of Down e = absurd (false≢true e)
+up_of Up e = refl
+up_of Cease e = absurd (false≢true e)
 
 module _ (n : Neighbour) where
-  reached_causeless : (p : Phase) → acquired p ≡ true → cause_formed (at n p) ≡ true → n.cause ≡ 0
-  unfolding cause_formed under
-  reached_causeless Idle a h = absurd (false≢true a)
-  reached_causeless Acquisition a h = absurd (false≢true a)
-  reached_causeless Down a h = eqb-true n.cause 0 h
-  reached_causeless Up a h = eqb-true n.cause 0 h
-  reached_causeless Cease a h = absurd (false≢true a)
+  reached_fine : (low high : ℕ) → reached_formed low high n ≡ true → Fine n × (is_unset n.mode ≡ false) × (low ≤ n.t2) × (n.t2 ≤ high)
+  unfolding agreed counts_formed
+  reached_fine low high h = (
+    record {
+      t1_low = leb-true _ _ (search (and_left, and_right) depth 14);
+      t1_high = leb-true _ _ (search (and_left, and_right) depth 14);
+      t3_low = leb-true _ _ (search (and_left, and_right) depth 14);
+      t3_high = leb-true _ _ (search (and_left, and_right) depth 14);
+      register_high = leb-true _ _ (search (and_left, and_right) depth 14);
+      heard_high = leb-true _ _ (search (and_left, and_right) depth 14);
+      period1_low = leb-true _ _ (search (and_left, and_right) depth 14);
+      period1_high = leb-true _ _ (search (and_left, and_right) depth 14);
+      period2_low = leb-true _ _ (search (and_left, and_right) depth 14);
+      period2_high = leb-true _ _ (search (and_left, and_right) depth 14);
+      causeless = eqb-true _ _ (search (and_left, and_right) depth 14);
+      hello_high = leb-true _ _ (search (and_left, and_right) depth 14);
+      poll_high = leb-true _ _ (search (and_left, and_right) depth 14);
+    },
+    not-true _ (search (and_left, and_right) depth 14),
+    leb-true _ _ (search (and_left, and_right) depth 14),
+    leb-true _ _ (search (and_left, and_right) depth 14),
+  )
 
-  reached_cause : (p : Phase) → acquired p ≡ true → n.cause ≡ 0 → cause_formed (at n p) ≡ true
-  unfolding cause_formed under
-  reached_cause Idle a z = absurd (false≢true a)
-  reached_cause Acquisition a z = absurd (false≢true a)
-  reached_cause Down a z = rw z
-  reached_cause Up a z = rw z
-  reached_cause Cease a z = absurd (false≢true a)
+  fine_reached : (low high : ℕ) → low ≤ n.t2 → n.t2 ≤ high → Fine n → is_unset n.mode ≡ false → reached_formed low high n ≡ true
+  unfolding agreed counts_formed
+  fine_reached low high l u f m =
+      rw (
+        le-leb _ _ l,
+        le-leb _ _ u,
+        le-leb _ _ f.t1_low,
+        le-leb _ _ f.t1_high,
+        le-leb _ _ f.t3_low,
+        le-leb _ _ f.t3_high,
+        le-leb _ _ f.hello_high,
+        le-leb _ _ f.poll_high,
+        le-leb _ _ f.period1_low,
+        le-leb _ _ f.period1_high,
+        le-leb _ _ f.period2_low,
+        le-leb _ _ f.period2_high,
+        m,
+        le-leb _ _ f.register_high,
+        le-leb _ _ f.heard_high,
+        f.causeless,
+      )
 
-  module _ (a : acquired n.phase ≡ true) where
-    pub reached_refused : (Fine n → is_unset n.mode ≡ false → ⊥) → false ≡ well_formed n
-    reached_refused against =
-        refused (well_formed n)
-        (λ h. against (fine_of n (reached_not_idle n.phase a) a (reached_causeless n.phase a (pieces n h).causes) h) (moded n a h))
+  module _ (i : is_idle n.phase ≡ false) (a : acquired n.phase ≡ true) (z : n.cause ≡ 0) (h : well_formed n ≡ true) where
+    reached_of : (low high : ℕ) → low ≤ n.t2 → n.t2 ≤ high → reached_formed low high n ≡ true
+    reached_of low high l u = fine_reached low high l u (fine_of n i a z h) (moded n a h)
 
-    reached_ok : Fine n → t2_formed n ≡ true → n.t2 ≤ 482 → is_unset n.mode ≡ false → well_formed n ≡ true
-    unfolding idle_formed
-    reached_ok f t u m =
-        whole n (record {
-          idles = rw (reached_not_idle n.phase a);
-          below = below_ok n f.t1_high u f.t3_high;
-          run = run_ok n f.t1_low f.t3_low;
-          t2s = t;
-          registers = register_ok n f.register_high f.heard_high a;
-          intervals = interval_ok n a f m;
-          causes = reached_cause n.phase a f.causeless;
-          counts = counts_ok n f.hello_high f.poll_high;
-        })
+  pub formed_down : n.phase ≡ Down → reached_formed 0 0 n ≡ well_formed n
+  unfolding cause_formed t2_formed under
+  formed_down e =
+      same_bool _ _
+      (λ h. let r = reached_fine 0 0 h in down_ok n e r.0 (omega arith) r.1)
+      (λ h.
+      let t : n.t2 ≡ 0 = eqb-true n.t2 0 (rw e at (pieces n h).t2s) in
+      reached_of (rw e) (rw e) (eqb-true n.cause 0 (rw e at (pieces n h).causes)) h 0 0 (omega arith) (omega arith))
 
-    pub reached_last : t2_formed n ≡ true → n.t2 ≤ 482 → timed n.t1 n.t3 n.sincehello n.sincepoll ≡ true
-        → 32 ≤ n.period1 → n.period1 ≤ 122 → 122 ≤ n.period2 → n.period2 ≤ 482
-        → is_unset n.mode ≡ false → n.register ≤ 15 → n.heard ≤ 1 → eqb n.cause 0 ≡ well_formed n
-    reached_last t u w b c d e m g h = go (eqb n.cause 0) refl
-      where
-        go : (k : Bool) → eqb n.cause 0 ≡ k → k ≡ well_formed n
-        go true q =
-            let z = eqb-true n.cause 0 q in
-            let v = timers_both n.t1 n.t3 n.sincehello n.sincepoll w in
-            sym (reached_ok (omega arith) t u m)
-        go false q = reached_refused (λ f _. eqb-false n.cause 0 q f.causeless)
+  formed_up : n.phase ≡ Up → reached_formed 1 482 n ≡ well_formed n
+  unfolding cause_formed t2_formed under
+  formed_up e =
+      same_bool _ _
+      (λ h. let r = reached_fine 1 482 h in up_ok n e r.0 r.2 r.3 r.1)
+      (λ h.
+      let low : 1 ≤ n.t2 = leb-true 1 n.t2 (rw e at (pieces n h).t2s) in
+      let high : n.t2 ≤ 482 = (below_numbers n (pieces n h).below).1 in
+      reached_of (rw e) (rw e) (eqb-true n.cause 0 (rw e at (pieces n h).causes)) h 1 482 low high)
+
+  pub formed_in_up : (b : Bool) → is_up n.phase ≡ b → (b && reached_formed 1 482 n) ≡ (is_up n.phase && well_formed n)
+  formed_in_up false e = rw e
+  formed_in_up true e = rw e (formed_up (up_of n.phase e))
 
 -- ---- Acquisition and Cease
 
@@ -157,8 +161,8 @@ module _ (n : Neighbour) where
         let t : n.t2 ≡ 0 = t2_elsewhere n n.phase (not_up n.phase a) h in
         omega arith
 
-    pub waiting_refused : (Still n → is_unset n.mode ≡ true → ⊥) → false ≡ well_formed n
-    waiting_refused against = refused (well_formed n) (λ h. against (still_of h) (none_agreed a (pieces n h).intervals).2)
+    unset_of : well_formed n ≡ true → is_unset n.mode ≡ true
+    unset_of h = (none_agreed a (pieces n h).intervals).2
 
     waiting_ok : Still n → is_unset n.mode ≡ true → cause_formed n ≡ true → well_formed n ≡ true
     unfolding idle_formed register_formed intervals_formed
@@ -174,55 +178,60 @@ module _ (n : Neighbour) where
           counts = counts_ok n s.hello_high s.poll_high;
         })
 
-    pub waiting_last : cause_formed n ≡ true → timed n.t1 n.t3 n.sincehello n.sincepoll ≡ true → n.t2 ≡ 0 → n.period1 ≡ 0 → n.period2 ≡ 0
-        → is_unset n.mode ≡ true → n.register ≡ 0 → eqb n.heard 0 ≡ well_formed n
-    waiting_last c w t x y m r = go (eqb n.heard 0) refl
-      where
-        go : (k : Bool) → eqb n.heard 0 ≡ k → k ≡ well_formed n
-        go true q =
-            let z = eqb-true n.heard 0 q in
-            let v = timers_both n.t1 n.t3 n.sincehello n.sincepoll w in
-            sym (waiting_ok (omega arith) m c)
-        go false q = waiting_refused (λ s _. eqb-false n.heard 0 q s.heard_none)
-
--- ---- what a state asks first
-
 module _ (n : Neighbour) where
-  module _ (e : n.phase ≡ Down) where
-    pub down_refused : (n.t2 ≡ 0 → ⊥) → false ≡ well_formed n
-    unfolding t2_formed under
-    down_refused z = refused (well_formed n) (λ h. z (eqb-true n.t2 0 (rw e at (pieces n h).t2s)))
+  waits_still : waiting_formed n ≡ true → Still n × (is_unset n.mode ≡ true)
+  unfolding counts_formed
+  waits_still h = (
+    record {
+      t1_low = leb-true _ _ (search (and_left, and_right) depth 14);
+      t1_high = leb-true _ _ (search (and_left, and_right) depth 14);
+      t3_low = leb-true _ _ (search (and_left, and_right) depth 14);
+      t3_high = leb-true _ _ (search (and_left, and_right) depth 14);
+      t2_none = eqb-true _ _ (search (and_left, and_right) depth 14);
+      period1_none = eqb-true _ _ (search (and_left, and_right) depth 14);
+      period2_none = eqb-true _ _ (search (and_left, and_right) depth 14);
+      register_none = eqb-true _ _ (search (and_left, and_right) depth 14);
+      heard_none = eqb-true _ _ (search (and_left, and_right) depth 14);
+      hello_high = leb-true _ _ (search (and_left, and_right) depth 14);
+      poll_high = leb-true _ _ (search (and_left, and_right) depth 14);
+    },
+    search (and_left, and_right) depth 14,
+  )
 
-    pub down_t2 : n.t2 ≡ 0 → (acquired n.phase ≡ true) × (t2_formed n ≡ true) × (n.t2 ≤ 482)
-    unfolding t2_formed under
-    down_t2 z = (rw e, rw (e, z), omega arith)
+  still_waits : Still n → is_unset n.mode ≡ true → waiting_formed n ≡ true
+  unfolding counts_formed
+  still_waits s m =
+      rw (
+        le-leb _ _ s.t1_low,
+        le-leb _ _ s.t1_high,
+        le-leb _ _ s.t3_low,
+        le-leb _ _ s.t3_high,
+        le-leb _ _ s.hello_high,
+        le-leb _ _ s.poll_high,
+        s.t2_none,
+        s.period1_none,
+        s.period2_none,
+        m,
+        s.register_none,
+        s.heard_none,
+      )
 
-  module _ (e : n.phase ≡ Up) where
-    pub up_refused : (1 ≤ n.t2 → n.t2 ≤ 482 → ⊥) → false ≡ well_formed n
-    unfolding t2_formed under
-    up_refused z = refused (well_formed n) (λ h. z (leb-true 1 n.t2 (rw e at (pieces n h).t2s)) (below_numbers n (pieces n h).below).1)
+  -- `causes` is what the state asks of the cause
+  formed_waiting : is_idle n.phase ≡ false → acquired n.phase ≡ false → (causes : Bool) → cause_formed n ≡ causes → (causes && waiting_formed n) ≡ well_formed n
+  formed_waiting i a causes e =
+      same_bool _ _
+      (λ h.
+      let w = waits_still (and_right causes (waiting_formed n) h) in
+      waiting_ok n i a w.0 w.1 (e ∙ and_left causes (waiting_formed n) h))
+      (λ h. rw (sym e ∙ (pieces n h).causes) (still_waits (still_of n i a h) (unset_of n i a h)))
 
-    pub up_t2 : 1 ≤ n.t2 → n.t2 ≤ 482 → (acquired n.phase ≡ true) × (t2_formed n ≡ true) × (n.t2 ≤ 482)
-    unfolding t2_formed under
-    up_t2 l u = (rw e, rw (e, le-leb _ _ l), u)
+  pub formed_acquisition : n.phase ≡ Acquisition → (eqb n.cause 0 && waiting_formed n) ≡ well_formed n
+  unfolding cause_formed under
+  formed_acquisition e = formed_waiting (rw e) (rw e) (eqb n.cause 0) (rw e)
 
-  module _ (e : n.phase ≡ Acquisition) where
-    pub acquisition_refused : (n.cause ≡ 0 → ⊥) → false ≡ well_formed n
-    unfolding cause_formed under
-    acquisition_refused z = refused (well_formed n) (λ h. z (eqb-true n.cause 0 (rw e at (pieces n h).causes)))
-
-    pub acquisition_cause : n.cause ≡ 0 → (is_idle n.phase ≡ false) × (acquired n.phase ≡ false) × (cause_formed n ≡ true)
-    unfolding cause_formed under
-    acquisition_cause z = (rw e, rw e, rw (e, z))
-
-  module _ (e : n.phase ≡ Cease) where
-    pub cease_refused : (eqb n.cause 5 || eqb n.cause 6) ≡ false → false ≡ well_formed n
-    unfolding cause_formed under
-    cease_refused z = refused (well_formed n) (λ h. false≢true (sym z ∙ (rw e at (pieces n h).causes)))
-
-    pub cease_cause : (eqb n.cause 5 || eqb n.cause 6) ≡ true → (is_idle n.phase ≡ false) × (acquired n.phase ≡ false) × (cause_formed n ≡ true)
-    unfolding cause_formed under
-    cease_cause z = (rw e, rw e, rw e z)
+  pub formed_cease : n.phase ≡ Cease → ((eqb n.cause 5 || eqb n.cause 6) && waiting_formed n) ≡ well_formed n
+  unfolding cause_formed under
+  formed_cease e = formed_waiting (rw e) (rw e) (eqb n.cause 5 || eqb n.cause 6) (rw e)
 
 -- ---- Idle
 
@@ -288,3 +297,37 @@ idle_zero n i = go (all_zero n) refl
     go : (b : Bool) → all_zero n ≡ b → well_formed n ≡ all_zero n
     go true e = ap well_formed (zero_idle n i e) ∙ idle_formed_lem ∙ sym e
     go false e = some_formed n i e ∙ sym e
+
+-- the comparison with the idle record, field by field
+abbrev pub is_the_idle : Neighbour → Bool
+is_the_idle n =
+    eqb n.s 0 && (eqb n.r 0 && (eqb n.period1 0 && (eqb n.period2 0 && (eqb n.t1 0 && (eqb n.t2 0 && (eqb n.t3 0
+    && (sameb Phases.the_type n.phase Idle && (sameb Modes.the_type n.mode Unset && (eqb n.register 0 && (eqb n.heard 0 && (eqb n.cause 0
+    && (eqb n.sincehello 0 && eqb n.sincepoll 0))))))))))))
+
+unset_same : (m : Mode) → sameb Modes.the_type m Unset ≡ is_unset m
+unset_same Unset = refl
+unset_same Active = refl
+unset_same Passive = refl
+
+pub formed_idle : (n : Neighbour) → n.phase ≡ Idle → is_the_idle n ≡ well_formed n
+unfolding all_zero idle
+formed_idle n e =
+    same_bool _ _
+    (λ h.
+    let s : eqb n.s 0 ≡ true = search (and_left, and_right) depth 15 in
+    let r : eqb n.r 0 ≡ true = search (and_left, and_right) depth 15 in
+    let period1 : eqb n.period1 0 ≡ true = search (and_left, and_right) depth 15 in
+    let period2 : eqb n.period2 0 ≡ true = search (and_left, and_right) depth 15 in
+    let t1 : eqb n.t1 0 ≡ true = search (and_left, and_right) depth 15 in
+    let t2 : eqb n.t2 0 ≡ true = search (and_left, and_right) depth 15 in
+    let t3 : eqb n.t3 0 ≡ true = search (and_left, and_right) depth 15 in
+    let register : eqb n.register 0 ≡ true = search (and_left, and_right) depth 15 in
+    let heard : eqb n.heard 0 ≡ true = search (and_left, and_right) depth 15 in
+    let cause : eqb n.cause 0 ≡ true = search (and_left, and_right) depth 15 in
+    let sincehello : eqb n.sincehello 0 ≡ true = search (and_left, and_right) depth 15 in
+    let sincepoll : eqb n.sincepoll 0 ≡ true = search (and_left, and_right) depth 15 in
+    let same : sameb Modes.the_type n.mode Unset ≡ true = search (and_left, and_right) depth 15 in
+    let mode : is_unset n.mode ≡ true = sym (unset_same n.mode) ∙ same in
+    idle_zero n (rw e) ∙ rw (s, r, period1, period2, t1, t2, t3, mode, register, heard, cause, sincehello, sincepoll))
+    (λ h. ap is_the_idle (zero_idle n (rw e) (sym (idle_zero n (rw e)) ∙ h)))

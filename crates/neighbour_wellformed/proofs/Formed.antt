@@ -5,6 +5,7 @@ use mathlib.Core.Path.{◌≡◌, refl}
 use mathlib.Core.Bool.{Bool, true, false, not, ◌&&◌, ◌||◌}
 use lib.Dec.{ltb, leb, eqb}
 use borrow.Author.Tests.{le-leb, leb-true, ltb-true, eqb-true, not-true}
+use Rattle.std.proofs.lemmas.Bool.Decides.{nat_tests}
 use Rattle.checks.proofs.Laws.{and_left, and_right, cond_elim}
 use Rattle.neighbour.specs.declared.Phase.{Phase}
 use Rattle.neighbour.specs.declared.Phase.TheVariants.{Idle, Acquisition, Down, Up, Cease}
@@ -12,11 +13,11 @@ use Rattle.neighbour.specs.declared.Mode.{Mode}
 use Rattle.neighbour.specs.declared.Mode.TheVariants.{Unset, Active, Passive}
 use Rattle.neighbour.specs.declared.Settings.{Settings}
 use Rattle.neighbour.specs.declared.Neighbour.{Neighbour}
-use Rattle.neighbour.specs.declared.Offer.{Offer}
-use Rattle.neighbour.specs.declared.Offer.TheVariants.{Acceptable, Unacceptable}
+use Rattle.std.specs.Prelude.{Option, Some, None}
+use Rattle.neighbour.specs.declared.Terms.{Terms}
 use Rattle.neighbour.specs.Record.{under, is_idle, acquired, idle, waiting, initialised, with_state, with_numbers, with_timers, with_reach, with_counts, heard_from, one_more}
 use Rattle.neighbour.specs.Rules.{larger, unacceptable, period1_of, period2_of, mode_of, offer_of}
-use Rattle.neighbour_wellformed.specs.Formed.{is_unset, within, all_zero, idle_formed, timers_below, timers_run, t2_formed, register_formed, agreed, intervals_formed, cause_formed, counts_formed, well_formed}
+use Rattle.neighbour_wellformed.specs.Formed.{is_unset, all_zero, idle_formed, timers_below, timers_run, t2_formed, register_formed, agreed, intervals_formed, cause_formed, counts_formed, well_formed}
 use Rattle.neighbour.proofs.Laws.{larger_fits, hello_fits, poll_fits}
 
 or_true : (a : Bool) → (a || true) ≡ true
@@ -59,28 +60,15 @@ module _ (n : Neighbour) where
   pub pieces : well_formed n ≡ true → Pieces n
   unfolding well_formed
   pieces h =
-      let a = idle_formed n in
-      let b = timers_below n in
-      let c = timers_run n in
-      let d = t2_formed n in
-      let e = register_formed n in
-      let f = intervals_formed n in
-      let g = cause_formed n in
-      let h7 = and_left (a && b && c && d && e && f && g) (counts_formed n) h in
-      let h6 = and_left (a && b && c && d && e && f) g h7 in
-      let h5 = and_left (a && b && c && d && e) f h6 in
-      let h4 = and_left (a && b && c && d) e h5 in
-      let h3 = and_left (a && b && c) d h4 in
-      let h2 = and_left (a && b) c h3 in
       record {
-        idles = and_left a b h2;
-        below = and_right a b h2;
-        run = and_right (a && b) c h3;
-        t2s = and_right (a && b && c) d h4;
-        registers = and_right (a && b && c && d) e h5;
-        intervals = and_right (a && b && c && d && e) f h6;
-        causes = and_right (a && b && c && d && e && f) g h7;
-        counts = and_right (a && b && c && d && e && f && g) (counts_formed n) h;
+        idles = search (and_left, and_right) depth 9;
+        below = search (and_left, and_right) depth 9;
+        run = search (and_left, and_right) depth 9;
+        t2s = search (and_left, and_right) depth 9;
+        registers = search (and_left, and_right) depth 9;
+        intervals = search (and_left, and_right) depth 9;
+        causes = search (and_left, and_right) depth 9;
+        counts = search (and_left, and_right) depth 9;
       }
 
   pub whole : Pieces n → well_formed n ≡ true
@@ -90,50 +78,26 @@ module _ (n : Neighbour) where
   -- "t1, t2, t3 at most 122, 482, 3,600"
   pub below_numbers : timers_below n ≡ true → (n.t1 ≤ 122) × (n.t2 ≤ 482) × (n.t3 ≤ 3600)
   unfolding timers_below
-  below_numbers h =
-      let a = leb n.t1 122 in
-      let b = leb n.t2 482 in
-      let k = and_left (a && b) (leb n.t3 3600) h in
-      (leb-true n.t1 122 (and_left a b k), leb-true n.t2 482 (and_right a b k), leb-true n.t3 3600 (and_right (a && b) (leb n.t3 3600) h))
+  below_numbers h = (grind (arith, nat_tests), grind (arith, nat_tests), grind (arith, nat_tests))
 
   pub run_numbers : is_idle n.phase ≡ false → timers_run n ≡ true → (1 ≤ n.t1) × (1 ≤ n.t3)
   unfolding timers_run
-  run_numbers e h =
-      let k = rw e at h in
-      (leb-true 1 n.t1 (and_left (leb 1 n.t1) (leb 1 n.t3) k), leb-true 1 n.t3 (and_right (leb 1 n.t1) (leb 1 n.t3) k))
+  run_numbers e h = let k = rw e at h in (grind (arith, nat_tests), grind (arith, nat_tests))
 
   register_numbers : register_formed n ≡ true → (n.register ≤ 15) × (n.heard ≤ 1)
   unfolding register_formed
   register_numbers h =
-      let a = leb n.register 15 in
-      let b = leb n.heard 1 in
-      let k = and_left (a && b) (acquired n.phase || (eqb n.register 0 && eqb n.heard 0)) h in
-      (leb-true n.register 15 (and_left a b k), leb-true n.heard 1 (and_right a b k))
+      let k = and_left (leb n.register 15 && leb n.heard 1) (acquired n.phase || (eqb n.register 0 && eqb n.heard 0)) h in
+      (grind (arith, nat_tests), grind (arith, nat_tests))
 
   interval_numbers : acquired n.phase ≡ true → intervals_formed n ≡ true
       → (32 ≤ n.period1) × (n.period1 ≤ 122) × (122 ≤ n.period2) × (n.period2 ≤ 482) × (not (is_unset n.mode) ≡ true)
   unfolding intervals_formed agreed
-  interval_numbers e h =
-      let k = rw e at h in
-      let a = within 32 122 n.period1 in
-      let b = within 122 482 n.period2 in
-      let m = not (is_unset n.mode) in
-      let ab = and_left (a && b) m k in
-      let ha = and_left a b ab in
-      let hb = and_right a b ab in (
-        leb-true 32 n.period1 (and_left (leb 32 n.period1) (leb n.period1 122) ha),
-        leb-true n.period1 122 (and_right (leb 32 n.period1) (leb n.period1 122) ha),
-        leb-true 122 n.period2 (and_left (leb 122 n.period2) (leb n.period2 482) hb),
-        leb-true n.period2 482 (and_right (leb 122 n.period2) (leb n.period2 482) hb),
-        and_right (a && b) m k,
-      )
+  interval_numbers e h = let k = rw e at h in (grind (arith, nat_tests), grind (arith, nat_tests), grind (arith, nat_tests), grind (arith, nat_tests), search (and_left, and_right) depth 9)
 
   pub counts_numbers : counts_formed n ≡ true → (n.sincehello ≤ 120) × (n.sincepoll ≤ 120)
   unfolding counts_formed
-  counts_numbers h =
-      let a = leb n.sincehello 120 in
-      let b = leb n.sincepoll 120 in
-      (leb-true n.sincehello 120 (and_left a b h), leb-true n.sincepoll 120 (and_right a b h))
+  counts_numbers h = (grind (arith, nat_tests), grind (arith, nat_tests))
 
   pub fine_of : is_idle n.phase ≡ false → acquired n.phase ≡ true → n.cause ≡ 0 → well_formed n ≡ true → Fine n
   fine_of i a z h =
@@ -328,15 +292,15 @@ unfolding initialised
 initialised_ok n hello poll mode a b c d m = down_ok (initialised n hello poll mode) refl (omega arith) refl m
 
 -- what an offer may be
-pub offer_elim : (g : Settings) (asn status hello poll : ℕ) (P : Offer → Type 0)
-    → ((h p : ℕ) (m : Mode) → 32 ≤ h → h ≤ 122 → 122 ≤ p → p ≤ 482 → is_unset m ≡ false → P (Acceptable h p m))
-    → P Unacceptable → P (offer_of g asn status hello poll)
+pub offer_elim : (g : Settings) (asn status hello poll : ℕ) (P : Option Terms → Type 0)
+    → ((h p : ℕ) (m : Mode) → 32 ≤ h → h ≤ 122 → 122 ≤ p → p ≤ 482 → is_unset m ≡ false → P (Some (record { period1 = h; period2 = p; mode = m })))
+    → P None → P (offer_of g asn status hello poll)
 unfolding offer_of period1_of period2_of
 offer_elim g asn status hello poll P acc rej =
     cond_elim P (unacceptable g.capability status hello poll) _ _ (λ _. rej)
     (λ e.
-    let a = larger_fits 30 hello 120 (omega arith) (hello_fits g asn status hello poll e) in
-    let b = larger_fits 120 poll 480 (omega arith) (poll_fits g asn status hello poll e) in
+    let a = larger_fits 30 hello 120 (omega arith) (hello_fits g.capability status hello poll e) in
+    let b = larger_fits 120 poll 480 (omega arith) (poll_fits g.capability status hello poll e) in
     let c = larger_least 30 hello in
     let d = larger_least 120 poll in
     acc (larger 30 hello + 2) (larger 120 poll + 2) _ (omega arith) (omega arith) (omega arith) (omega arith) (mode_set g.capability status g.asn asn))

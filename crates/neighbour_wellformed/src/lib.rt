@@ -1,212 +1,80 @@
 // Check 1 as far as it concerns one neighbour's record: 01's paragraph "Well formed means", by the record's state.
 #![tactic(auto)]
 
-ghost use Rattle.std.specs.Prelude.{◌≤◌, ◌≡◌, true, false, ◌&&◌, ◌||◌, leb, eqb};
-ghost use Rattle.neighbour.specs.declared.Phase.TheVariants.{Acquisition, Down, Up, Cease};
-ghost use Rattle.neighbour.specs.Record.{is_idle, acquired};
-ghost use Rattle.neighbour_wellformed.specs.Formed.{is_unset, within, all_zero, t2_formed, cause_formed, well_formed};
+ghost use Rattle.std.specs.Prelude.{◌≡◌, ◌&&◌, ◌||◌, eqb};
+ghost use Rattle.neighbour.specs.Record.{is_up};
+ghost use Rattle.neighbour_wellformed.specs.Formed.{agreed, well_formed};
+ghost use Rattle.neighbour_wellformed.specs.ByState.{timers_formed, reached_formed, waiting_formed};
 
 use neighbour::{HOLDS_AT, Mode, Neighbour, Phase};
 
-fn is_unset(mode: Mode) -> bool
-    ensures { result ≡ is_unset mode }
+// t1, t3 and the two counts, outside Idle.
+#[tactic(auto, unfolding(crate::specs::Formed::counts_formed))]
+fn are_timers_formed(n: Neighbour) -> bool
+    ensures { result ≡ timers_formed n }
 {
-    match mode {
-        Mode::Unset => true,
-        Mode::Active => false,
-        Mode::Passive => false,
-    }
+    (1..=122).contains(&n.t1)
+        && (1..=3600).contains(&n.t3)
+        && n.sincehello <= HOLDS_AT
+        && n.sincepoll <= HOLDS_AT
 }
 
-fn is_zero(n: Neighbour) -> bool
-    ensures { result ≡ all_zero n }
+// T1, T2 and M, as agreed on.
+#[tactic(auto, unfolding(crate::specs::Formed::agreed))]
+fn are_terms_formed(n: Neighbour) -> bool
+    ensures { result ≡ agreed n }
 {
-    if n.s != 0 {
-        return false;
-    }
-    if n.r != 0 {
-        return false;
-    }
-    if n.period1 != 0 {
-        return false;
-    }
-    if n.period2 != 0 {
-        return false;
-    }
-    if n.t1 != 0 {
-        return false;
-    }
-    if n.t2 != 0 {
-        return false;
-    }
-    if n.t3 != 0 {
-        return false;
-    }
-    let mode = n.mode;
-    if !is_unset(mode) {
-        return false;
-    }
-    if n.register != 0 {
-        return false;
-    }
-    if n.heard != 0 {
-        return false;
-    }
-    if n.cause != 0 {
-        return false;
-    }
-    if n.sincehello != 0 {
-        return false;
-    }
-    n.sincepoll == 0
+    (32..=122).contains(&n.period1) && (122..=482).contains(&n.period2) && n.mode != Mode::Unset
 }
 
-// t1, t3 and the two counts outside Idle.
-fn are_timers_formed(t1: u16, t3: u16, hello: u8, poll: u8) -> bool
-    ensures { result ≡ (within 1 122 t1 && within 1 3600 t3 && (leb hello 120 && leb poll 120)) }
+// What is asked in Down and Up alike, with the bounds of t2 in that state.
+fn is_reached_formed(n: Neighbour, low: u16, high: u16) -> bool
+    ensures { result ≡ reached_formed low high n }
 {
-    if t1 < 1 {
-        return false;
-    }
-    if 122 < t1 {
-        return false;
-    }
-    if t3 < 1 {
-        return false;
-    }
-    if 3600 < t3 {
-        return false;
-    }
-    if HOLDS_AT < hello {
-        return false;
-    }
-    poll <= HOLDS_AT
+    (low..=high).contains(&n.t2)
+        && are_timers_formed(n)
+        && are_terms_formed(n)
+        && n.register <= 15
+        && n.heard <= 1
+        && n.cause == 0
 }
 
-// The tests that Down and Up have in common, behind those of t2.
-fn is_reached_formed(n: Neighbour) -> bool
-    requires { (acquired n.phase ≡ true) × (t2_formed n ≡ true) × (n.t2 ≤ 482) }
-    ensures { result ≡ well_formed n }
-{
-    if !are_timers_formed(n.t1, n.t3, n.sincehello, n.sincepoll) {
-        return false;
-    }
-    if n.period1 < 32 {
-        return false;
-    }
-    if 122 < n.period1 {
-        return false;
-    }
-    if n.period2 < 122 {
-        return false;
-    }
-    if 482 < n.period2 {
-        return false;
-    }
-    let mode = n.mode;
-    if is_unset(mode) {
-        return false;
-    }
-    if 15 < n.register {
-        return false;
-    }
-    if 1 < n.heard {
-        return false;
-    }
-    n.cause == 0
-}
-
-fn is_down_formed(n: Neighbour) -> bool
-    requires { n.phase ≡ Down }
-    ensures { result ≡ well_formed n }
-{
-    if n.t2 != 0 {
-        return false;
-    }
-    is_reached_formed(n)
-}
-
-// The gateway asks this first of every slot in Up.
-pub fn is_up_formed(n: Neighbour) -> bool
-    requires { n.phase ≡ Up }
-    ensures { result ≡ well_formed n }
-{
-    if n.t2 < 1 {
-        return false;
-    }
-    if 482 < n.t2 {
-        return false;
-    }
-    is_reached_formed(n)
-}
-
-// The tests that Acquisition and Cease have in common, behind that of the cause.
+// What is asked in Acquisition and Cease alike.
 fn is_waiting_formed(n: Neighbour) -> bool
-    requires { (is_idle n.phase ≡ false) × (acquired n.phase ≡ false) × (cause_formed n ≡ true) }
-    ensures { result ≡ well_formed n }
+    ensures { result ≡ waiting_formed n }
 {
-    if !are_timers_formed(n.t1, n.t3, n.sincehello, n.sincepoll) {
-        return false;
-    }
-    if n.t2 != 0 {
-        return false;
-    }
-    if n.period1 != 0 {
-        return false;
-    }
-    if n.period2 != 0 {
-        return false;
-    }
-    let mode = n.mode;
-    if !is_unset(mode) {
-        return false;
-    }
-    if n.register != 0 {
-        return false;
-    }
-    n.heard == 0
-}
-
-fn is_acquisition_formed(n: Neighbour) -> bool
-    requires { n.phase ≡ Acquisition }
-    ensures { result ≡ well_formed n }
-{
-    if n.cause != 0 {
-        return false;
-    }
-    is_waiting_formed(n)
+    are_timers_formed(n)
+        && n.t2 == 0
+        && n.period1 == 0
+        && n.period2 == 0
+        && n.mode == Mode::Unset
+        && n.register == 0
+        && n.heard == 0
 }
 
 // Stop or expiry is cause 5, an unacceptable Request cause 6.
 fn is_cause(cause: u8) -> bool
     ensures { result ≡ (eqb cause 5 || eqb cause 6) }
 {
-    if cause == 5 {
-        return true;
-    }
-    cause == 6
+    matches!(cause, 5 | 6)
 }
 
-fn is_cease_formed(n: Neighbour) -> bool
-    requires { n.phase ≡ Cease }
-    ensures { result ≡ well_formed n }
+// The gateway asks this first of every slot.
+pub fn is_up_formed(n: Neighbour) -> bool
+    ensures { result ≡ (is_up n.phase && well_formed n) }
 {
-    if !is_cause(n.cause) {
-        return false;
-    }
-    is_waiting_formed(n)
+    n.phase.is_up() && is_reached_formed(n, 1, 482)
 }
 
-// 01's check 1, as far as it concerns this record: the state first, then the tests of that state.
+// 01's check 1, as far as it concerns this record: by its state.
 pub fn well_formed(n: Neighbour) -> bool
     ensures { result ≡ well_formed n }
 {
-    let phase = n.phase;
-    match phase {
-        Phase::Idle => is_zero(n),
-        Phase::Acquisition => is_acquisition_formed(n),
-        Phase::Down => is_down_formed(n),
+    match n.phase {
+        Phase::Idle => n == Neighbour::idle(),
+        Phase::Acquisition => n.cause == 0 && is_waiting_formed(n),
+        Phase::Down => is_reached_formed(n, 0, 0),
         Phase::Up => is_up_formed(n),
-        Phase::Cease => is_cease_formed(n),
+        Phase::Cease => is_cause(n.cause) && is_waiting_formed(n),
     }
 }

@@ -3,7 +3,17 @@ use Prim.Native.Nat.{ℕ, ◌/◌, ◌%◌, ◌<◌}
 use native.Mathlib.Nat.{div-div-eq-div-mul, div-add-mod', mod-eq_of_lt}
 use native.Mathlib.Omega.{arith}
 use mathlib.Core.Path.{◌≡◌, sym, ap, ◌∙◌}
+use mathlib.Core.List.{[], ◌∷◌}
+use Rattle.std.specs.Int.{w16, w32, from_be_bytes}
 use Rattle.octets.specs.Numbers.{pair_of, quad_of}
+
+-- ---- what std's `from_be_bytes` makes of two octets, and of four
+
+pub pair_bytes : (a b : ℕ) → from_be_bytes w16 (a ∷ b ∷ []) ≡ pair_of a b
+pair_bytes a b = omega arith
+
+pub quad_bytes : (a b c d : ℕ) → from_be_bytes w32 (a ∷ b ∷ c ∷ d ∷ []) ≡ quad_of a b c d
+quad_bytes a b c d = omega arith
 
 -- ---- the number that its octets make
 

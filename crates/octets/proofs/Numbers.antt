@@ -1,35 +1,17 @@
--- Laws of numbers read in octets and stored in a buffer. Assumes nothing.
-use Prim.Native.Nat.{ℕ, suc, ◌+◌, ◌-◌, ◌≤◌}
+-- Laws of octets stored in a buffer. Assumes nothing.
+use Prim.Native.Nat.{ℕ, suc, ◌+◌, ◌≤◌}
 use native.Mathlib.Nat.{add-zero, zero-add}
 use native.Mathlib.Omega.{arith}
 use mathlib.Core.Path.{◌≡◌, sym, ap, ◌∙◌}
-use mathlib.Core.List.{List, [], ◌∷◌, ◌++◌}
-use lib.ListN.{length, take, drop, set, length-append, get_or-eq_default}
-use lib.Seq.{get_or-drop, sets, sets-eq}
-use Rattle.checks.proofs.Laws.{part_from_lem}
-use Rattle.octets.specs.Numbers.{word16, word32}
+use mathlib.Core.List.{List, [], ◌∷◌, ◌++◌, append_assoc}
+use lib.ListN.{length, set, length-append}
+use lib.Seq.{drop-drop, sets, sets-eq}
+use borrow.Rule.Slice.PartMut.{put_mid}
 use Rattle.octets.specs.Buffer.{over}
 
--- ---- read
-
-pub word16_past : (s : List ℕ) (i : ℕ) → length s ≤ i → 0 ≡ word16 s i
-word16_past s i h =
-    let h1 : length s ≤ i + 1 = omega arith in
-    rw (get_or-eq_default s 0 h, get_or-eq_default s 0 h1)
-
-pub word32_past : (s : List ℕ) (i : ℕ) → length s ≤ i → 0 ≡ word32 s i
-word32_past s i h =
-    let h1 : length s ≤ i + 1 = omega arith in
-    let h2 : length s ≤ i + 2 = omega arith in
-    let h3 : length s ≤ i + 3 = omega arith in
-    rw (get_or-eq_default s 0 h, get_or-eq_default s 0 h1, get_or-eq_default s 0 h2, get_or-eq_default s 0 h3)
-
--- the number at the front of the part from index i on
-pub word32_part : (s : List ℕ) (i : ℕ) → word32 (take (length s - i) (drop i s)) 0 ≡ word32 s i
-word32_part s i =
-    rw (part_from_lem i s, get_or-drop i s 0 0, get_or-drop i s 1 0, get_or-drop i s 2 0, get_or-drop i s 3 0, add-zero i)
-
--- ---- stored
+-- what stands where a part of that many elements was written
+pub sets_part : (l vs ys : List ℕ) (at k : ℕ) → ys ≡ vs → k ≡ length vs → at + length vs ≤ length l → put_mid at k l ys ≡ sets l at vs
+sets_part l vs ys at k e n h = rw (e, n, drop-drop, ← append_assoc) (sym (sets-eq vs l at h))
 
 -- one part behind the other
 pub sets_append : (l : List ℕ) (at : ℕ) (vs ws : List ℕ) → sets l at (vs ++ ws) ≡ sets (sets l at vs) (at + length vs) ws

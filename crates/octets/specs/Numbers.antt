@@ -1,5 +1,5 @@
 -- Numbers in octets. 01: "All numbers are big-endian."
-use Rattle.std.specs.Prelude.{ℕ, ◌+◌, ◌*◌, ◌/◌, ◌%◌, ◌<◌, List, [], ◌∷◌, get_or}
+use Rattle.std.specs.Prelude.{ℕ, ◌+◌, ◌*◌, ◌/◌, ◌%◌, ◌<◌, List, ◌∷◌, get_or}
 
 -- a list of octets: each element is below 256
 abbrev pub Octets : List ℕ → Type 0

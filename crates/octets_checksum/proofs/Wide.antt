@@ -1,15 +1,21 @@
 -- Laws of the sum of 32-bit words, and of folding it. Assumes nothing.
 use Prim.Native.Nat.{ℕ, zero, suc, ◌+◌, ◌-◌, ◌*◌, ◌/◌, ◌%◌, ◌≤◌, ◌<◌}
-use native.Mathlib.Nat.{zero-add}
+use native.Mathlib.Nat.{zero-add, add-zero}
 use native.Mathlib.Omega.{arith}
 use mathlib.Core.Path.{◌≡◌, refl, sym, ap, ◌∙◌}
 use mathlib.Core.Bool.{Bool, true, false, cond}
 use borrow.Author.Tests.{lt-ltb, ltb-true}
 use lib.Dec.{ltb}
-use mathlib.Core.List.{List, [], ◌∷◌, ◌++◌}
-use lib.ListN.{length, take, drop, get_or, length-drop, length-set, drop_of_length-le}
-use lib.Seq.{get_or-drop, drop-drop, take-append_seam, drop-append_seam}
-use Rattle.octets.specs.Numbers.{pair_of, quad_of, word16, word32, Octets}
+use mathlib.Core.List.{List, [], ◌∷◌, ◌++◌, append-nil}
+use lib.ListN.{length, take, drop, get_or, length-append, length-drop, length-set, drop_of_length-le}
+use lib.Seq.{drop-drop, take-append_seam, drop-append_seam}
+use Rattle.std.proofs.Common.{inl, inr, min}
+use Rattle.std.proofs.lemmas.Bool.{cases_lt}
+use Rattle.std.proofs.lemmas.List.{nil_from_length}
+use Rattle.std.specs.Int.{w32, from_be_bytes}
+use Rattle.std.specs.Simd.{first_chunks}
+use Rattle.octets.proofs.Back.{quad_bytes}
+use Rattle.octets.specs.Numbers.{pair_of, word16, word32, Octets}
 use Rattle.octets_checksum.specs.Checksum.{blanked, checksum_of, word_total, folded}
 use Rattle.octets_checksum.specs.Wide.{wide_total, kept_sum, WideLaws, EveryLength}
 use Rattle.octets_checksum.proofs.Laws.{six_or_more, fold_positive, fold_sum, folds}
@@ -94,24 +100,26 @@ wide_turn (a ∷ b ∷ []) h = absurd (omega arith)
 wide_turn (a ∷ b ∷ c ∷ []) h = absurd (omega arith)
 wide_turn (a ∷ b ∷ c ∷ d ∷ l) h = refl
 
--- the word at an index
-wide_word : (l : List ℕ) (i : ℕ) → i + 4 ≤ length l
-    → quad_of (get_or l (i + 0) 0) (get_or l (i + 1) 0) (get_or l (i + 2) 0) (get_or l (i + 3) 0) + wide_total (drop (i + 4) l) ≡ wide_total (drop i l)
-wide_word l i h =
-    rw (← get_or-drop i l 0 0, ← get_or-drop i l 1 0, ← get_or-drop i l 2 0, ← get_or-drop i l 3 0, ← drop-drop 4 i l)
-    (wide_turn (drop i l) (rw length-drop (omega arith)))
+-- word i of the whole ones
+chunk_at : (k i : ℕ) (l : List ℕ) → i < k → get_or (first_chunks 4 k l) i [] ≡ take 4 (drop (i * 4) l)
+chunk_at zero i l h = absurd (omega (arith, h))
+chunk_at (suc k) zero l h = refl
+chunk_at (suc k) (suc i) l h =
+    let e : 4 + i * 4 ≡ suc i * 4 = omega arith in
+    chunk_at k i (drop 4 l) (omega arith) ∙ ap (take 4) (drop-drop (i * 4) 4 l ∙ ap (λ (n : ℕ). drop n l) e)
 
-pub wide_two : (l : List ℕ) → 8 ≤ length l
-    → word32 l 0 + word32 l 4 + wide_total (drop 8 l) ≡ wide_total l
-wide_two l h = omega (arith, wide_word l 0 (omega arith), wide_word l 4 (omega arith))
+front_word : (l : List ℕ) → from_be_bytes w32 (take 4 l) ≡ word32 l 0
+front_word [] = refl
+front_word (a ∷ []) = omega arith
+front_word (a ∷ b ∷ []) = omega arith
+front_word (a ∷ b ∷ c ∷ []) = omega arith
+front_word (a ∷ b ∷ c ∷ d ∷ l) = quad_bytes a b c d
 
-pub wide_four : (l : List ℕ) → 16 ≤ length l
-    → word32 l 0 + word32 l 4 + word32 l 8 + word32 l 12 + wide_total (drop 16 l) ≡ wide_total l
-wide_four l h = omega (arith, wide_word l 0 (omega arith), wide_word l 4 (omega arith), wide_word l 8 (omega arith), wide_word l 12 (omega arith))
-
-pub wide_eight : (l : List ℕ) → 32 ≤ length l
-    → word32 l 0 + word32 l 4 + word32 l 8 + word32 l 12 + word32 l 16 + word32 l 20 + word32 l 24 + word32 l 28 + wide_total (drop 32 l) ≡ wide_total l
-wide_eight l h = omega (arith, wide_word l 0 (omega arith), wide_word l 4 (omega arith), wide_word l 8 (omega arith), wide_word l 12 (omega arith), wide_word l 16 (omega arith), wide_word l 20 (omega arith), wide_word l 24 (omega arith), wide_word l 28 (omega arith))
+pub word_taken : (l : List ℕ) (words : List (List ℕ)) (i v : ℕ) → words ≡ first_chunks 4 (length l / 4) l → i < length l / 4 → v ≡ from_be_bytes w32 (get_or words i [])
+    → v + wide_total (drop ((i + 1) * 4) l) ≡ wide_total (drop (i * 4) l)
+word_taken l words i v e h f =
+    let n : (i + 1) * 4 ≡ i * 4 + 4 = omega arith in
+    rw (f, e, chunk_at (length l / 4) i l h, front_word, n, ← (drop-drop 4 (i * 4) l)) (wide_turn (drop (i * 4) l) (rw length-drop (omega arith)))
 
 -- the last word, of three octets or fewer
 pub wide_tail : (l : List ℕ) → length l < 4 → word32 l 0 ≡ wide_total l
@@ -121,6 +129,14 @@ wide_tail (a ∷ []) h = refl
 wide_tail (a ∷ b ∷ []) h = refl
 wide_tail (a ∷ b ∷ c ∷ []) h = refl
 wide_tail (a ∷ b ∷ c ∷ d ∷ l) h = absurd (omega arith)
+
+-- what is left behind the whole words
+pub tail_taken : (l rest : List ℕ) (i s v : ℕ) → rest ≡ drop (length l / 4 * 4) l → i ≡ length l / 4 → v ≡ word32 rest 0
+    → s + wide_total (drop (i * 4) l) ≡ wide_total l → s + v ≡ wide_total l
+tail_taken l rest i s v e j f h =
+    let short : length rest < 4 = rw (e, length-drop) (omega arith) in
+    let tail : v ≡ wide_total (drop (i * 4) l) = f ∙ wide_tail rest short ∙ ap wide_total (e ∙ ap (λ (n : ℕ). drop (n * 4) l) (sym j)) in
+    rw tail h
 
 -- four octets are less than 2^32
 pub wide_below : (l : List ℕ) → Octets l → wide_total l ≤ 1073741824 * (length l + 3)
@@ -241,6 +257,11 @@ roomy_below s = kept_below _ s (ltb s _) refl (omega arith)
 pub fold_taken : (s w t u : ℕ) → w + t ≡ u → folded (s + w + t) ≡ folded (s + u)
 fold_taken s w t u e = let k : s + w + t ≡ s + u = omega arith in ap folded k
 
+-- no octets left
+pub fold_end : (s x : ℕ) (rest : List ℕ) → rest ≡ [] → folded (s + wide_total rest) ≡ x → folded s ≡ x
+unfolding wide_total
+fold_end s x rest e h = ap folded (sym (add-zero s)) ∙ (rw e at h)
+
 -- ---- the whole
 
 pub first_fits : (m : List ℕ) → Octets m → word32 m 0 + word16 m 6 < 8589934592
@@ -277,6 +298,18 @@ checksum_behind k p l r e o =
     sym (wide_checksum (l ++ r) o)
     ∙ ap (λ (x : List ℕ). 65535 - folded (wide_total x)) (blank_front l r (omega arith))
     ∙ ap (λ (x : ℕ). 65535 - folded x) (wide_behind (blanked l) r n)
+
+-- a block at the front, and the rest
+pub wide_block : (l block rest : List ℕ) → l ≡ block ++ rest → length block ≡ min 1048576 (length l) → wide_total block + wide_total rest ≡ wide_total l
+unfolding wide_total
+wide_block l block rest parts size =
+    let sum = ap length parts ∙ length-append block rest in
+    elim (cases_lt (length l) 1048576) [
+      | inl short ↦
+          let none : rest ≡ [] = nil_from_length rest (omega arith) in
+          rw (parts, none, append-nil) (add-zero (wide_total block))
+      | inr long ↦ let whole : length block % 4 ≡ 0 = omega arith in rw parts (sym (wide_behind block rest whole))
+    ]
 
 wide_room : (m : List ℕ) → Octets m → length m ≤ 2048 → wide_total (blanked m) < 9223372036854775808
 wide_room m o h =

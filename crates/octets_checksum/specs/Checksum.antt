@@ -1,5 +1,5 @@
 -- 01: "Checksum: complement of the one's complement sum of 16-bit words, its field taken as 0, an odd last octet paired with a zero."
-use Rattle.std.specs.Prelude.{ℕ, zero, suc, ◌+◌, ◌-◌, ◌*◌, ◌%◌, ◌/◌, cond, ◌≡◌, List, [], ◌∷◌, set, ltb}
+use Rattle.std.specs.Prelude.{ℕ, zero, suc, ◌+◌, ◌-◌, ◌%◌, ◌/◌, cond, ◌≡◌, List, [], ◌∷◌, set, ltb}
 use Rattle.octets.specs.Numbers.{pair_of, Octets}
 
 -- the one's complement sum of two 16-bit words: the carry out of the top bit comes in at the bottom

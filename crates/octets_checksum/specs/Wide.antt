@@ -1,6 +1,6 @@
 -- 02, L2: "take the checksum four octets at a time with a wider sum and fold only at the end. Prove it equal at every
 -- length up to 2,048, odd ones included, to 01's sum of 16-bit words".
-use Rattle.std.specs.Prelude.{ℕ, ◌+◌, ◌-◌, ◌*◌, ◌%◌, ◌≤◌, ◌<◌, ◌≡◌, cond, ltb, List, [], ◌∷◌, ◌++◌, length}
+use Rattle.std.specs.Prelude.{ℕ, ◌+◌, ◌-◌, ◌*◌, ◌%◌, ◌≤◌, ◌≡◌, cond, ltb, List, [], ◌∷◌, ◌++◌, length}
 use Rattle.octets.specs.Numbers.{quad_of, Octets}
 use Rattle.octets_checksum.specs.Checksum.{blanked, checksum_of, word_total, folded}
 

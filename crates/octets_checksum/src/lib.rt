@@ -6,42 +6,8 @@ ghost use Rattle.octets.specs.Numbers.{word16, word32};
 ghost use Rattle.octets_checksum.specs.Checksum.{checksum_of, sealed, folded};
 ghost use Rattle.octets_checksum.specs.Wide.{wide_total, kept_sum};
 
-// The sum of the two 32-bit words at the front of octets.
-fn two_words(octets: &[u8]) -> u64
-    requires { 8 ≤ length octets.now }
-    ensures octets_value { result + wide_total (drop 8 octets.now) ≡ wide_total octets.now }
-    ensures upper_bound { result < 8589934592 }
-{
-    octets::word32_at(octets, 0) as u64 + octets::word32_at(octets, 4) as u64
-}
-
-// The sum of the four 32-bit words at the front of octets.
-fn four_words(octets: &[u8]) -> u64
-    requires { 16 ≤ length octets.now }
-    ensures octets_value { result + wide_total (drop 16 octets.now) ≡ wide_total octets.now }
-    ensures upper_bound { result < 17179869184 }
-{
-    octets::word32_at(octets, 0) as u64
-        + octets::word32_at(octets, 4) as u64
-        + octets::word32_at(octets, 8) as u64
-        + octets::word32_at(octets, 12) as u64
-}
-
-// The sum of the eight 32-bit words at the front of octets.
-fn eight_words(octets: &[u8]) -> u64
-    requires { 32 ≤ length octets.now }
-    ensures octets_value { result + wide_total (drop 32 octets.now) ≡ wide_total octets.now }
-    ensures upper_bound { result < 34359738368 }
-{
-    octets::word32_at(octets, 0) as u64
-        + octets::word32_at(octets, 4) as u64
-        + octets::word32_at(octets, 8) as u64
-        + octets::word32_at(octets, 12) as u64
-        + octets::word32_at(octets, 16) as u64
-        + octets::word32_at(octets, 20) as u64
-        + octets::word32_at(octets, 24) as u64
-        + octets::word32_at(octets, 28) as u64
-}
+// How many octets are summed before a look at the sum: 64 bits have room for the words of many times as many.
+const BLOCK: usize = 1_048_576;
 
 // What lies above the lower 16 bits of a sum, added to them: the carries brought round.
 fn carries_round(sum: u64) -> u64
@@ -70,30 +36,30 @@ fn with_room(sum: u64) -> u64
     fold(sum) as u64
 }
 
+// The plain sum of the 32-bit words of a block.
+fn block_sum(octets: &[u8]) -> u64
+    requires { length octets.now ≤ 1048576 }
+    ensures total { result ≡ wide_total octets.now }
+    ensures upper_bound { result < 9223372036854775808 }
+{
+    let (words, rest) = octets.as_chunks::<4>();
+    let mut sum = 0;
+    for word in words {
+        sum += u32::from_be_bytes(*word) as u64;
+    }
+    sum + octets::word32_at(rest, 0) as u64
+}
+
 // A number that folds as start and the plain sum of the 32-bit words of octets do.
 fn wide_sum(octets: &[u8], start: u64) -> u64
     requires { start < 8589934592 }
     ensures { folded result ≡ folded (start + wide_total octets.now) }
 {
     let mut sum = start;
-    let mut rest = octets;
-    while 31 < rest.len() {
-        sum = with_room(sum) + eight_words(rest);
-        rest = &rest[32..];
+    for block in octets.chunks(BLOCK) {
+        sum = with_room(sum) + block_sum(block);
     }
-    if 15 < rest.len() {
-        sum = sum + four_words(rest);
-        rest = &rest[16..];
-    }
-    if 7 < rest.len() {
-        sum = sum + two_words(rest);
-        rest = &rest[8..];
-    }
-    if 3 < rest.len() {
-        sum = sum + octets::word32_at(rest, 0) as u64;
-        rest = &rest[4..];
-    }
-    sum + octets::word32_at(rest, 0) as u64
+    sum
 }
 
 // The sum of a message's first two words, the field in the second taken as 0.
@@ -117,13 +83,13 @@ pub fn checksum(message: &[u8]) -> u16
 pub fn seal(message: &mut [u8])
     ensures { message.new ≡ sealed message.old }
 {
-    let sum = checksum(message);
+    let [high, low] = checksum(message).to_be_bytes();
     if message.len() < 5 {
         return;
     }
-    message[4] = octets::high(sum);
+    message[4] = high;
     if message.len() < 6 {
         return;
     }
-    message[5] = octets::low(sum);
+    message[5] = low;
 }

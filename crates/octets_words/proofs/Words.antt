@@ -1,5 +1,5 @@
 -- Laws of numbers in octets: lengths, parts, and that reading and writing undo each other. Assumes nothing.
-use Prim.Native.Nat.{ℕ, zero, suc, ◌*◌, ◌/◌, ◌%◌, ◌<◌}
+use Prim.Native.Nat.{ℕ, zero, suc, ◌*◌, ◌/◌, ◌%◌, ◌≤◌, ◌<◌}
 use native.Mathlib.Omega.{arith}
 use mathlib.Core.Path.{◌≡◌, refl, ap, ◌∙◌}
 use mathlib.Core.List.{List, [], ◌∷◌, ◌++◌}
@@ -24,6 +24,9 @@ words_length (a ∷ b ∷ []) = refl
 words_length (a ∷ b ∷ c ∷ []) = refl
 words_length (a ∷ b ∷ c ∷ d ∷ rest) = omega (arith, words_length rest)
 
+pub words_few : (l : List ℕ) → length (words_of l) ≤ length l
+words_few l = omega (arith, words_length l)
+
 -- ---- the number at the front, and those behind it
 
 pub words_cons : (l : List ℕ) → 3 < length l → words_of l ≡ word32 l 0 ∷ words_of (drop 4 l)
@@ -45,7 +48,7 @@ words_short (a ∷ b ∷ c ∷ d ∷ rest) h = absurd (omega (arith, h))
 -- ---- parts
 
 -- a number more is four octets more
-four_more : (n : ℕ) → suc n * 4 ≡ suc (suc (suc (suc (n * 4))))
+pub four_more : (n : ℕ) → suc n * 4 ≡ suc (suc (suc (suc (n * 4))))
 four_more n = omega arith
 
 pub words_take : (n : ℕ) (l : List ℕ) → words_of (take (n * 4) l) ≡ take n (words_of l)

@@ -10,12 +10,8 @@ pub fn read_words(numbers: &mut [u32], octets: &[u8])
     requires { length numbers.old * 4 ≤ length octets.now }
     ensures { numbers.new ≡ take (length numbers.old) (words_of octets.now) }
 {
-    let mut i = 0;
-    let mut rest = octets;
-    while i < numbers.len() {
-        numbers[i] = octets::word32_at(rest, 0);
-        rest = &rest[4..];
-        i += 1;
+    for i in 0..numbers.len() {
+        numbers[i] = octets::word32_at(octets, i * 4);
     }
 }
 
@@ -24,11 +20,7 @@ pub fn write_words(out: &mut [u8], numbers: &[u32])
     requires { length numbers.now * 4 ≤ length out.old }
     ensures { out.new ≡ over (word_octets numbers.now) out.old }
 {
-    let mut i = 0;
-    let mut at = 0;
-    while i < numbers.len() {
-        octets::put32(out, at, numbers[i]);
-        at += 4;
-        i += 1;
+    for (i, number) in numbers.iter().enumerate() {
+        octets::put32(out, i * 4, *number);
     }
 }

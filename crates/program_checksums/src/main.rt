@@ -31,14 +31,7 @@ fn sum_often(octets: &[u8], size: usize, times: u32) -> u32 {
 
 // Writes a number of 32 bits.
 fn show(output: &mut impl Write, n: u32) -> bool {
-    output
-        .write_all(&[
-            octets::first_of(n),
-            octets::second_of(n),
-            octets::third_of(n),
-            octets::fourth_of(n),
-        ])
-        .is_ok()
+    output.write_all(&n.to_be_bytes()).is_ok()
 }
 
 // Reads octets from standard input to the front. Where the input ends or fails before, the rest stays as it was.

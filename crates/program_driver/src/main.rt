@@ -4,7 +4,6 @@
 ghost use Rattle.std.specs.Prelude.{◌≡◌, true, ◌*◌, ◌≤◌, length};
 ghost use Rattle.program_driver.specs.Bounds.{InBounds};
 
-use codec::Meaning;
 use driver_records::RecordHead;
 use gateway_state::{Outcome, State};
 use std::io::{Read, Write};
@@ -19,6 +18,9 @@ struct Turn {
     is_open: bool,
 }
 
+// What the driver answers where it can make no call: the number of no rule.
+const NO_CALL: u8 = 255;
+
 // A state that the host hands in, or one that no call touched.
 fn kept(st: State) -> Outcome {
     Outcome {
@@ -29,10 +31,17 @@ fn kept(st: State) -> Outcome {
     }
 }
 
+fn unmade(st: State) -> Outcome {
+    Outcome {
+        answer: NO_CALL,
+        ..kept(st)
+    }
+}
+
 // The state whose block the host hands in.
 fn hand_state(st: State, block: &[u8]) -> Outcome {
     if block.len() < host_state_block::BLOCK {
-        return gateway_state::refused(st, 255);
+        return unmade(st);
     }
     kept(host_state_block::read_state(block))
 }
@@ -40,16 +49,14 @@ fn hand_state(st: State, block: &[u8]) -> Outcome {
 // Reading alone: the meaning and 384 numbers go into the buffer, and the first length is the number of rows.
 fn read_alone(st: State, buffer: &mut [u8], net: u32, message: &[u8]) -> Outcome {
     let reading = codec::read(net, message);
-    let meaning = reading.meaning;
-    match meaning {
-        Meaning::Refused(number) => gateway_state::refused(st, number),
-        Meaning::Good(m) => {
+    match reading.meaning {
+        Err(refusal) => gateway_state::refused(st, refusal),
+        Ok(m) => {
             if buffer.len() < 1560 {
-                return gateway_state::refused(st, 255);
+                return unmade(st);
             }
             octets::store(buffer, &host_meaning::meaning_octets(m));
-            let rows = reading.rows;
-            octets_words::write_words(&mut buffer[24..], &rows);
+            octets_words::write_words(&mut buffer[24..], &reading.rows);
             Outcome {
                 answer: 0,
                 first: reading.count,
@@ -61,12 +68,14 @@ fn read_alone(st: State, buffer: &mut [u8], net: u32, message: &[u8]) -> Outcome
 }
 
 fn write_alone(st: State, buffer: &mut [u8], octets: &[u8], rows: &[u32]) -> Outcome {
-    let written = codec::write(buffer, host_meaning::read_meaning(octets), rows);
-    Outcome {
-        answer: written.answer,
-        first: written.length,
-        second: 0,
-        state: st,
+    match codec::write(buffer, host_meaning::read_meaning(octets), rows) {
+        Err(refusal) => gateway_state::refused(st, refusal),
+        Ok(length) => Outcome {
+            answer: 0,
+            first: length,
+            second: 0,
+            state: st,
+        },
     }
 }
 
@@ -92,7 +101,7 @@ fn call(
         8 => read_alone(st, buffer, head.net, octets),
         9 => write_alone(st, buffer, octets, numbers),
         10 => hand_state(st, octets),
-        _ => gateway_state::refused(st, 255),
+        _ => unmade(st),
     }
 }
 
@@ -104,7 +113,7 @@ fn repeat_tick(
     address: u32,
     times: u32,
 ) -> Outcome {
-    let mut outcome = gateway_state::refused(st, 255);
+    let mut outcome = unmade(st);
     for _ in 0..times {
         outcome = gateway_calls::tick(st, table, buffer, address);
     }
@@ -121,7 +130,7 @@ fn repeat_receive(
     octets: &[u8],
     times: u32,
 ) -> Outcome {
-    let mut outcome = gateway_state::refused(st, 255);
+    let mut outcome = unmade(st);
     for _ in 0..times {
         outcome = gateway_calls::receive(st, table, buffer, home, address, octets);
     }
@@ -137,7 +146,7 @@ fn repeat_call(
     octets: &[u8],
     numbers: &[u32],
 ) -> Outcome {
-    let mut outcome = gateway_state::refused(st, 255);
+    let mut outcome = unmade(st);
     for _ in 0..head.times {
         outcome = call(st, table, buffer, head, octets, numbers);
     }

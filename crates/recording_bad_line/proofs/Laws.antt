@@ -1,16 +1,14 @@
--- What put_bad asks besides the laws of a line of text: the report fits in 25 octets. Assumes nothing.
-use Prim.Native.Nat.{ℕ, ◌+◌, ◌≤◌, ◌<◌}
-use native.Mathlib.Nat.{zero-add}
+-- Laws of a report, and of a count. Assumes nothing.
+use Prim.Native.Nat.{ℕ, suc, min, ◌+◌, ◌≤◌, ◌<◌}
 use native.Mathlib.Omega.{arith}
-use mathlib.Core.Path.{◌≡◌, ◌∙◌}
-use mathlib.Core.List.{List}
+use borrow.Author.Tests.{ltb-true, ltb-false}
+use mathlib.Core.Bool.{Bool, true, false, cond}
+use mathlib.Core.Path.{◌≡◌, refl}
+use lib.Dec.{ltb}
 use lib.ListN.{length, length-append}
-use lib.Seq.{sets-eq}
-use Rattle.octets.specs.Buffer.{over}
-use Rattle.octets.specs.Written.{Written}
 use Rattle.text.specs.Text.{text, decimal, line}
 use Rattle.text.proofs.Laws.{decimal_most}
-use Rattle.recording_bad_line.specs.BadLine.{bad_text}
+use Rattle.recording_bad_line.specs.BadLine.{bad_text, one_more}
 
 -- a number of 64 bits has at most 20 digits
 pub long_length : (n : ℕ) → n < 18446744073709551616 → length (decimal n) ≤ 20
@@ -20,12 +18,10 @@ pub bad_length : (n : ℕ) → n < 18446744073709551616 → length (bad_text n) 
 unfolding bad_text line text
 bad_length n h = simp length-append (omega (arith, long_length n h))
 
--- the report is a line of text, at the front
-module _ (n : ℕ) (h : n < 18446744073709551616) (out : List ℕ) (k : 25 ≤ length out) where
-  pub report_fits : 0 + length (bad_text n) ≤ length out
-  report_fits = omega (arith, bad_length n h)
-
-  pub report_done : {new : List ℕ} {end : ℕ} → Written (bad_text n) 0 out new end → (end ≡ length (bad_text n)) × (new ≡ over (bad_text n) out)
-  unfolding over
-  report_done w =
-      (w.after ∙ zero-add (length (bad_text n)), w.list ∙ sets-eq (bad_text n) out 0 report_fits ∙ rw zero-add)
+pub counted : (n : ℕ) → n < 18446744073709551616 → min (n + 1) 18446744073709551615 ≡ one_more n
+unfolding one_more
+counted n h = go (ltb n 18446744073709551615) refl
+  where
+    go : (b : Bool) → ltb n 18446744073709551615 ≡ b → min (n + 1) 18446744073709551615 ≡ cond b (suc n) n
+    go true e = let k = ltb-true n 18446744073709551615 e in omega arith
+    go false e = let k = ltb-false n 18446744073709551615 e in omega arith

@@ -2,7 +2,8 @@
 use Prim.Native.Nat.{ℕ, ◌+◌, ◌-◌, ◌≤◌, ◌<◌, min}
 use native.Mathlib.Omega.{arith}
 use mathlib.Core.Path.{◌≡◌, refl, sym, ap, subst, ◌∙◌}
-use mathlib.Core.Bool.{Bool, true, false, true≢false, false≢true}
+use mathlib.Core.Bool.{Bool, true, false, false≢true}
+use mathlib.Core.Logic.{◌⊎◌, inl, inr}
 use mathlib.Core.List.{List, []}
 use lib.Dec.{eqb}
 use lib.ListN.{length, take, drop, length-take, length-drop}
@@ -12,38 +13,18 @@ use Rattle.recording_player.specs.declared.Told.{Told}
 use Rattle.recording_player.specs.Player.{Step, roomy, told_of, turn_step, held_of}
 use Rattle.recording_theorem.proofs.Turns.{used_within}
 use Rattle.recording_course.specs.declared.Stage.{Stage}
-use Rattle.recording_course.specs.declared.Stage.TheVariants.{Read, Play, Close, Over}
+use Rattle.recording_course.specs.declared.Stage.TheVariants.{Read, Play, Over}
 use Rattle.recording_course.specs.declared.Course.{Course}
 use Rattle.recording_course.specs.declared.Went.{Went}
-use Rattle.recording_course.specs.Course.{staged, given_of, wrote_of, Stepped, went_of, rest_of, used_up, next_stage, turned_to, play_on, play_step, ended_by, course_at, course_step}
+use Rattle.recording_course.specs.Course.{given_of, Stepped, went_of, rest_of, next_stage, turned_to, play_on, play_step, ended_by, still_on, course_at, course_step}
 
 -- ---- what the host says
-
-pub given_bad : (c : Course) (good : Bool) (size : ℕ) → good ≡ false → given_of c good size ≡ staged c Over
-unfolding given_of
-given_bad c false size e = refl
-given_bad c true size e = absurd (true≢false e)
-
-pub given_none : (c : Course) (good : Bool) (size : ℕ) → good ≡ true → eqb size 0 ≡ true → given_of c good size ≡ staged c Close
-unfolding given_of
-given_none c true size e z = rw z
-given_none c false size e z = absurd (false≢true e)
 
 pub given_some : (c : Course) (good : Bool) (size : ℕ) → good ≡ true → eqb size 0 ≡ false
     → given_of c good size ≡ record { player = c.player; stage = Play; from = 0; to = size }
 unfolding given_of
 given_some c true size e z = rw z
 given_some c false size e z = absurd (false≢true e)
-
-pub wrote_bad : (c : Course) (good : Bool) → good ≡ false → wrote_of c good ≡ staged c Over
-unfolding wrote_of
-wrote_bad c false e = refl
-wrote_bad c true e = absurd (true≢false e)
-
-pub wrote_good : (c : Course) (good : Bool) → good ≡ true → wrote_of c good ≡ c
-unfolding wrote_of
-wrote_good c true e = refl
-wrote_good c false e = absurd (false≢true e)
 
 -- ---- the rest of a piece
 
@@ -60,24 +41,6 @@ rest_some from to piece end e = ap (λ (n : ℕ). take (n - from) (drop from pie
 pub rest_within : (from to : ℕ) (piece : List ℕ) → length (rest_of from to piece) ≤ length piece - from
 unfolding rest_of
 rest_within from to piece = rw (length-take (min to (length piece) - from) (drop from piece), length-drop from piece) (omega arith)
-
--- ---- the next stage
-
-pub next_more : (p : Player) (left : ℕ) → eqb left 0 ≡ false → next_stage p left ≡ Play
-unfolding next_stage used_up
-next_more p left e = rw e
-
-pub next_broken : (p : Player) (left : ℕ) → eqb left 0 ≡ true → p.broken ≡ true → next_stage p left ≡ Read
-unfolding next_stage used_up
-next_broken p left e f = rw (e, f)
-
-pub next_tick : (p : Player) (left : ℕ) → eqb left 0 ≡ true → p.broken ≡ false → eqb p.ticks 0 ≡ false → next_stage p left ≡ Play
-unfolding next_stage used_up
-next_tick p left e f t = rw (e, f, t)
-
-pub next_done : (p : Player) (left : ℕ) → eqb left 0 ≡ true → p.broken ≡ false → eqb p.ticks 0 ≡ true → next_stage p left ≡ Read
-unfolding next_stage used_up
-next_done p left e f t = rw (e, f, t)
 
 -- ---- a turn
 
@@ -138,3 +101,9 @@ module _ (out : List ℕ) (c : Course) (line table piece : List ℕ) where
       → Leaves r line' table' out' (course_at stage out c line table piece) → Leaves r line' table' out' (course_step out c line table piece)
   unfolding course_step
   at_step stage e r line' table' out' h = subst (λ (s : Stage). Leaves r line' table' out' (course_at s out c line table piece)) (sym e) h
+
+  -- where a read comes next, or nothing
+  pub still : (c.stage ≡ Read) ⊎ (c.stage ≡ Over) → Leaves (record { course = c; written = 0 }) line table out (course_step out c line table piece)
+  unfolding course_at still_on went_of over
+  still (inl e) = at_step Read e _ _ _ _ (record { value = refl; line_after = refl; table_after = refl; out_after = refl })
+  still (inr e) = at_step Over e _ _ _ _ (record { value = refl; line_after = refl; table_after = refl; out_after = refl })

@@ -2,14 +2,15 @@
 // came of it, gathers what each step wrote and writes it where that is due; everything else is decided here.
 #![tactic(auto)]
 
-ghost use Rattle.std.specs.Prelude.{◌≡◌, List, ℕ, min};
+ghost use Rattle.std.specs.Prelude.{◌≡◌, List, ℕ, is_some, unwrap_or};
 ghost use Rattle.octets.specs.Buffer.{over};
-ghost use Rattle.recording_course.specs.Course.{is_read, is_over, staged, set_out, given_of, is_due, wrote_of, rest_of, next_stage, went_of, play_step, close_on, list_on, still_on, course_step};
+ghost use Rattle.recording_player.specs.Player.{Step, told_of};
+ghost use Rattle.recording_course.specs.Course.{is_read, is_over, staged, set_out, given_of, is_due, wrote_of, rest_of, next_stage, went_of, play_step, ended_by, course_step};
 
-use recording_player::Player;
+use recording_player::{Player, ROOM, Told};
 
 // What comes next.
-#[derive(Clone, Copy)]
+#[derive(Clone, Copy, Debug, PartialEq, Eq)]
 pub enum Stage {
     // A read.
     Read,
@@ -28,7 +29,7 @@ pub enum Stage {
 pub struct Course {
     pub player: Player,
     pub stage: Stage,
-    // The octets of the piece that are left.
+    // The octets of the piece that are left. The host reads into the piece between two steps, so no slice can be kept.
     pub from: usize,
     pub to: usize,
 }
@@ -44,9 +45,8 @@ pub struct Went {
 pub fn set_out(traced: bool) -> Course
     ensures { result ≡ set_out traced }
 {
-    let player = recording_player::begin(traced);
     Course {
-        player,
+        player: recording_player::begin(traced),
         stage: Stage::Read,
         from: 0,
         to: 0,
@@ -54,188 +54,116 @@ pub fn set_out(traced: bool) -> Course
 }
 
 // Whether a read comes next.
+#[tactic(auto, unfolding(crate::specs::Course::is_read))]
 pub fn is_read(c: Course) -> bool
     ensures { result ≡ is_read c.stage }
 {
-    let stage = c.stage;
-    match stage {
-        Stage::Read => true,
-        Stage::Play => false,
-        Stage::Close => false,
-        Stage::List => false,
-        Stage::Over => false,
-    }
+    matches!(c.stage, Stage::Read)
 }
 
 // Whether nothing more comes.
+#[tactic(auto, unfolding(crate::specs::Course::is_over))]
 pub fn is_over(c: Course) -> bool
     ensures { result ≡ is_over c.stage }
 {
-    let stage = c.stage;
-    match stage {
-        Stage::Read => false,
-        Stage::Play => false,
-        Stage::Close => false,
-        Stage::List => false,
-        Stage::Over => true,
-    }
+    matches!(c.stage, Stage::Over)
 }
 
+#[tactic(auto, unfolding(crate::specs::Course::staged))]
 fn at_stage(c: Course, stage: Stage) -> Course
     ensures { result ≡ staged c stage }
 {
-    let player = c.player;
-    Course {
-        player,
-        stage,
-        from: c.from,
-        to: c.to,
-    }
+    Course { stage, ..c }
 }
 
 // A read gave so many octets, or failed.
-pub fn given(c: Course, good: bool, size: usize) -> Course
-    ensures { result ≡ given_of c good size }
+#[tactic(auto, unfolding(crate::specs::Course::given_of))]
+pub fn given(c: Course, size: Option<usize>) -> Course
+    ensures { result ≡ given_of c (is_some size) (unwrap_or size 0) }
 {
-    if !good {
-        return at_stage(c, Stage::Over);
-    }
-    if size == 0 {
-        return at_stage(c, Stage::Close);
-    }
-    let player = c.player;
-    Course {
-        player,
-        stage: Stage::Play,
-        from: 0,
-        to: size,
+    match size {
+        None => at_stage(c, Stage::Over),
+        Some(0) => at_stage(c, Stage::Close),
+        Some(to) => Course {
+            stage: Stage::Play,
+            from: 0,
+            to,
+            ..c
+        },
     }
 }
 
 // Whether the host writes what was gathered, where so much room is left behind it: nothing is held back at a read or at
 // the end, and the next step must find room.
+#[tactic(auto, unfolding(crate::specs::Course::is_due))]
 pub fn is_due(c: Course, room: usize) -> bool
     ensures { result ≡ is_due c.stage room }
 {
-    if is_read(c) {
-        return true;
-    }
-    if is_over(c) {
-        return true;
-    }
-    room < 65536
+    is_read(c) || is_over(c) || room < ROOM
 }
 
-// What was gathered was written by the host, or could not be.
+// What was gathered was written by the host, or could not be: a write says no more than whether it was made.
+#[tactic(auto, unfolding(crate::specs::Course::wrote_of))]
 pub fn wrote(c: Course, good: bool) -> Course
     ensures { result ≡ wrote_of c good }
 {
-    if good {
-        return c;
-    }
-    at_stage(c, Stage::Over)
-}
-
-fn least(a: usize, b: usize) -> usize
-    ensures { result ≡ min a b }
-{
-    if a < b {
-        return a;
-    }
-    b
+    if good { c } else { at_stage(c, Stage::Over) }
 }
 
 // What is left of the piece.
 fn rest_of(piece: &[u8], from: usize, to: usize) -> &[u8]
     ensures { result.now ≡ rest_of from to piece.now }
 {
-    let end = least(to, piece.len());
+    let end = to.min(piece.len());
     if end < from {
-        return &piece[..0];
+        return &[];
     }
     &piece[from..end]
 }
 
 // After a turn that left so many octets: another, until the piece is used up and no tick is due.
+#[tactic(auto, unfolding(crate::specs::Course::next_stage, crate::specs::Course::used_up))]
 fn next_stage(p: Player, left: usize) -> Stage
     ensures { result ≡ next_stage p left }
 {
-    if left != 0 {
-        return Stage::Play;
+    if left == 0 && (p.broken || p.ticks == 0) {
+        Stage::Read
+    } else {
+        Stage::Play
     }
-    if p.broken {
-        return Stage::Read;
-    }
-    if p.ticks != 0 {
-        return Stage::Play;
-    }
-    Stage::Read
 }
 
+// A turn, on what is left of the piece.
 fn play_on(c: Course, line: &mut [u8], table: &mut [u32], piece: &[u8], out: &mut [u8]) -> Went
     ensures value { result ≡ went_of (play_step out.old c line.old table.old piece.now) }
     ensures line_after { line.new ≡ (play_step out.old c line.old table.old piece.now).line }
     ensures table_after { table.new ≡ (play_step out.old c line.old table.old piece.now).table }
     ensures out_after { out.new ≡ over (play_step out.old c line.old table.old piece.now).text out.old }
 {
-    let p = c.player;
     let rest = rest_of(piece, c.from, c.to);
-    let t = recording_player::turn(p, line, table, rest, out);
-    let player = t.player;
-    let stage = next_stage(player, rest.len() - t.used);
+    let t = recording_player::turn(c.player, line, table, rest, out);
     Went {
         course: Course {
-            player,
-            stage,
+            player: t.player,
+            stage: next_stage(t.player, rest.len() - t.used),
             from: c.from + t.used,
-            to: c.to,
+            ..c
         },
         written: t.written,
     }
 }
 
-fn close_on(c: Course, out: &mut [u8]) -> Went
-    ensures value { (line table : List ℕ) → result ≡ went_of (close_on out.old c line table) }
-    ensures out_after { (line table : List ℕ) → out.new ≡ over (close_on out.old c line table).text out.old }
+// The player's close or its listing, and the stage after it.
+fn ended_by(c: Course, told: Told, stage: Stage) -> Went
+    ensures { (s : Step) (line table : List ℕ) → told ≡ told_of s → result ≡ went_of (ended_by c s stage line table) }
 {
-    let p = c.player;
-    let t = recording_player::close(p, out);
-    let player = t.player;
     Went {
         course: Course {
-            player,
-            stage: Stage::List,
-            from: c.from,
-            to: c.to,
+            player: told.player,
+            stage,
+            ..c
         },
-        written: t.written,
-    }
-}
-
-fn list_on(c: Course, table: &[u32], out: &mut [u8]) -> Went
-    ensures value { (line : List ℕ) → result ≡ went_of (list_on out.old c line table.now) }
-    ensures out_after { (line : List ℕ) → out.new ≡ over (list_on out.old c line table.now).text out.old }
-{
-    let p = c.player;
-    let t = recording_player::finish(p, table, out);
-    let player = t.player;
-    Went {
-        course: Course {
-            player,
-            stage: Stage::Over,
-            from: c.from,
-            to: c.to,
-        },
-        written: t.written,
-    }
-}
-
-fn stay(c: Course) -> Went
-    ensures { (line table : List ℕ) → result ≡ went_of (still_on c line table) }
-{
-    Went {
-        course: c,
-        written: 0,
+        written: told.written,
     }
 }
 
@@ -246,12 +174,17 @@ pub fn advance(c: Course, line: &mut [u8], table: &mut [u32], piece: &[u8], out:
     ensures table_after { table.new ≡ (course_step out.old c line.old table.old piece.now).table }
     ensures out_after { out.new ≡ over (course_step out.old c line.old table.old piece.now).text out.old }
 {
-    let stage = c.stage;
-    match stage {
-        Stage::Read => stay(c),
+    match c.stage {
         Stage::Play => play_on(c, line, table, piece, out),
-        Stage::Close => close_on(c, out),
-        Stage::List => list_on(c, table, out),
-        Stage::Over => stay(c),
+        Stage::Close => ended_by(c, recording_player::close(c.player, out), Stage::List),
+        Stage::List => ended_by(
+            c,
+            recording_player::finish(c.player, table, out),
+            Stage::Over,
+        ),
+        Stage::Read | Stage::Over => Went {
+            course: c,
+            written: 0,
+        },
     }
 }

@@ -16,13 +16,11 @@ pub struct Gathered {
 }
 
 // One octet more is held; past the longest line they are no longer counted.
+#[tactic(auto, unfolding(crate::specs::Gathering::longer))]
 fn count_one(held: u16) -> u16
     ensures { result ≡ longer held }
 {
-    if held < LONGEST {
-        return held + 1;
-    }
-    held
+    if held < LONGEST { held + 1 } else { held }
 }
 
 // Keeps an octet, if the buffer has room for it.
@@ -34,28 +32,26 @@ fn keep(line: &mut [u8], at: usize, octet: u8)
     }
 }
 
-// Takes octets from a piece up to the end of the line, or all of them.
+// Takes octets from a piece up to the end of the line, or all of them. The buffer is the host's, and how much of it is
+// held is the player's: they are lent apart.
 pub fn gather(line: &mut [u8], held: u16, input: &[u8]) -> Gathered
     ensures value { result ≡ gathered 0 held input.now }
     ensures line_after { line.new ≡ line_after held line.old input.now }
 {
     let mut size = held;
-    let mut used = 0;
-    while used < input.len() {
-        let octet = input[used];
-        used += 1;
-        if octet == 10 {
+    for (i, &octet) in input.iter().enumerate() {
+        if octet == b'\n' {
             return Gathered {
-                used,
+                used: i + 1,
                 held: size,
                 ended: true,
             };
         }
-        keep(line, size as usize, octet);
+        keep(line, usize::from(size), octet);
         size = count_one(size);
     }
     Gathered {
-        used,
+        used: input.len(),
         held: size,
         ended: false,
     }
@@ -67,17 +63,18 @@ pub fn join_piece(whole: &mut [u8], line: &[u8], held: u16, input: &[u8]) -> Gat
     ensures value { result ≡ gathered 0 held input.now }
     ensures whole_after { whole.new ≡ line_after held (take 4118 line.now) input.now }
 {
-    octets::put(whole, 0, &line[..4118]);
+    whole.copy_from_slice(&line[..4118]);
     gather(whole, held, input)
 }
 
 // The line that is held; where the buffer was too short for it, an empty one, which is bad.
+#[tactic(auto, unfolding(crate::specs::Gathering::line_held))]
 pub fn held_line(line: &[u8], held: u16) -> &[u8]
     ensures { result.now ≡ line_held held line.now }
 {
-    let end = held as usize;
+    let end = usize::from(held);
     if line.len() < end {
-        return &line[..0];
+        return &[];
     }
     &line[..end]
 }

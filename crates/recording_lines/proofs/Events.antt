@@ -13,8 +13,7 @@ use Rattle.checks.specs.Lists.{every}
 use Rattle.checks.proofs.Laws.{and_left, and_right, and_both, cond_elim}
 use Rattle.text.specs.Text.{text, decimal, dotted}
 use Rattle.text.proofs.Laws.{decimal_most, dotted_length}
-use Rattle.text_values.specs.declared.Number.{Number}
-use Rattle.text_values.specs.declared.Number.TheVariants.{Bad, Is}
+use Rattle.std.specs.Prelude.{Option, Some, None}
 use Rattle.text_values.specs.Places.{index_of, starts_with}
 use Rattle.text_values.specs.Numbers.{when_number, decimal_of, dotted_of}
 use Rattle.text_values.specs.Hex.{hex_text, is_hex, hex_octets}
@@ -112,10 +111,10 @@ module _ (line : List ℕ) where
   unfolding is_good
   told_bad = record { same = λ h. absurd (false≢true h); within = λ h. absurd (false≢true h) }
 
-  told_number : (x : Number) (event : ℕ → Event) → ((n : ℕ) → x ≡ Is n → Told line (event n)) → Told line (when_number x bad event)
+  told_number : (x : Option ℕ) (event : ℕ → Event) → ((n : ℕ) → x ≡ Some n → Told line (event n)) → Told line (when_number x bad event)
   unfolding when_number
-  told_number Bad event f = told_bad
-  told_number (Is n) event f = f n refl
+  told_number None event f = told_bad
+  told_number (Some n) event f = f n refl
 
   told_alone : (key : List ℕ) (event : ℕ → Event) → ((a : ℕ) → event_text (event a) ≡ key ++ dotted a) → ((a : ℕ) → in_range (event a) ≡ is_address a)
       → (value : List ℕ) → line ≡ key ++ value → Told line (alone event value)
@@ -221,36 +220,36 @@ events =
 
 -- ---- the first four lines
 
-module _ (key : List ℕ) (read : List ℕ → Number) (value : ℕ → List ℕ) (most : ℕ) (short : length key ≤ 6)
-    (back : (n : ℕ) → n ≤ most → read (value n) ≡ Is n) (only : (n : ℕ) (t : List ℕ) → read t ≡ Is n → (t ≡ value n) × (n ≤ most))
+module _ (key : List ℕ) (read : List ℕ → Option ℕ) (value : ℕ → List ℕ) (most : ℕ) (short : length key ≤ 6)
+    (back : (n : ℕ) → n ≤ most → read (value n) ≡ Some n) (only : (n : ℕ) (t : List ℕ) → read t ≡ Some n → (t ≡ value n) × (n ≤ most))
     (small : (n : ℕ) → n ≤ most → length (value n) ≤ 15) where
-  setting_only : (n : ℕ) (line : List ℕ) → behind key read Bad line ≡ Is n → (line ≡ key ++ value n) × (n ≤ most)
+  setting_only : (n : ℕ) (line : List ℕ) → behind key read None line ≡ Some n → (line ≡ key ++ value n) × (n ≤ most)
   setting_only n line =
-      behind_elim key read Bad (λ x. x ≡ Is n → (line ≡ key ++ value n) × (n ≤ most)) line
+      behind_elim key read None (λ x. x ≡ Some n → (line ≡ key ++ value n) × (n ≤ most)) line
       (λ v q e. let r = only n v e in (q ∙ ap (λ (l : List ℕ). key ++ l) r.0, r.1)) (λ e. never n e)
 
-  setting_most : (n : ℕ) (line : List ℕ) → behind key read Bad line ≡ Is n → length line ≤ 4117
+  setting_most : (n : ℕ) (line : List ℕ) → behind key read None line ≡ Some n → length line ≤ 4117
   setting_most n line e =
       let r = setting_only n line e in
       let same = simp length-append at (ap length r.0) in
       let p = small n r.1 in
       omega arith
 
-  setting : Setting (behind key read Bad) key value most
+  setting : Setting (behind key read None) key value most
   setting =
       record {
-        back = λ n h. behind_key key read Bad (value n) ∙ back n h;
+        back = λ n h. behind_key key read None (value n) ∙ back n h;
         only = λ n line e. (setting_only n line e).0;
         range = λ n line e. (setting_only n line e).1;
         longest = setting_most;
       }
 
-decimal_setting : (key : List ℕ) (most : ℕ) → length key ≤ 6 → most < 100000 → Setting (behind key (decimal_of most) Bad) key decimal most
+decimal_setting : (key : List ℕ) (most : ℕ) → length key ≤ 6 → most < 100000 → Setting (behind key (decimal_of most) None) key decimal most
 decimal_setting key most h k =
     setting key (decimal_of most) decimal most h (decimals.back most) (decimals.only most)
     (λ n h. let p = decimal_most 4 n (omega arith) in omega arith)
 
-address_setting : (key : List ℕ) → length key ≤ 6 → Setting (behind key dotted_of Bad) key dotted 4294967295
+address_setting : (key : List ℕ) → length key ≤ 6 → Setting (behind key dotted_of None) key dotted 4294967295
 address_setting key h =
     setting key dotted_of dotted 4294967295 h (λ n h. addresses.back n (omega arith))
     (λ n t e. let r = addresses.only n t e in (r.0, omega arith)) (λ n h. dotted_length n)

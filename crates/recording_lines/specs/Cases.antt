@@ -1,8 +1,7 @@
 -- Worked lines, those of docs/RECORDING.md among them. The proofs are in proofs/Cases.antt.
-use Rattle.std.specs.Prelude.{ℕ, ◌≡◌, true, not, List, [], ◌∷◌, ◌++◌, map, replicate}
+use Rattle.std.specs.Prelude.{ℕ, ◌≡◌, true, not, List, [], ◌∷◌, ◌++◌, map, replicate, Some, None}
 use Rattle.checks.specs.Lists.{every}
 use Rattle.text.specs.Text.{text}
-use Rattle.text_values.specs.declared.Number.TheVariants.{Bad, Is}
 use Rattle.recording_lines.specs.Lines.{Event, add, remove, start, stop, tick, rx, event_of, own_as_of, own_of, capability_of, net_of, quiet_of}
 use Rattle.recording_lines.specs.Claims.{is_good}
 
@@ -75,12 +74,12 @@ pub record LineCases : Type 0 where
   pub longest : is_good (event_of (text "rx=128.9.0.5/" ++ replicate 4098 65)) ≡ true
   pub too_long : is_good (event_of (text "rx=128.9.0.5/" ++ replicate 4100 65)) ≡ not true
   -- the first four lines
-  pub own_as : map own_as_of (text "ownas=9" ∷ text "ownas=65535" ∷ text "ownas=0" ∷ text "ownas=65536" ∷ text "ownas=09" ∷ text "own=9" ∷ []) ≡ Is 9 ∷ Is 65535 ∷ Is 0 ∷ Bad ∷ Bad ∷ Bad ∷ []
-  pub own : map own_of (text "own=128.9.0.5" ∷ text "own=128.9.0" ∷ text "net=128.9.0.5" ∷ []) ≡ Is 2148073477 ∷ Bad ∷ Bad ∷ []
-  pub capability : map capability_of (text "cap=3" ∷ text "cap=255" ∷ text "cap=256" ∷ text "cap=" ∷ []) ≡ Is 3 ∷ Is 255 ∷ Bad ∷ Bad ∷ []
-  pub net : map net_of (text "net=128.9.0.0" ∷ text "net=128.9.0.00" ∷ []) ≡ Is 2148073472 ∷ Bad ∷ []
+  pub own_as : map own_as_of (text "ownas=9" ∷ text "ownas=65535" ∷ text "ownas=0" ∷ text "ownas=65536" ∷ text "ownas=09" ∷ text "own=9" ∷ []) ≡ Some 9 ∷ Some 65535 ∷ Some 0 ∷ None ∷ None ∷ None ∷ []
+  pub own : map own_of (text "own=128.9.0.5" ∷ text "own=128.9.0" ∷ text "net=128.9.0.5" ∷ []) ≡ Some 2148073477 ∷ None ∷ None ∷ []
+  pub capability : map capability_of (text "cap=3" ∷ text "cap=255" ∷ text "cap=256" ∷ text "cap=" ∷ []) ≡ Some 3 ∷ Some 255 ∷ None ∷ None ∷ []
+  pub net : map net_of (text "net=128.9.0.0" ∷ text "net=128.9.0.00" ∷ []) ≡ Some 2148073472 ∷ None ∷ []
   -- the fifth
   pub quiet :
       map quiet_of
       (text "quiet=0" ∷ text "quiet=1" ∷ text "quiet=2" ∷ text "quiet=01" ∷ text "quiet=00" ∷ text "quiet=" ∷ text "quiet" ∷ text "quiet=1 " ∷ text " quiet=1" ∷ text "Quiet=1" ∷ text "quiet=10" ∷ text "quiet=-1" ∷ [])
-      ≡ Is 0 ∷ Is 1 ∷ Bad ∷ Bad ∷ Bad ∷ Bad ∷ Bad ∷ Bad ∷ Bad ∷ Bad ∷ Bad ∷ Bad ∷ []
+      ≡ Some 0 ∷ Some 1 ∷ None ∷ None ∷ None ∷ None ∷ None ∷ None ∷ None ∷ None ∷ None ∷ None ∷ []

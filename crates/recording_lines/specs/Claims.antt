@@ -1,9 +1,7 @@
 -- One text for each event, and one event for each good line. The proofs are in proofs/.
-use Rattle.std.specs.Prelude.{ℕ, ◌≤◌, ◌≡◌, Bool, true, false, ◌&&◌, List, [], ◌++◌, leb, ltb, length}
+use Rattle.std.specs.Prelude.{ℕ, ◌≤◌, ◌≡◌, Bool, true, false, ◌&&◌, List, [], ◌++◌, leb, ltb, length, Option, Some}
 use Rattle.checks.specs.Lists.{every}
 use Rattle.text.specs.Text.{text, decimal, dotted}
-use Rattle.text_values.specs.declared.Number.{Number}
-use Rattle.text_values.specs.declared.Number.TheVariants.{Is}
 use Rattle.text_values.specs.Hex.{hex_text}
 use Rattle.recording_lines.specs.Lines.{Event, bad, add, remove, start, stop, tick, rx, event_of, own_as_of, own_of, capability_of, net_of, quiet_of}
 
@@ -48,11 +46,11 @@ pub record Events : Type 0 where
   pub longest : (line : List ℕ) → is_good (event_of line) ≡ true → length line ≤ 4117
 
 -- the same of the lines before the events
-pub record Setting (read : List ℕ → Number) (key : List ℕ) (value : ℕ → List ℕ) (most : ℕ) : Type 0 where
-  pub back : (n : ℕ) → n ≤ most → read (key ++ value n) ≡ Is n
-  pub only : (n : ℕ) (line : List ℕ) → read line ≡ Is n → line ≡ key ++ value n
-  pub range : (n : ℕ) (line : List ℕ) → read line ≡ Is n → n ≤ most
-  pub longest : (n : ℕ) (line : List ℕ) → read line ≡ Is n → length line ≤ 4117
+pub record Setting (read : List ℕ → Option ℕ) (key : List ℕ) (value : ℕ → List ℕ) (most : ℕ) : Type 0 where
+  pub back : (n : ℕ) → n ≤ most → read (key ++ value n) ≡ Some n
+  pub only : (n : ℕ) (line : List ℕ) → read line ≡ Some n → line ≡ key ++ value n
+  pub range : (n : ℕ) (line : List ℕ) → read line ≡ Some n → n ≤ most
+  pub longest : (n : ℕ) (line : List ℕ) → read line ≡ Some n → length line ≤ 4117
 
 pub record SettingLines : Type 0 where
   pub own_as : Setting own_as_of (text "ownas=") decimal 65535
@@ -63,4 +61,4 @@ pub record SettingLines : Type 0 where
 
 -- such a line says no event: in any other place it is a bad one
 abbrev pub QuietNoEvent : Type 0
-QuietNoEvent = (n : ℕ) (line : List ℕ) → quiet_of line ≡ Is n → event_of line ≡ bad
+QuietNoEvent = (n : ℕ) (line : List ℕ) → quiet_of line ≡ Some n → event_of line ≡ bad

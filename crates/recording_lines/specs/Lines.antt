@@ -1,9 +1,7 @@
 -- The lines of a recording. 02: "key=value lines in a fixed order: ownas, own, cap, net, then events"; `quiet` may stand
 -- before these.
-use Rattle.std.specs.Prelude.{ℕ, suc, cond, ◌&&◌, List, leb, ltb, eqb, length, take, drop}
+use Rattle.std.specs.Prelude.{ℕ, suc, cond, ◌&&◌, List, leb, ltb, eqb, length, take, drop, Option, None}
 use Rattle.text.specs.Text.{text}
-use Rattle.text_values.specs.declared.Number.{Number}
-use Rattle.text_values.specs.declared.Number.TheVariants.{Bad}
 use Rattle.text_values.specs.Places.{index_of, starts_with}
 use Rattle.text_values.specs.Numbers.{when_number, decimal_of, dotted_of}
 use Rattle.text_values.specs.Hex.{is_hex, hex_octets}
@@ -15,24 +13,24 @@ behind key read other line = cond (starts_with key line) (read (drop (length key
 -- ---- the first four lines
 
 -- "AS to 65,535"
-unfoldable pub own_as_of : List ℕ → Number
-own_as_of line = behind (text "ownas=") (decimal_of 65535) Bad line
+unfoldable pub own_as_of : List ℕ → Option ℕ
+own_as_of line = behind (text "ownas=") (decimal_of 65535) None line
 
-unfoldable pub own_of : List ℕ → Number
-own_of line = behind (text "own=") dotted_of Bad line
+unfoldable pub own_of : List ℕ → Option ℕ
+own_of line = behind (text "own=") dotted_of None line
 
 -- "`cap` to 255"
-unfoldable pub capability_of : List ℕ → Number
-capability_of line = behind (text "cap=") (decimal_of 255) Bad line
+unfoldable pub capability_of : List ℕ → Option ℕ
+capability_of line = behind (text "cap=") (decimal_of 255) None line
 
-unfoldable pub net_of : List ℕ → Number
-net_of line = behind (text "net=") dotted_of Bad line
+unfoldable pub net_of : List ℕ → Option ℕ
+net_of line = behind (text "net=") dotted_of None line
 
 -- ---- the fifth, if it is one
 
 -- "`quiet=1`, a line right after `net` ..; `quiet=0` may stand there too, any other `quiet` line is a bad event line"
-unfoldable pub quiet_of : List ℕ → Number
-quiet_of line = behind (text "quiet=") (decimal_of 1) Bad line
+unfoldable pub quiet_of : List ℕ → Option ℕ
+quiet_of line = behind (text "quiet=") (decimal_of 1) None line
 
 -- ---- the events
 

@@ -1,15 +1,25 @@
--- What the reader's answer means beside the line that it read: a message's octets stay on the line.
-use Rattle.std.specs.Prelude.{ℕ, List, drop}
+-- What the reader's answer means: a message's octets are lent as hex.
+use Rattle.std.specs.Prelude.{ℕ, List, Option, Some, None}
+use denote.Ref.{Bor}
 use Rattle.text_values.specs.Hex.{hex_octets}
-use Rattle.recording_lines.specs.declared.Read.{Read}
-use Rattle.recording_lines.specs.declared.Read.TheVariants as R
+use Rattle.recording_lines.specs.declared.LineEvent.{LineEvent}
+use Rattle.recording_lines.specs.declared.LineEvent.TheVariants as R
 use Rattle.recording_lines.specs.Lines.{Event, bad, add, remove, start, stop, tick, rx}
 
-unfoldable pub meant : Read → List ℕ → Event
-meant R.Bad line = bad
-meant (R.Add a asn) line = add a asn
-meant (R.Remove a) line = remove a
-meant (R.Start a) line = start a
-meant (R.Stop a) line = stop a
-meant (R.Tick a count) line = tick a count
-meant (R.Receive a at) line = rx a (hex_octets (drop at line))
+abbrev pub said : LineEvent → Event
+said (R.Add a asn) = add a asn
+said (R.Remove a) = remove a
+said (R.Start a) = start a
+said (R.Stop a) = stop a
+said (R.Tick a count) = tick a count
+said (R.Receive a digits) = rx a (hex_octets digits.now)
+
+-- none where the line is bad
+abbrev pub meant : Option LineEvent → Event
+meant None = bad
+meant (Some event) = said event
+
+-- what is made of an address and what stands behind its slash
+abbrev pub cut_into : Option (ℕ × Bor (List ℕ)) → (ℕ → List ℕ → Event) → Event
+cut_into None event = bad
+cut_into (Some parts) event = event parts.0 parts.1.now

@@ -3,25 +3,24 @@ use Prim.Native.Nat.{ℕ, ◌≤◌}
 use native.Mathlib.Omega.{arith}
 use mathlib.Core.Path.{◌≡◌}
 use mathlib.Core.List.{List}
-use lib.Dec.{eqb, leb}
+use lib.Dec.{leb}
 use lib.ListN.{length}
 use borrow.Author.Tests.{leb-true}
+use Rattle.std.specs.Prelude.{Result, Ok, Err}
+use Rattle.checks.specs.declared.Refusal.{Refusal}
 use Rattle.checks.proofs.Laws.{cond_elim}
 use Rattle.message.specs.declared.Message.{Message}
 use Rattle.message.specs.declared.Message.TheVariants.{Request, Confirm, Refuse, Cease, CeaseAck, Hello, IHeardYou, Poll, Update, Error}
-use Rattle.message_reading.specs.Reading.{header_answer, decode_of}
-use Rattle.message_reading.specs.declared.Decoded.{Decoded}
-use Rattle.message_reading.specs.declared.Decoded.TheVariants as D
 use Rattle.update_walk.specs.Body.{Walk, whole, broken, walked_blocks, read_within, accepted, too_many, update_of}
-use Rattle.codec.specs.Reading.{refusal, rowless, update_reading, meaning_reading, kind_reading, read_of}
+use Rattle.codec.specs.Reading.{refusal, rowless, update_reading, meaning_reading, meaning_read, reading_after, read_of}
 use Rattle.codec.specs.declared.Reading.{Reading}
 
 abbrev Few : Reading → Type 0
 Few r = r.count ≤ 128
 
-refused_few : (k : ℕ) → Few (refusal k)
+refused_few : (refused : Refusal) → Few (refusal refused)
 unfolding refusal
-refused_few k = omega arith
+refused_few refused = omega arith
 
 rowless_few : (m : Message) → Few (rowless m)
 unfolding rowless
@@ -46,16 +45,11 @@ meaning_few net o (Poll a q s n) = rowless_few (Poll a q s n)
 meaning_few net o (Update a q s n) = update_few (Update a q s n) (walked_blocks net o)
 meaning_few net o (Error a q s r x y z) = rowless_few (Error a q s r x y z)
 
-kind_few : (net : ℕ) (o : List ℕ) (d : Decoded) → Few (kind_reading net o d)
-unfolding kind_reading refusal
-kind_few net o (D.Good m) = meaning_few net o m
-kind_few net o D.UnknownKind = omega arith
-kind_few net o D.BadStatus = omega arith
-kind_few net o D.BadLength = omega arith
+after_few : (net : ℕ) (o : List ℕ) (d : Result Message Refusal) → Few (reading_after net o d)
+unfolding reading_after
+after_few net o (Ok m) = meaning_few net o m
+after_few net o (Err refused) = refused_few refused
 
 pub count_few : (net : ℕ) (o : List ℕ) {r : Reading} → r ≡ read_of net o → r.count ≤ 128
 unfolding read_of
-count_few net o e =
-    rw e
-    (cond_elim Few (eqb (header_answer o) 0) (kind_reading net o (decode_of o)) (refusal (header_answer o))
-    (λ z. kind_few net o (decode_of o)) (λ z. refused_few (header_answer o)))
+count_few net o e = rw e (after_few net o (meaning_read o))

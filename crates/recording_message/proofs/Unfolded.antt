@@ -1,7 +1,6 @@
 -- from specs/Cases.antt MessageCases
 -- Made by ./unfoldings from the line above: all definitions that it rests on. To unfold `opened` is to unfold them all.
 use Prim.Native.Nat.{ℕ}
-use Rattle.checks.specs.Checks as Checks
 use Rattle.checks.specs.Lists as Lists
 use Rattle.octets_checksum.specs.Checksum as Checksum
 use Rattle.nets.specs.Classes as Classes
@@ -19,5 +18,5 @@ use Rattle.recording_message.specs.Message as Message
 use Rattle.recording_message.specs.Cases as Cases
 
 unfoldable pub opened : ℕ
-unfolding Checks.check Lists.first Lists.join Checksum.ones_add Checksum.ones_sum Checksum.checksum_of Classes.net_width Classes.host_span Classes.good_net Rows.flat Rows.rows_of Text.text Text.digit Text.digits Text.decimal Text.dotted Hex.hex_digit Hex.hex_text Places.index_of Kinds.kind_at Kinds.plain_status Kinds.refusal_status Kinds.marked_status MessageReadingReading.header_answer MessageReadingReading.meaning_of MessageReadingReading.decode_as MessageReadingReading.decode_of MessageReadingReading.decoded_number Body.extended Body.many Body.left_justified Body.row_of_width Body.net_row Body.group_at Body.host_width Body.gateway_of Body.block_at Body.sides_at Body.groups_hold Body.blocks_hold Body.sides_hold Body.read_as Body.both_sides Body.nothing_left Body.body_of Body.further Body.net_at Body.walked_blocks Body.read_within Body.update_of Body.update_number Storing.zeros Storing.padded CodecReading.read_number CodecReading.refusal CodecReading.rowless CodecReading.update_reading CodecReading.meaning_reading CodecReading.kind_reading CodecReading.read_of Lines.distance_in Lines.side_word Message.key_size Message.fields Message.address_field Message.kind_word Message.meaning_word Message.head_numbers Message.interval_fields Message.error_fields Message.own_fields Message.body_fields Message.side_field Message.row_fields Message.rows_fields Message.reading_text Message.message_text Cases.hello Cases.spoilt Cases.update
+unfolding Lists.first Lists.join Checksum.ones_add Checksum.ones_sum Checksum.checksum_of Classes.net_width Classes.host_span Classes.good_net Rows.flat Rows.rows_of Text.text Text.digit Text.digits Text.decimal Text.dotted Hex.hex_digit Hex.hex_text Places.index_of Kinds.kind_at Kinds.plain_status Kinds.refusal_status Kinds.marked_status MessageReadingReading.header_of MessageReadingReading.meaning_of MessageReadingReading.decode_as MessageReadingReading.decode_of Body.extended Body.many Body.left_justified Body.row_of_width Body.net_row Body.group_at Body.host_width Body.gateway_of Body.block_at Body.sides_at Body.groups_hold Body.blocks_hold Body.sides_hold Body.read_as Body.both_sides Body.nothing_left Body.body_of Body.further Body.net_at Body.walked_blocks Body.read_within Body.update_of Storing.zeros Storing.padded CodecReading.refusal CodecReading.rowless CodecReading.update_reading CodecReading.meaning_reading CodecReading.meaning_read CodecReading.reading_after CodecReading.read_of Lines.distance_in Lines.side_word Message.key_size Message.fields Message.address_field Message.kind_word Message.meaning_word Message.head_numbers Message.interval_fields Message.error_fields Message.own_fields Message.body_fields Message.side_field Message.row_fields Message.rows_fields Message.reading_text Message.message_text Cases.hello Cases.spoilt Cases.update
 opened = 0

@@ -1,7 +1,9 @@
 -- What the trace says of a message: fields, and what reading alone makes of its octets. docs/RECORDING.md has the
 -- format.
-use Rattle.std.specs.Prelude.{ℕ, suc, ◌*◌, cond, List, [], ◌∷◌, ◌++◌, map, ltb, length, get_or, take, drop}
+use Rattle.std.specs.Prelude.{ℕ, suc, ◌*◌, cond, List, [], ◌∷◌, ◌++◌, map, ltb, length, get_or, take, drop, Result, Ok, Err}
 use Rattle.checks.specs.Lists.{join}
+use Rattle.checks.specs.Refusals.{answer_of}
+use Rattle.checks.specs.declared.Refusal.{Refusal}
 use Rattle.octets.specs.Numbers.{word16}
 use Rattle.octets_checksum.specs.Checksum.{checksum_of}
 use Rattle.nets.specs.Rows.{Row, rows_of}
@@ -14,10 +16,8 @@ use Rattle.message.specs.declared.Message.{Message}
 use Rattle.message.specs.declared.Message.TheVariants.{Request, Confirm, Refuse, Cease, CeaseAck, Hello, IHeardYou, Poll, Update, Error}
 use Rattle.message.specs.Kinds.{kind_of}
 use Rattle.listing_lines.specs.Lines.{distance_in, side_word}
-use Rattle.codec.specs.declared.Meaning.{Meaning}
-use Rattle.codec.specs.declared.Meaning.TheVariants.{Good, Refused}
 use Rattle.codec.specs.declared.Reading.{Reading}
-use Rattle.codec.specs.Reading.{read_number, read_of}
+use Rattle.codec.specs.Reading.{read_of}
 
 -- ---- fields
 
@@ -48,9 +48,9 @@ kind_word K.Update = text "update"
 kind_word K.Error = text "error"
 
 -- what reading alone makes of it
-unfoldable pub meaning_word : Meaning → List ℕ
-meaning_word (Good m) = kind_word (kind_of m)
-meaning_word (Refused number) = text "refused"
+unfoldable pub meaning_word : Result Message Refusal → List ℕ
+meaning_word (Ok m) = kind_word (kind_of m)
+meaning_word (Err refused) = text "refused"
 
 abbrev pub head_keys : List ℕ
 head_keys = text " reading= octets= status= checksum= right= as= sequence= rows="
@@ -80,9 +80,9 @@ own_fields (Poll a q s net) = address_field (text " net=") net
 own_fields (Update a q s net) = address_field (text " net=") net
 own_fields (Error a q s reason first second third) = error_fields reason first second third
 
-unfoldable pub body_fields : Meaning → List ℕ
-body_fields (Good m) = own_fields m
-body_fields (Refused number) = []
+unfoldable pub body_fields : Result Message Refusal → List ℕ
+body_fields (Ok m) = own_fields m
+body_fields (Err refused) = []
 
 -- the listing's word
 unfoldable pub side_field : ℕ → List ℕ
@@ -100,7 +100,7 @@ unfoldable pub reading_text : List ℕ → Reading → List ℕ → List ℕ
 reading_text key r o =
     key
     ++ (meaning_word r.meaning
-    ++ (fields head_keys (head_numbers (read_number r.meaning) r.count o)
+    ++ (fields head_keys (head_numbers (answer_of r.meaning) r.count o)
     ++ (body_fields r.meaning ++ (rows_fields (rows_of (take (r.count * 3) r.rows)) ++ (text " hex=" ++ hex_text o)))))
 
 -- its reading, given the common net, and its octets beside it

@@ -1,9 +1,10 @@
 -- What the player's functions ask at their returns, over plain variables. Assumes nothing.
-use Prim.Native.Nat.{ℕ, ◌≤◌, ◌<◌, ◌-◌}
+use Prim.Native.Nat.{ℕ, zero, suc, ◌≤◌, ◌<◌, ◌-◌}
+use denote.Ref.{Bor}
 use native.Mathlib.Omega.{arith}
 use mathlib.Core.Path.{◌≡◌, refl, sym, ap, ◌∙◌}
 use mathlib.Core.Bool.{Bool, true, false, cond, not, ◌&&◌, ◌||◌, false≢true}
-use mathlib.Core.List.{List, []}
+use mathlib.Core.List.{List}
 use lib.Dec.{leb, ltb, eqb}
 use lib.ListN.{length, take, drop}
 use lib.Seq.{take-append_seam}
@@ -30,24 +31,28 @@ use Rattle.recording_trace.specs.declared.Telling.{Telling}
 use Rattle.recording_trace.specs.Steps.{happened_in}
 use Rattle.recording_call.specs.Told.{lent, called_for, happened_by, call_text, called_of, on}
 use Rattle.text.specs.Text.{text}
-use Rattle.text_values.specs.declared.Number.{Number}
-use Rattle.text_values.specs.declared.Number.TheVariants.{Bad, Is}
+use Rattle.std.specs.Prelude.{Option, Some, None, Result, Err, is_some}
+use Rattle.checks.specs.declared.Refusal.{Refusal}
+use Rattle.checks.specs.declared.Refusal.TheVariants as N
+use Rattle.checks.specs.Refusals.{number_of, answer_of}
 use Rattle.text_values.specs.Numbers.{when_number, decimal_of}
 use Rattle.text_values.specs.Places.{starts_with}
-use Rattle.text_values.specs.Hex.{is_hex, hex_octets}
+use Rattle.text_values.specs.Hex.{is_hex}
 use Rattle.text_values.proofs.Readings.{decimal_bound}
-use Rattle.recording_lines.specs.declared.Read.{Read}
-use Rattle.recording_lines.specs.declared.Read.TheVariants as R
-use Rattle.recording_lines.specs.Lines.{add, remove, start, stop, tick, behind, own_as_of, own_of, capability_of, net_of, quiet_of, event_of}
-use Rattle.recording_lines.specs.Meant.{meant}
-use Rattle.recording_lines.specs.Steps.{stands_on}
+use Rattle.recording_lines.specs.declared.LineEvent.{LineEvent}
+use Rattle.recording_lines.specs.declared.LineEvent.TheVariants as R
+use Rattle.recording_lines.specs.Lines.{bad, behind, own_as_of, own_of, capability_of, net_of, quiet_of, event_of}
+use Rattle.recording_lines.specs.Meant.{said}
+use Rattle.recording_lines.specs.Steps.{has_hex}
 use Rattle.gateway_rules.specs.Calls.{lent_checks}
 use Rattle.recording_player.specs.declared.Player.{Player}
 use Rattle.recording_player.specs.declared.Told.{Told}
 use Rattle.recording_player.specs.Player.{Step, next_line, holding, breaking, due, settled, having, telling_of, roomy, line_fits, call_checks, formed_check, report_check, given, reported, with_used, bad_step, broken_step, silent_step, with_as, with_own, with_capability, with_net, setting_step, fresh_step, net_step, quiet_line_step, head_step, is_setting, call_step, only_step, event_step, event_checked, line_step, line_checked, tick_step, ended_line, free_step, turn_checked, turn_step, only_holds, held_of, told_of, close_step, listed_in, finish_step}
-use Rattle.recording_player.specs.declared.Heard.{Heard}
-use Rattle.recording_player.specs.declared.Heard.TheVariants as H
-use Rattle.recording_player.specs.Steps.{heard_of, carried_turn, using_of}
+use Rattle.recording_player.specs.Steps.{put_in, settings_of, carried_turn}
+
+-- the same turn, with so many octets used
+abbrev pub using_of : Told → ℕ → Told
+using_of t used = record { player = t.player; answer = t.answer; used = used; written = t.written }
 
 -- what is promised of a step: the turn that is answered, and the output buffer after it
 abbrev pub Taken : Step → Told → List ℕ → List ℕ → Type 0
@@ -76,24 +81,35 @@ for_each h = (λ table. (h table).0, λ table. (h table).1)
 
 -- ---- what the host must lend
 
-module _ (room : Bool) (st : State) (numbers : ℕ) where
-  pub lent_1 : state_formed st ≡ false → 1 ≡ call_checks room st numbers
-  unfolding lent_checks check
-  lent_1 e = rw e
+-- a refusal has a number
+pub refused_number : (refusal : Refusal) → number_of refusal ≡ 0 → ⊥
+refused_number N.IllFormedState e = absurd (omega (arith, e))
+refused_number N.WrongTable e = absurd (omega (arith, e))
+refused_number N.ShortBuffer e = absurd (omega (arith, e))
+refused_number N.BadHomeList e = absurd (omega (arith, e))
+refused_number N.UnknownNeighbour e = absurd (omega (arith, e))
+refused_number N.BadSize e = absurd (omega (arith, e))
+refused_number N.OtherVersion e = absurd (omega (arith, e))
+refused_number N.WrongChecksum e = absurd (omega (arith, e))
+refused_number N.OtherAs e = absurd (omega (arith, e))
+refused_number N.UnknownKind e = absurd (omega (arith, e))
+refused_number N.BadStatus e = absurd (omega (arith, e))
+refused_number N.BadLength e = absurd (omega (arith, e))
+refused_number N.OutOfSequence e = absurd (omega (arith, e))
+refused_number N.BrokenBlocks e = absurd (omega (arith, e))
+refused_number N.TooManyRows e = absurd (omega (arith, e))
+refused_number N.BadArgument e = absurd (omega (arith, e))
+refused_number N.NoFreeSlot e = absurd (omega (arith, e))
+refused_number N.NotIdle e = absurd (omega (arith, e))
+refused_number N.BadLine e = absurd (omega (arith, e))
+refused_number N.WrongBlock e = absurd (omega (arith, e))
+refused_number N.TooQuick e = absurd (omega (arith, e))
+refused_number N.ClockFull e = absurd (omega (arith, e))
 
-  module _ (f : state_formed st ≡ true) where
-    pub lent_2 : (numbers ≡ 3072 → ⊥) → 2 ≡ call_checks room st numbers
-    unfolding lent_checks check
-    lent_2 n = rw (f, ne_eqb numbers 3072 n)
-
-    module _ (e : numbers ≡ 3072) where
-      pub lent_3 : room ≡ false → 3 ≡ call_checks room st numbers
-      unfolding lent_checks check
-      lent_3 h = rw (f, eq-eqb numbers 3072 e, h)
-
-      pub lent_0 : room ≡ true → 0 ≡ call_checks room st numbers
-      unfolding lent_checks check
-      lent_0 h = rw (f, eq-eqb numbers 3072 e, h)
+-- what a check that refused says
+pub refused_as : {r : Result (Unit {0}) Refusal} {refusal : Refusal} {number checks : ℕ} → answer_of r ≡ checks → r ≡ Err refusal → number ≡ number_of refusal
+    → (number ≡ checks) × (number ≡ 0 → ⊥)
+refused_as {refusal = refusal} e f g = (g ∙ ap answer_of (sym f) ∙ e, λ z. refused_number refusal (sym g ∙ z))
 
 -- where all is lent there is room
 pub lent_room : (out : List ℕ) (st : State) (numbers : ℕ) → call_checks (roomy out) st numbers ≡ 0 → 65536 ≤ length out
@@ -105,14 +121,6 @@ lent_room out st numbers e = go (state_formed st) (eqb numbers 3072) (leb 65536 
     go true true false k h = absurd (omega (arith, h))
     go true false b k h = absurd (omega (arith, h))
     go false n b k h = absurd (omega (arith, h))
-
-pub report_room : (out : List ℕ) → report_check (roomy out) 19 ≡ 0 → 65536 ≤ length out
-unfolding roomy report_check check
-report_room out e = go (leb 65536 (length out)) refl e
-  where
-    go : (b : Bool) → leb 65536 (length out) ≡ b → ◌≡◌ {A = ℕ} (cond b 0 19) 0 → 65536 ≤ length out
-    go true k h = leb-true 65536 (length out) k
-    go false k h = absurd (omega (arith, h))
 
 module _ (p : Player) (table : List ℕ) (refusal : ℕ) (s : Step) where
   pub given_whole : refusal ≡ 0 → given p table refusal s ≡ s
@@ -146,16 +154,16 @@ reported_silent false p q table used = given_whole p table 0 _ refl
 
 pub silent_using : (s : Step) (p : Player) (table : List ℕ) (used : ℕ) (q r : Told) (out : List ℕ)
     → s ≡ with_used used (silent_step p table 0) → q ≡ told_of (silent_step p table 0) → r ≡ using_of q used → Taken s r out out
-unfolding silent_step with_used using_of told_of over
+unfolding silent_step with_used told_of over
 silent_using s p table used q r out e h u = rw e (u ∙ ap (λ (t : Told). using_of t used) h, refl)
 
 -- ---- bad lines
 
 -- the line behind those taken is reported by its number
 module _ (p next : Player) (e : next ≡ next_line p) (table : List ℕ) (written : ℕ) (f : written ≡ length (bad_text next.lines)) where
-  pub bad_told : record { player = next; answer = 19; used = 0; written = written } ≡ told_of (with_used 0 (bad_step p table))
+  pub bad_told : (used : ℕ) → record { player = next; answer = 19; used = used; written = written } ≡ told_of (with_used used (bad_step p table))
   unfolding told_of with_used bad_step
-  bad_told = λ i. record { player = e i; answer = 19; used = 0; written = (f ∙ ap (λ (q : Player). length (bad_text q.lines)) e) i }
+  bad_told used = λ i. record { player = e i; answer = 19; used = used; written = (f ∙ ap (λ (q : Player). length (bad_text q.lines)) e) i }
 
   pub broken_told : (answer used : ℕ) (q : Player) → q ≡ breaking next
       → record { player = q; answer = answer; used = used; written = written } ≡ told_of (with_used used (broken_step p table answer))
@@ -168,24 +176,24 @@ line_told p next e out new f = f ∙ ap (λ (q : Player). over (bad_text q.lines
 
 -- ---- the first four lines
 
-behind_bound : (limit n : ℕ) (key line : List ℕ) → behind key (decimal_of limit) Bad line ≡ Is n → n ≤ limit
+behind_bound : (limit n : ℕ) (key line : List ℕ) → behind key (decimal_of limit) None line ≡ Some n → n ≤ limit
 unfolding behind
 behind_bound limit n key line e = go (starts_with key line) e
   where
-    go : (starts : Bool) → cond starts (decimal_of limit (drop (length key) line)) Bad ≡ Is n → n ≤ limit
+    go : (starts : Bool) → cond starts (decimal_of limit (drop (length key) line)) None ≡ Some n → n ≤ limit
     go true e = decimal_bound limit n (drop (length key) line) e
-    go false e = let z : ◌≡◌ {A = ℕ} 0 1 = cc in absurd (omega arith)
+    go false e = cc
 
 -- "AS to 65,535" and "`cap` to 255" fit the settings
-pub own_as_bound : (line : List ℕ) (n : ℕ) → own_as_of line ≡ Is n → n ≤ 65535
+pub own_as_bound : (line : List ℕ) (n : ℕ) → own_as_of line ≡ Some n → n ≤ 65535
 unfolding own_as_of
 own_as_bound line n e = behind_bound 65535 n (text "ownas=") line e
 
-pub capability_bound : (line : List ℕ) (n : ℕ) → capability_of line ≡ Is n → n ≤ 255
+pub capability_bound : (line : List ℕ) (n : ℕ) → capability_of line ≡ Some n → n ≤ 255
 unfolding capability_of
 capability_bound line n e = behind_bound 255 n (text "cap=") line e
 
-pub quiet_bound : (line : List ℕ) (n : ℕ) → quiet_of line ≡ Is n → n ≤ 1
+pub quiet_bound : (line : List ℕ) (n : ℕ) → quiet_of line ≡ Some n → n ≤ 1
 unfolding quiet_of
 quiet_bound line n e = behind_bound 1 n (text "quiet=") line e
 
@@ -199,101 +207,112 @@ module _ (lines : ℕ) (line : List ℕ) where
   unfolding is_setting
   setting_late h n = rw (le-ltb lines 4 h, ne_eqb lines 4 n)
 
-  pub setting_none : 4 ≤ lines → lines ≡ 4 → quiet_of line ≡ Bad → false ≡ is_setting lines line
+  pub setting_none : 4 ≤ lines → lines ≡ 4 → quiet_of line ≡ None → false ≡ is_setting lines line
   unfolding is_setting when_number
   setting_none h e q = rw (le-ltb lines 4 h, eq-eqb lines 4 e, q)
 
-  pub setting_quiet : (n : ℕ) → 4 ≤ lines → lines ≡ 4 → quiet_of line ≡ Is n → true ≡ is_setting lines line
+  pub setting_quiet : (n : ℕ) → 4 ≤ lines → lines ≡ 4 → quiet_of line ≡ Some n → true ≡ is_setting lines line
   unfolding is_setting when_number
   setting_quiet n h e q = rw (le-ltb lines 4 h, eq-eqb lines 4 e, q)
 
--- a line with a good value, or not
-pub no_value : (value : Number) (some : ℕ → Heard) → value ≡ Bad → H.Bad ≡ when_number value H.Bad some
+-- whether there is a value
+pub any_value : (value : Option ℕ) → is_some value ≡ when_number value false (λ _. true)
 unfolding when_number
-no_value value some e = rw e
+any_value None = refl
+any_value (Some n) = refl
 
-pub one_value : (value : Number) (some : ℕ → Heard) (n : ℕ) → value ≡ Is n → some n ≡ when_number value H.Bad some
-unfolding when_number
-one_value value some n e = rw e
+-- a value, put into the settings
+module _ (value : Option ℕ) (set : ℕ → Settings) where
+  pub put_none : value ≡ None → None ≡ put_in value set
+  unfolding put_in when_number
+  put_none e = rw e
+
+  pub put_some : (n : ℕ) → value ≡ Some n → Some (set n) ≡ put_in value set
+  unfolding put_in when_number
+  put_some n e = rw e
 
 -- which of them is read
 module _ (g : Settings) (lines : ℕ) (line : List ℕ) where
-  pub heard_1 : lines ≡ 0 → when_number (own_as_of line) H.Bad (λ n. H.Part (with_as g n)) ≡ heard_of g lines line
-  unfolding heard_of
-  heard_1 e = sym (on_true (eqb lines 0) _ _ (eq-eqb lines 0 e))
+  pub first_line : lines ≡ 0 → put_in (own_as_of line) (with_as g) ≡ settings_of g lines line
+  unfolding settings_of
+  first_line e = rw e
 
-  pub heard_2 : (lines ≡ 0 → ⊥) → lines ≡ 1 → when_number (own_of line) H.Bad (λ n. H.Part (with_own g n)) ≡ heard_of g lines line
-  unfolding heard_of
-  heard_2 a e = sym (on_false (eqb lines 0) _ _ (ne_eqb lines 0 a) ∙ on_true (eqb lines 1) _ _ (eq-eqb lines 1 e))
+  pub second_line : lines ≡ 1 → put_in (own_of line) (with_own g) ≡ settings_of g lines line
+  unfolding settings_of
+  second_line e = rw e
 
-  pub heard_3 : (lines ≡ 0 → ⊥) → (lines ≡ 1 → ⊥) → lines ≡ 2
-      → when_number (capability_of line) H.Bad (λ n. H.Part (with_capability g n)) ≡ heard_of g lines line
-  unfolding heard_of
-  heard_3 a b e =
-      sym (on_false (eqb lines 0) _ _ (ne_eqb lines 0 a) ∙ on_false (eqb lines 1) _ _ (ne_eqb lines 1 b) ∙ on_true (eqb lines 2) _ _ (eq-eqb lines 2 e))
+  pub third_line : lines ≡ 2 → put_in (capability_of line) (with_capability g) ≡ settings_of g lines line
+  unfolding settings_of
+  third_line e = rw e
 
-  pub heard_4 : (lines ≡ 0 → ⊥) → (lines ≡ 1 → ⊥) → (lines ≡ 2 → ⊥) → lines ≡ 3
-      → when_number (net_of line) H.Bad (λ n. H.Whole (with_net g n)) ≡ heard_of g lines line
-  unfolding heard_of
-  heard_4 a b d e = sym (rw (ne_eqb lines 0 a, ne_eqb lines 1 b, ne_eqb lines 2 d, eq-eqb lines 3 e))
+  pub fourth_line : lines ≡ 3 → put_in (net_of line) (with_net g) ≡ settings_of g lines line
+  unfolding settings_of
+  fourth_line e = rw e
 
-  pub heard_5 : (lines ≡ 0 → ⊥) → (lines ≡ 1 → ⊥) → (lines ≡ 2 → ⊥) → (lines ≡ 3 → ⊥)
-      → when_number (quiet_of line) H.Bad (λ n. H.Whole (with_quiet g n)) ≡ heard_of g lines line
-  unfolding heard_of
-  heard_5 a b d e = sym (rw (ne_eqb lines 0 a, ne_eqb lines 1 b, ne_eqb lines 2 d, ne_eqb lines 3 e))
+  pub later_line : (lines ≡ 0 → ⊥) → (lines ≡ 1 → ⊥) → (lines ≡ 2 → ⊥) → (lines ≡ 3 → ⊥) → put_in (quiet_of line) (with_quiet g) ≡ settings_of g lines line
+  unfolding settings_of
+  later_line a b d e = sym (rw (ne_eqb lines 0 a, ne_eqb lines 1 b, ne_eqb lines 2 d, ne_eqb lines 3 e))
 
--- the step that such a line asks for
+-- the step that the settings ask for: after one of the first three lines more are to come
 module _ (p : Player) (table : List ℕ) where
-  heard_step : Heard → Step
-  heard_step H.Bad = broken_step p table 19
-  heard_step (H.Part g) = silent_step (settled (next_line p) g) table 0
-  heard_step (H.Whole g) = fresh_step p table g
+  settings_step : Bool → Option Settings → Step
+  settings_step early None = broken_step p table 19
+  settings_step true (Some g) = silent_step (settled (next_line p) g) table 0
+  settings_step false (Some g) = fresh_step p table g
 
-  by_number : (one two three four : Bool) (asn own capability net quiet : Number)
+  by_number : (one two three four : Bool) (asn own capability net quiet : Option ℕ)
       → cond one (setting_step p table asn with_as)
       (cond two (setting_step p table own with_own) (cond three (setting_step p table capability with_capability)
       (cond four (net_step p table net) (quiet_line_step p table quiet))))
-      ≡ heard_step
-      (cond one (when_number asn H.Bad (λ n. H.Part (with_as p.settings n)))
-      (cond two (when_number own H.Bad (λ n. H.Part (with_own p.settings n)))
-      (cond three (when_number capability H.Bad (λ n. H.Part (with_capability p.settings n)))
-      (cond four (when_number net H.Bad (λ n. H.Whole (with_net p.settings n)))
-      (when_number quiet H.Bad (λ n. H.Whole (with_quiet p.settings n)))))))
-  unfolding setting_step net_step quiet_line_step when_number heard_step
-  by_number true two three four Bad own capability net quiet = refl
-  by_number true two three four (Is n) own capability net quiet = refl
-  by_number false true three four asn Bad capability net quiet = refl
-  by_number false true three four asn (Is n) capability net quiet = refl
-  by_number false false true four asn own Bad net quiet = refl
-  by_number false false true four asn own (Is n) net quiet = refl
-  by_number false false false true asn own capability Bad quiet = refl
-  by_number false false false true asn own capability (Is n) quiet = refl
-  by_number false false false false asn own capability net Bad = refl
-  by_number false false false false asn own capability net (Is n) = refl
+      ≡ settings_step (one || (two || three))
+      (cond one (put_in asn (with_as p.settings))
+      (cond two (put_in own (with_own p.settings))
+      (cond three (put_in capability (with_capability p.settings))
+      (cond four (put_in net (with_net p.settings)) (put_in quiet (with_quiet p.settings))))))
+  unfolding setting_step net_step quiet_line_step when_number settings_step put_in
+  by_number true two three four None own capability net quiet = refl
+  by_number true two three four (Some n) own capability net quiet = refl
+  by_number false true three four asn None capability net quiet = refl
+  by_number false true three four asn (Some n) capability net quiet = refl
+  by_number false false true four asn own None net quiet = refl
+  by_number false false true four asn own (Some n) net quiet = refl
+  by_number false false false true asn own capability None quiet = refl
+  by_number false false false true asn own capability (Some n) quiet = refl
+  by_number false false false false asn own capability net None = refl
+  by_number false false false false asn own capability net (Some n) = refl
 
-  module _ (line : List ℕ) (h : Heard) (e : h ≡ heard_of p.settings p.lines line) where
-    heard_step_lem : head_step p table line ≡ heard_step h
-    unfolding head_step heard_of
-    heard_step_lem =
+  module _ (line : List ℕ) where
+    head_is : head_step p table line ≡ settings_step (eqb p.lines 0 || (eqb p.lines 1 || eqb p.lines 2)) (settings_of p.settings p.lines line)
+    unfolding head_step settings_of
+    head_is =
         by_number (eqb p.lines 0) (eqb p.lines 1) (eqb p.lines 2) (eqb p.lines 3) (own_as_of line) (own_of line) (capability_of line) (net_of line)
         (quiet_of line)
-        ∙ ap heard_step (sym e)
 
-    pub heard_bad : h ≡ H.Bad → head_step p table line ≡ broken_step p table 19
-    unfolding heard_step
-    heard_bad k = heard_step_lem ∙ ap heard_step k
+    pub head_bad : settings_of p.settings p.lines line ≡ None → head_step p table line ≡ broken_step p table 19
+    unfolding settings_step
+    head_bad e = head_is ∙ ap (settings_step (eqb p.lines 0 || (eqb p.lines 1 || eqb p.lines 2))) e
 
-    pub heard_part : (g : Settings) → h ≡ H.Part g → head_step p table line ≡ silent_step (settled (next_line p) g) table 0
-    unfolding heard_step
-    heard_part g k = heard_step_lem ∙ ap heard_step k
+    module _ (g : Settings) (e : settings_of p.settings p.lines line ≡ Some g) where
+      pub head_more : p.lines < 3 → head_step p table line ≡ silent_step (settled (next_line p) g) table 0
+      unfolding settings_step
+      head_more h = head_is ∙ ap (settings_step _) e ∙ ap (λ (b : Bool). settings_step b (Some g)) (early p.lines h)
+        where
+          early : (n : ℕ) → n < 3 → (eqb n 0 || (eqb n 1 || eqb n 2)) ≡ true
+          early zero h = refl
+          early (suc zero) h = refl
+          early (suc (suc zero)) h = refl
+          early (suc (suc (suc n))) h = absurd (omega arith)
 
-    pub heard_whole : (g : Settings) → h ≡ H.Whole g → head_step p table line ≡ fresh_step p table g
-    unfolding heard_step
-    heard_whole g k = heard_step_lem ∙ ap heard_step k
+      pub head_fresh : 3 ≤ p.lines → head_step p table line ≡ fresh_step p table g
+      unfolding settings_step
+      head_fresh h = head_is ∙ ap (settings_step _) e ∙ ap (λ (b : Bool). settings_step b (Some g)) (late p.lines h)
+        where
+          late : (n : ℕ) → 3 ≤ n → (eqb n 0 || (eqb n 1 || eqb n 2)) ≡ false
+          late n h = rw (ne_eqb n 0 (λ e. omega arith), ne_eqb n 1 (λ e. omega arith), ne_eqb n 2 (λ e. omega arith))
 
 -- the fourth line and the fifth ask for fresh
 module _ (p : Player) (table line : List ℕ) where
-  pub head_net : (net : ℕ) → p.lines ≡ 3 → net_of line ≡ Is net → head_step p table line ≡ fresh_step p table (with_net p.settings net)
+  pub head_net : (net : ℕ) → p.lines ≡ 3 → net_of line ≡ Some net → head_step p table line ≡ fresh_step p table (with_net p.settings net)
   unfolding head_step net_step when_number
   head_net net three k =
       let z : eqb p.lines 0 ≡ false = rw three in
@@ -302,7 +321,7 @@ module _ (p : Player) (table line : List ℕ) where
       on_false (eqb p.lines 0) _ _ z ∙ on_false (eqb p.lines 1) _ _ o ∙ on_false (eqb p.lines 2) _ _ t
       ∙ on_true (eqb p.lines 3) _ _ (eq-eqb p.lines 3 three) ∙ ap (net_step p table) k
 
-  pub head_quiet : (quiet : ℕ) → p.lines ≡ 4 → quiet_of line ≡ Is quiet → head_step p table line ≡ fresh_step p table (with_quiet p.settings quiet)
+  pub head_quiet : (quiet : ℕ) → p.lines ≡ 4 → quiet_of line ≡ Some quiet → head_step p table line ≡ fresh_step p table (with_quiet p.settings quiet)
   unfolding head_step quiet_line_step when_number
   head_quiet quiet four k =
       let z : eqb p.lines 0 ≡ false = rw four in
@@ -325,26 +344,31 @@ module _ (p : Player) (table : List ℕ) (g : Settings) (o : Outcome) (e : o ≡
 pub reported_as : (room : Bool) (p : Player) (table : List ℕ) (used : ℕ) {s s' : Step} → s ≡ s' → reported room p table used s ≡ reported room p table used s'
 reported_as room p table used e = ap (reported room p table used) e
 
+-- a bad line does not touch the table
+pub bad_reported : (p : Player) (table : List ℕ) (used : ℕ) (room : Bool) → (reported room p table used (bad_step p table)).table ≡ table
+unfolding reported given if_ok silent_step with_used bad_step
+bad_reported p table used room = cond_elim (λ (s : Step). s.table ≡ table) (eqb (report_check room 19) 0) _ _ (λ e. refl) (λ e. refl)
+
 -- none of them touches the table
 module _ (p : Player) (table : List ℕ) where
-  setting_table : (value : Number) (put : Settings → ℕ → Settings) → (setting_step p table value put).table ≡ table
+  setting_table : (value : Option ℕ) (put : Settings → ℕ → Settings) → (setting_step p table value put).table ≡ table
   unfolding setting_step when_number broken_step silent_step
-  setting_table Bad put = refl
-  setting_table (Is n) put = refl
+  setting_table None put = refl
+  setting_table (Some n) put = refl
 
   fresh_table : (g : Settings) → (fresh_step p table g).table ≡ table
   unfolding fresh_step broken_step silent_step
   fresh_table g = cond_elim (λ (s : Step). s.table ≡ table) (eqb (fresh_of g).answer 0) _ _ (λ e. refl) (λ e. refl)
 
-  net_table : (value : Number) → (net_step p table value).table ≡ table
+  net_table : (value : Option ℕ) → (net_step p table value).table ≡ table
   unfolding net_step when_number broken_step
-  net_table Bad = refl
-  net_table (Is n) = fresh_table (with_net p.settings n)
+  net_table None = refl
+  net_table (Some n) = fresh_table (with_net p.settings n)
 
-  quiet_table : (value : Number) → (quiet_line_step p table value).table ≡ table
+  quiet_table : (value : Option ℕ) → (quiet_line_step p table value).table ≡ table
   unfolding quiet_line_step when_number broken_step
-  quiet_table Bad = refl
-  quiet_table (Is n) = fresh_table (with_quiet p.settings n)
+  quiet_table None = refl
+  quiet_table (Some n) = fresh_table (with_quiet p.settings n)
 
   head_table : (line : List ℕ) → (head_step p table line).table ≡ table
   unfolding head_step
@@ -361,46 +385,10 @@ module _ (p : Player) (table : List ℕ) where
 
 -- ---- what an event asks for
 
-module _ (traced room : Bool) (st : State) (numbers : ℕ) (read : Read) (line : List ℕ) where
-  pub asks_bad : read ≡ R.Bad → event_checked traced room st numbers (meant read line) ≡ report_check room 19
-  unfolding meant event_checked
-  asks_bad e = rw e
-
-  pub asks_add : (a asn : ℕ) → read ≡ R.Add a asn → event_checked traced room st numbers (meant read line) ≡ formed_check traced room st
-  unfolding meant event_checked
-  asks_add a asn e = rw e
-
-  pub asks_remove : (a : ℕ) → read ≡ R.Remove a → event_checked traced room st numbers (meant read line) ≡ formed_check traced room st
-  unfolding meant event_checked
-  asks_remove a e = rw e
-
-  pub asks_tick : (a count : ℕ) → read ≡ R.Tick a count → event_checked traced room st numbers (meant read line) ≡ 0
-  unfolding meant event_checked
-  asks_tick a count e = rw e
-
-  pub asks_start : (a : ℕ) → read ≡ R.Start a → event_checked traced room st numbers (meant read line) ≡ call_checks room st numbers
-  unfolding meant event_checked
-  asks_start a e = rw e
-
-  pub asks_stop : (a : ℕ) → read ≡ R.Stop a → event_checked traced room st numbers (meant read line) ≡ call_checks room st numbers
-  unfolding meant event_checked
-  asks_stop a e = rw e
-
-  pub asks_rx : (a at : ℕ) → read ≡ R.Receive a at → event_checked traced room st numbers (meant read line) ≡ call_checks room st numbers
-  unfolding meant event_checked
-  asks_rx a at e = rw e
-
--- a call with replies
-pub asks_call : (traced room : Bool) (st : State) (numbers : ℕ) (read : Read) (line : List ℕ) → ((read ≡ R.Bad → ⊥) × ((a : ℕ) (b : ℕ) → read ≡ R.Add a b → ⊥) × ((a : ℕ) → read ≡ R.Remove a → ⊥) × ((a : ℕ) (b : ℕ) → read ≡ R.Tick a b → ⊥))
-    → event_checked traced room st numbers (meant read line) ≡ call_checks room st numbers
-unfolding meant event_checked
-asks_call traced room st numbers R.Bad line h = absurd (h.0 refl)
-asks_call traced room st numbers (R.Add a asn) line h = absurd (h.1 a asn refl)
-asks_call traced room st numbers (R.Remove a) line h = absurd (h.2 a refl)
-asks_call traced room st numbers (R.Start a) line h = refl
-asks_call traced room st numbers (R.Stop a) line h = refl
-asks_call traced room st numbers (R.Tick a count) line h = absurd (h.3 a count refl)
-asks_call traced room st numbers (R.Receive a at) line h = refl
+-- all that an event asks for, by what it is
+pub asks : (traced room : Bool) (st : State) (numbers : ℕ) {event e : LineEvent} → event ≡ e
+    → event_checked traced room st numbers (said event) ≡ 0 → event_checked traced room st numbers (said e) ≡ 0
+asks traced room st numbers e h = ap (λ (x : LineEvent). event_checked traced room st numbers (said x)) (sym e) ∙ h
 
 -- ---- calls
 
@@ -416,15 +404,6 @@ pub silent_made : (p : Player) (table : List ℕ) (answer : ℕ) (r : Told) (out
 unfolding silent_step over
 silent_made p table answer r out h = (h, (refl, refl))
 
--- with room, a bad line is reported
-pub bad_made : (p : Player) (table : List ℕ) (r : Told) (out new : List ℕ) → report_check (roomy out) 19 ≡ 0
-    → r ≡ told_of (reported (roomy out) p table 0 (bad_step p table)) → new ≡ over (reported (roomy out) p table 0 (bad_step p table)).text out
-    → Made (bad_step p table) r table out new
-unfolding reported bad_step with_used
-bad_made p table r out new room h k =
-    let e = given_whole p table (report_check (roomy out) 19) (bad_step p table) room in
-    (h ∙ ap told_of e, (refl, k ∙ ap (λ (s : Step). over s.text out) e))
-
 -- a call from the player's state, and the turn that carries what it left to the player behind the line
 module _ (p next : Player) (n : next ≡ next_line p) (t : Telling) (w : t ≡ telling_of next 0 true) (table after : List ℕ) (k : Called) (r : Told) (out new : List ℕ) where
   pub call_made : (call : M.Call)
@@ -437,60 +416,16 @@ module _ (p next : Player) (n : next ≡ next_line p) (t : Telling) (w : t ≡ t
         (h, u ∙ ap (λ (x : Telling). over (call_text x call (on p.state table)) out) so),
       )
 
--- what an event is, by the answer of its reader
-module _ (p : Player) (table : List ℕ) (read : Read) (line : List ℕ) where
-  pub event_bad : read ≡ R.Bad → event_step p table (meant read line) ≡ bad_step p table
-  unfolding event_step meant
-  event_bad e = rw e
+-- what an event is
+pub event_as : {event e : LineEvent} (p : Player) (table : List ℕ) → event ≡ e → event_step p table (said event) ≡ event_step p table (said e)
+event_as p table e = ap (λ (x : LineEvent). event_step p table (said x)) e
 
-  pub event_add : (a asn : ℕ) → read ≡ R.Add a asn → event_step p table (meant read line) ≡ only_step (next_line p) table (M.add a asn)
-  unfolding event_step meant
-  event_add a asn e = rw e
-
-  pub event_remove : (a : ℕ) → read ≡ R.Remove a → event_step p table (meant read line) ≡ only_step (next_line p) table (M.remove a)
-  unfolding event_step meant
-  event_remove a e = rw e
-
-  pub event_start : (a : ℕ) → read ≡ R.Start a → event_step p table (meant read line) ≡ only_step (next_line p) table (M.start a lent)
-  unfolding event_step meant
-  event_start a e = rw e
-
-  pub event_stop : (a : ℕ) → read ≡ R.Stop a → event_step p table (meant read line) ≡ only_step (next_line p) table (M.stop a lent)
-  unfolding event_step meant
-  event_stop a e = rw e
-
-  pub event_tick : (a count : ℕ) → read ≡ R.Tick a count → event_step p table (meant read line) ≡ silent_step (due (next_line p) a count) table 0
-  unfolding event_step meant
-  event_tick a count e = rw e
-
-  pub event_rx : (a at : ℕ) → read ≡ R.Receive a at
-      → event_step p table (meant read line) ≡ only_step (next_line p) table (M.receive a (hex_octets (drop at line)) [] lent)
-  unfolding event_step meant
-  event_rx a at e = rw e
-
--- the hex of a message that stands on the line
-pub rx_stands : (read : Read) (line : List ℕ) (a at : ℕ) → read ≡ R.Receive a at → stands_on read line ≡ true
-    → (at ≤ length line) × ((length (drop at line) ≤ 4098) × (is_hex (drop at line) ≡ true))
-unfolding stands_on
-rx_stands read line a at e h =
-    let k = rw e at h in
-    let l = and_right (leb at (length line)) _ k in (
-      leb-true at (length line) (and_left (leb at (length line)) _ k),
-      (leb-true (length (drop at line)) 4098 (and_left (leb (length (drop at line)) 4098) _ l), and_right (leb (length (drop at line)) 4098) _ l),
-    )
-
--- the part of the line that is handed over is its rest
-pub rx_made : (read : Read) (line : List ℕ) (a at : ℕ) → read ≡ R.Receive a at → (digits : List ℕ) → digits ≡ drop at line
-    → (p next : Player) → next ≡ next_line p → (t : Telling) → t ≡ telling_of next 0 true → (table after : List ℕ) (k : Called) (r : Told) (out new : List ℕ)
-    → k ≡ called_of t (M.receive a (hex_octets digits) [] lent) (on p.state table) → r ≡ carried_turn next k
-    → after ≡ table_left (M.receive a (hex_octets digits) [] lent) (on p.state table)
-    → new ≡ over (call_text t (M.receive a (hex_octets digits) [] lent) (on p.state table)) out → Made (event_step p table (meant read line)) r after out new
-rx_made read line a at e digits d p next n t w table after k r out new h f u v =
-    made_as out (event_rx p table read line a at e)
-    (call_made p next n t w table after k r out new (M.receive a (hex_octets (drop at line)) [] lent)
-    (h ∙ ap (λ (l : List ℕ). called_of t (M.receive a (hex_octets l) [] lent) (on p.state table)) d) f
-    (u ∙ ap (λ (l : List ℕ). table_left (M.receive a (hex_octets l) [] lent) (on p.state table)) d)
-    (v ∙ ap (λ (l : List ℕ). over (call_text t (M.receive a (hex_octets l) [] lent) (on p.state table)) out) d))
+-- the hex of a message
+pub hex_there : {event : LineEvent} {a : ℕ} {digits : Bor (List ℕ)} → event ≡ R.Receive a digits → has_hex event ≡ true
+    → (is_hex digits.now ≡ true) × (length digits.now ≤ 4098)
+hex_there {a = a} {digits} e h =
+    let k = ap has_hex (sym e) ∙ h in
+    (and_right (leb (length digits.now) 4098) _ k, leb-true _ _ (and_left (leb (length digits.now) 4098) _ k))
 
 -- whether a line's call is traced
 pub told_traced : (p next : Player) → next ≡ next_line p → (t : Telling) → t ≡ telling_of next 0 true → t.traced ≡ p.traced
@@ -512,7 +447,7 @@ formed_room traced out st e z = go (state_formed st) traced z (leb 65536 (length
 
 -- a step made without using octets, told with those used
 pub using_made : (s : Step) (used : ℕ) (q r : Told) (table out new : List ℕ) → Made s q table out new → r ≡ using_of q used → Made (with_used used s) r table out new
-unfolding using_of told_of with_used
+unfolding told_of with_used
 using_made s used q r table out new m e = (e ∙ ap (λ (t : Told). using_of t used) m.0, m.1)
 
 module _ (p : Player) (table line out : List ℕ) (used : ℕ) (r : Told) where
@@ -532,24 +467,36 @@ module _ (p : Player) (table line out : List ℕ) (used : ℕ) (r : Told) where
       (on_true (is_setting p.lines line) _ _ h))
       (f, (sym (reported_table p table (roomy out) used line), k))
 
-  module _ (read : Read) (m : meant read line ≡ event_of line) (h : is_setting p.lines line ≡ false) where
-    abbrev asked : ℕ
-    asked = event_checked p.traced (roomy out) p.state (length table) (meant read line)
+  -- a bad line
+  pub line_bad : bad ≡ event_of line → is_setting p.lines line ≡ false → (new : List ℕ)
+      → r ≡ told_of (reported (roomy out) p table used (bad_step p table)) → new ≡ over (reported (roomy out) p table used (bad_step p table)).text out
+      → Made taken r table out new
+  unfolding line_step line_checked reported event_checked event_step bad_step
+  line_bad m h new f k =
+      made_as out
+      (line_as (report_check (roomy out) 19) (bad_step p table)
+      (on_false (is_setting p.lines line) _ _ h ∙ ap (event_checked p.traced (roomy out) p.state (length table)) (sym m))
+      (on_false (is_setting p.lines line) _ _ h ∙ ap (event_step p table) (sym m)))
+      (f, (sym (bad_reported p table used (roomy out)), k))
 
-    event_as : taken ≡ given p table asked (with_used used (event_step p table (meant read line)))
+  module _ (event : LineEvent) (m : said event ≡ event_of line) (h : is_setting p.lines line ≡ false) where
+    abbrev asked : ℕ
+    asked = event_checked p.traced (roomy out) p.state (length table) (said event)
+
+    event_given : taken ≡ given p table asked (with_used used (event_step p table (said event)))
     unfolding line_step line_checked
-    event_as =
-        line_as asked (event_step p table (meant read line))
+    event_given =
+        line_as asked (event_step p table (said event))
         (on_false (is_setting p.lines line) _ _ h ∙ ap (event_checked p.traced (roomy out) p.state (length table)) (sym m))
         (on_false (is_setting p.lines line) _ _ h ∙ ap (event_step p table) (sym m))
 
     pub line_refused : (refusal : ℕ) → refusal ≡ asked → (refusal ≡ 0 → ⊥) → r ≡ told_of (silent_step p table refusal) → Made taken r table out out
     line_refused refusal e n f =
-        made_as out (event_as ∙ ap (λ (k : ℕ). given p table k (with_used used (event_step p table (meant read line)))) (sym e) ∙ given_refused p table refusal _ n)
+        made_as out (event_given ∙ ap (λ (k : ℕ). given p table k (with_used used (event_step p table (said event)))) (sym e) ∙ given_refused p table refusal _ n)
         (silent_made p table refusal r out f)
 
-    pub line_made : asked ≡ 0 → (after new : List ℕ) → Made (with_used used (event_step p table (meant read line))) r after out new → Made taken r after out new
-    line_made e after new f = made_as out (event_as ∙ given_whole p table asked _ e) f
+    pub line_made : asked ≡ 0 → (after new : List ℕ) → Made (with_used used (event_step p table (said event))) r after out new → Made taken r after out new
+    line_made e after new f = made_as out (event_given ∙ given_whole p table asked _ e) f
 
 module _ (p : Player) (table out : List ℕ) (r : Told) (refusal : ℕ) (e : refusal ≡ call_checks (roomy out) p.state (length table)) where
   abbrev ticked : Step

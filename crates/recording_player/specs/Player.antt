@@ -1,6 +1,6 @@
 -- The player: it is handed a recording in pieces, and each turn makes at most one call. 02: "Playing a recording must
 -- equal making the calls of its good lines one by one"; that it does is stated in the crate `recording_theorem`.
-use Rattle.std.specs.Prelude.{ℕ, ◌-◌, Bool, true, false, cond, not, ◌&&◌, ◌||◌, List, [], leb, ltb, eqb, length, take}
+use Rattle.std.specs.Prelude.{ℕ, ◌-◌, Bool, true, false, cond, not, ◌&&◌, ◌||◌, List, [], leb, ltb, eqb, length, take, Option}
 use Rattle.checks.specs.Checks.{check, if_ok}
 use Rattle.neighbour.specs.declared.Settings.{Settings}
 use Rattle.neighbour.specs.Record.{with_quiet}
@@ -8,7 +8,6 @@ use Rattle.gateway_state.specs.declared.State.{State}
 use Rattle.gateway_state.specs.Formed.{state_formed}
 use Rattle.gateway_slots.specs.Calls.{fresh_of, no_settings, zero_state}
 use Rattle.gateway_rules.specs.Calls.{lent_checks}
-use Rattle.text_values.specs.declared.Number.{Number}
 use Rattle.text_values.specs.Numbers.{when_number}
 use Rattle.recording_lines.specs.Lines.{Event, bad, add, remove, start, stop, tick, rx, event_of, own_as_of, own_of, capability_of, net_of, quiet_of}
 use Rattle.recording_gather.specs.Gathering.{gathered, line_after, line_held}
@@ -228,7 +227,7 @@ unfoldable pub with_net : Settings → ℕ → Settings
 with_net g net = record { asn = g.asn; own = g.own; capability = g.capability; net = net; quiet = 0 }
 
 -- one of the first three: a setting, or the end
-unfoldable pub setting_step : Player → List ℕ → Number → (Settings → ℕ → Settings) → Step
+unfoldable pub setting_step : Player → List ℕ → Option ℕ → (Settings → ℕ → Settings) → Step
 setting_step p table value set =
     when_number value (broken_step p table 19) (λ n. silent_step (settled (next_line p) (set p.settings n)) table 0)
 
@@ -241,11 +240,11 @@ fresh_step p table g =
     (broken_step p table (fresh_of g).answer)
 
 -- the fourth
-unfoldable pub net_step : Player → List ℕ → Number → Step
+unfoldable pub net_step : Player → List ℕ → Option ℕ → Step
 net_step p table value = when_number value (broken_step p table 19) (λ n. fresh_step p table (with_net p.settings n))
 
 -- the fifth
-unfoldable pub quiet_line_step : Player → List ℕ → Number → Step
+unfoldable pub quiet_line_step : Player → List ℕ → Option ℕ → Step
 quiet_line_step p table value = when_number value (broken_step p table 19) (λ n. fresh_step p table (with_quiet p.settings n))
 
 -- which of them it is, the number of lines before it tells

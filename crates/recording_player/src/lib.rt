@@ -2,22 +2,26 @@
 // bounded.
 #![tactic(auto)]
 
-ghost use Rattle.std.specs.Prelude.{◌≡◌, true, List, ℕ, ◌<◌, leb, length};
+ghost use Rattle.std.specs.Prelude.{◌≡◌, true, List, ℕ, ◌<◌, leb, length, Option, Some};
+ghost use Rattle.checks.specs.Refusals.{answer_of};
 ghost use Rattle.octets.specs.Buffer.{over};
-ghost use Rattle.recording_lines.specs.Meant.{meant};
-ghost use Rattle.recording_lines.specs.Steps.{stands_on};
-ghost use Rattle.recording_player.specs.Player.{beginning, next_line, holding, breaking, due, settled, having, passing, telling_of, roomy, call_checks, formed_check, report_check, reported, given, with_used, bad_step, broken_step, silent_step, fresh_step, head_step, is_setting, event_step, event_checked, line_step, line_checked, tick_step, turn_step, held_of, told_of, close_step, finish_step};
-ghost use Rattle.recording_player.specs.Steps.{heard_of, carried_turn, using_of};
+ghost use Rattle.recording_lines.specs.Meant.{said};
+ghost use Rattle.recording_lines.specs.Steps.{has_hex};
+ghost use Rattle.recording_player.specs.Player.{beginning, next_line, telling_of, roomy, call_checks, formed_check, reported, given, with_used, bad_step, broken_step, silent_step, fresh_step, head_step, is_setting, event_step, event_checked, line_step, line_checked, tick_step, turn_step, held_of, told_of, close_step, finish_step};
+ghost use Rattle.recording_player.specs.Steps.{settings_of, carried_turn};
 
+use checks::Refusal;
 use gateway_state::State;
 use neighbour::Settings;
 use recording_call::Called;
-use recording_lines::Read;
+use recording_lines::LineEvent;
 use recording_trace::Telling;
-use text_values::Number;
 
 // The least output buffer, as for a listing.
 pub const ROOM: usize = 65536;
+
+// Stray messages are answered, unless the line behind that of the net says otherwise.
+const ANSWERED: u8 = 0;
 
 // What is known between two turns. The host lends the line buffer, the table and the output buffer.
 #[derive(Clone, Copy)]
@@ -49,161 +53,92 @@ pub struct Told {
     pub written: usize,
 }
 
-fn next_line(p: Player) -> Player
-    ensures { result ≡ next_line p }
-{
-    let settings = p.settings;
-    let state = p.state;
-    Player {
-        lines: recording_bad_line::one_more(p.lines),
-        held: 0,
-        broken: p.broken,
-        address: p.address,
-        ticks: p.ticks,
-        settings,
-        state,
-        traced: p.traced,
-        passed: p.passed,
+impl Player {
+    // One line more was taken, and none of the next is held.
+    #[tactic(auto, unfolding(crate::specs::Player::next_line))]
+    fn next_line(self) -> Player
+        ensures { result ≡ next_line self }
+    {
+        Player {
+            lines: recording_bad_line::one_more(self.lines),
+            held: 0,
+            ..self
+        }
     }
-}
 
-fn hold(p: Player, held: u16) -> Player
-    ensures { result ≡ holding p held }
-{
-    let mut next = p;
-    next.held = held;
-    next
-}
-
-fn break_off(p: Player) -> Player
-    ensures { result ≡ breaking p }
-{
-    let mut next = p;
-    next.broken = true;
-    next
-}
-
-fn owe_ticks(p: Player, address: u32, count: u32) -> Player
-    ensures { result ≡ due p address count }
-{
-    let mut next = p;
-    next.address = address;
-    next.ticks = count;
-    next.passed = 0;
-    next
-}
-
-fn settle(p: Player, settings: Settings) -> Player
-    ensures { result ≡ settled p settings }
-{
-    let mut next = p;
-    next.settings = settings;
-    next
-}
-
-fn have(p: Player, st: State) -> Player
-    ensures { result ≡ having p st }
-{
-    let mut next = p;
-    next.state = st;
-    next
-}
-
-fn pass_over(p: Player, passed: u64) -> Player
-    ensures { result ≡ passing p passed }
-{
-    let mut next = p;
-    next.passed = passed;
-    next
-}
-
-// How the player's next call is told of.
-fn telling(p: Player, passed: u64, last: bool) -> Telling
-    ensures { result ≡ telling_of p passed last }
-{
-    Telling {
-        traced: p.traced,
-        line: p.lines,
-        passed,
-        last,
+    // How the player's next call is told of.
+    #[tactic(auto, unfolding(crate::specs::Player::telling_of))]
+    fn telling(self, passed: u64, last: bool) -> Telling
+        ensures { result ≡ telling_of self passed last }
+    {
+        Telling {
+            traced: self.traced,
+            line: self.lines,
+            passed,
+            last,
+        }
     }
 }
 
 // A turn that uses and writes nothing: all is as given.
-fn silent(p: Player, answer: u8) -> Told
-    ensures { (table : List ℕ) → result ≡ told_of (silent_step p table answer) }
+#[tactic(auto, unfolding(crate::specs::Player::silent_step, crate::specs::Player::told_of))]
+fn silent(player: Player, answer: u8) -> Told
+    ensures { (table : List ℕ) → result ≡ told_of (silent_step player table answer) }
 {
     Told {
-        player: p,
+        player,
         answer,
         used: 0,
         written: 0,
     }
 }
 
-fn with_used(t: Told, used: usize) -> Told
-    ensures { result ≡ using_of t used }
+// What a call with replies asks of the host.
+#[tactic(auto, unfolding(gateway_rules::specs::Calls::lent_checks, checks::specs::Checks::check))]
+fn check_call(state: State, numbers: usize, room: usize) -> Result<(), Refusal>
+    ensures { answer_of result ≡ call_checks (leb 65536 room) state numbers }
 {
-    let mut next = t;
-    next.used = used;
-    next
-}
-
-// 1, 2 and 3: what a call with replies asks of the host.
-fn lent_answer(st: State, numbers: usize, room: usize) -> u8
-    ensures { result ≡ call_checks (leb 65536 room) st numbers }
-{
-    if !gateway_state::well_formed(st) {
-        return 1;
+    if !gateway_state::well_formed(state) {
+        return Err(Refusal::IllFormedState);
     }
     if numbers != 3072 {
-        return 2;
+        return Err(Refusal::WrongTable);
     }
     if room < ROOM {
-        return 3;
+        return Err(Refusal::ShortBuffer);
     }
-    0
-}
-
-// A report asks for room; without, the line's number is answered.
-fn report_answer(answer: u8, room: usize) -> u8
-    ensures { result ≡ report_check (leb 65536 room) answer }
-{
-    if room < ROOM {
-        return answer;
-    }
-    0
+    Ok(())
 }
 
 // Add and remove ask for a state only, and for room where a line tells of them.
-fn formed_answer(traced: bool, st: State, room: usize) -> u8
-    ensures { result ≡ formed_check traced (leb 65536 room) st }
+#[tactic(auto, unfolding(crate::specs::Player::formed_check, checks::specs::Checks::check))]
+fn check_formed(traced: bool, state: State, room: usize) -> Result<(), Refusal>
+    ensures { answer_of result ≡ formed_check traced (leb 65536 room) state }
 {
-    if !gateway_state::well_formed(st) {
-        return 1;
+    if !gateway_state::well_formed(state) {
+        return Err(Refusal::IllFormedState);
     }
-    if traced {
-        if room < ROOM {
-            return 3;
-        }
+    if traced && room < ROOM {
+        return Err(Refusal::ShortBuffer);
     }
-    0
+    Ok(())
 }
 
 // A bad event line.
-fn skip_line(p: Player, out: &mut [u8]) -> Told
-    ensures value { (table : List ℕ) → result ≡ told_of (reported (roomy out.old) p table 0 (bad_step p table)) }
-    ensures out_after { (table : List ℕ) → out.new ≡ over (reported (roomy out.old) p table 0 (bad_step p table)).text out.old }
+fn skip_line(p: Player, used: usize, out: &mut [u8]) -> Told
+    ensures value { (table : List ℕ) → result ≡ told_of (reported (roomy out.old) p table used (bad_step p table)) }
+    ensures out_after { (table : List ℕ) → out.new ≡ over (reported (roomy out.old) p table used (bad_step p table)).text out.old }
 {
+    let bad_line = u8::from(Refusal::BadLine);
     if out.len() < ROOM {
-        return silent(p, 19);
+        return silent(p, bad_line);
     }
-    let next = next_line(p);
-    let written = recording_bad_line::put_bad(out, next.lines);
+    let player = p.next_line();
+    let written = recording_bad_line::put_bad(out, player.lines);
     Told {
-        player: next,
-        answer: 19,
-        used: 0,
+        player,
+        answer: bad_line,
+        used,
         written,
     }
 }
@@ -217,81 +152,54 @@ fn give_up(p: Player, answer: u8, used: usize, out: &mut [u8]) -> Told
     if out.len() < ROOM {
         return silent(p, answer);
     }
-    let next = next_line(p);
+    let next = p.next_line();
     let written = recording_bad_line::put_bad(out, next.lines);
     Told {
-        player: break_off(next),
+        player: Player {
+            broken: true,
+            ..next
+        },
         answer,
         used,
         written,
     }
 }
 
-// What a line of settings leaves of them.
-#[derive(Clone, Copy)]
-enum Heard {
-    Bad,
-    // One of the first three: more are to come.
-    Part(Settings),
-    // The fourth, and the fifth.
-    Whole(Settings),
-}
-
-// The line behind so many: our own AS, our own address, the capability, the common net, and `quiet`.
-fn read_setting(settings: Settings, lines: u64, line: &[u8]) -> Heard
-    ensures { result ≡ heard_of settings lines line.now }
+// The settings with that of the line behind so many: our own AS, our own address, the capability, the common net, and
+// `quiet`.
+fn read_setting(settings: Settings, lines: u64, line: &[u8]) -> Option<Settings>
+    ensures { result ≡ settings_of settings lines line.now }
 {
-    let mut next = settings;
-    if lines == 0 {
-        let Number::Is(n) = recording_lines::own_as(line) else {
-            return Heard::Bad;
-        };
-        next.asn = n as u16;
-        return Heard::Part(next);
-    }
-    if lines == 1 {
-        let Number::Is(n) = recording_lines::own(line) else {
-            return Heard::Bad;
-        };
-        next.own = n;
-        return Heard::Part(next);
-    }
-    if lines == 2 {
-        let Number::Is(n) = recording_lines::capability(line) else {
-            return Heard::Bad;
-        };
-        next.capability = n as u8;
-        return Heard::Part(next);
-    }
-    if lines == 3 {
-        let Number::Is(n) = recording_lines::net(line) else {
-            return Heard::Bad;
-        };
-        next.net = n;
-        next.quiet = 0;
-        return Heard::Whole(next);
-    }
-    let Number::Is(n) = recording_lines::quiet(line) else {
-        return Heard::Bad;
-    };
-    next.quiet = n as u8;
-    Heard::Whole(next)
+    Some(match lines {
+        0 => Settings {
+            asn: recording_lines::own_as(line)? as u16,
+            ..settings
+        },
+        1 => Settings {
+            own: recording_lines::own(line)?,
+            ..settings
+        },
+        2 => Settings {
+            capability: recording_lines::capability(line)? as u8,
+            ..settings
+        },
+        3 => Settings {
+            net: recording_lines::net(line)?,
+            quiet: ANSWERED,
+            ..settings
+        },
+        _ => Settings {
+            quiet: recording_lines::quiet(line)? as u8,
+            ..settings
+        },
+    })
 }
 
 // Whether the line behind so many is a setting: the first four are, and a good `quiet` line right after them.
 fn is_setting(lines: u64, line: &[u8]) -> bool
     ensures { result ≡ is_setting lines line.now }
 {
-    if lines < 4 {
-        return true;
-    }
-    if lines != 4 {
-        return false;
-    }
-    let Number::Is(_) = recording_lines::quiet(line) else {
-        return false;
-    };
-    true
+    lines < 4 || lines == 4 && recording_lines::quiet(line).is_some()
 }
 
 // All that are to come before it are read: a fresh state.
@@ -303,8 +211,15 @@ fn begin_state(p: Player, settings: Settings, used: usize, out: &mut [u8]) -> To
     if o.answer != 0 {
         return give_up(p, o.answer, used, out);
     }
-    let st = o.state;
-    with_used(silent(have(settle(next_line(p), settings), st), 0), used)
+    let next = Player {
+        settings,
+        state: o.state,
+        ..p.next_line()
+    };
+    Told {
+        used,
+        ..silent(next, 0)
+    }
 }
 
 // A line of settings.
@@ -312,61 +227,89 @@ fn take_setting(p: Player, line: &[u8], used: usize, out: &mut [u8]) -> Told
     ensures value { (table : List ℕ) → result ≡ told_of (reported (roomy out.old) p table used (head_step p table line.now)) }
     ensures out_after { (table : List ℕ) → out.new ≡ over (reported (roomy out.old) p table used (head_step p table line.now)).text out.old }
 {
-    let settings = p.settings;
-    let heard = read_setting(settings, p.lines, line);
-    match heard {
-        Heard::Bad => give_up(p, 19, used, out),
-        Heard::Part(next) => with_used(silent(settle(next_line(p), next), 0), used),
-        Heard::Whole(next) => begin_state(p, next, used, out),
+    let Some(settings) = read_setting(p.settings, p.lines, line) else {
+        return give_up(p, u8::from(Refusal::BadLine), used, out);
+    };
+    if p.lines < 3 {
+        // More are to come.
+        let next = Player {
+            settings,
+            ..p.next_line()
+        };
+        return Told {
+            used,
+            ..silent(next, 0)
+        };
     }
+    begin_state(p, settings, used, out)
 }
 
 // What a call leaves.
+#[tactic(auto, unfolding(crate::specs::Steps::carried_turn, crate::specs::Player::having, crate::specs::Player::passing))]
 fn carry(p: Player, c: Called) -> Told
     ensures { result ≡ carried_turn p c }
 {
-    let st = c.state;
     Told {
-        player: pass_over(have(p, st), c.passed),
+        player: Player {
+            state: c.state,
+            passed: c.passed,
+            ..p
+        },
         answer: c.answer,
         used: 0,
         written: c.written,
     }
 }
 
-// What an event asks of the host: the number that refuses it, 0 if nothing is wanting.
-fn event_answer(traced: bool, st: State, read: Read, numbers: usize, room: usize) -> u8
-    ensures { (line : List ℕ) → result ≡ event_checked traced (leb 65536 room) st numbers (meant read line) }
+// What an event asks of the host.
+#[tactic(auto, unfolding(crate::specs::Player::event_checked))]
+fn check_event(p: Player, event: LineEvent<'_>, numbers: usize, room: usize) -> Result<(), Refusal>
+    ensures { answer_of result ≡ event_checked p.traced (leb 65536 room) p.state numbers (said event.entry) }
 {
-    match read {
-        Read::Bad => report_answer(19, room),
-        Read::Add(_, _) => formed_answer(traced, st, room),
-        Read::Remove(_) => formed_answer(traced, st, room),
-        Read::Tick(_, _) => 0,
-        _ => lent_answer(st, numbers, room),
+    match event {
+        LineEvent::Add(..) | LineEvent::Remove(_) => check_formed(p.traced, p.state, room),
+        LineEvent::Tick(..) => Ok(()),
+        LineEvent::Start(_) | LineEvent::Stop(_) | LineEvent::Receive(..) => {
+            check_call(p.state, numbers, room)
+        }
     }
 }
 
 // An event that has what it asks for.
-fn play_event(p: Player, read: Read, line: &[u8], table: &mut [u32], out: &mut [u8]) -> Told
-    requires { (stands_on read line.now ≡ true) × (event_checked p.traced (roomy out.old) p.state (length table.old) (meant read line.now) ≡ 0) }
-    ensures value { result ≡ told_of (event_step p table.old (meant read line.now)) }
-    ensures table_after { table.new ≡ (event_step p table.old (meant read line.now)).table }
-    ensures out_after { out.new ≡ over (event_step p table.old (meant read line.now)).text out.old }
+fn play_event(p: Player, event: LineEvent<'_>, table: &mut [u32], out: &mut [u8]) -> Told
+    requires { (has_hex event ≡ true) × (event_checked p.traced (roomy out.old) p.state (length table.old) (said event) ≡ 0) }
+    ensures value { result ≡ told_of (event_step p table.old (said event.entry)) }
+    ensures table_after { table.new ≡ (event_step p table.old (said event.entry)).table }
+    ensures out_after { out.new ≡ over (event_step p table.old (said event.entry)).text out.old }
 {
-    let next = next_line(p);
-    let st = p.state;
-    let t = telling(next, 0, true);
-    match read {
-        Read::Bad => skip_line(p, out),
-        Read::Add(a, asn) => carry(next, recording_call::add_neighbour(st, out, t, a, asn)),
-        Read::Remove(a) => carry(next, recording_call::remove_neighbour(st, out, t, a)),
-        Read::Start(a) => carry(next, recording_call::start_neighbour(st, table, out, t, a)),
-        Read::Stop(a) => carry(next, recording_call::stop_neighbour(st, table, out, t, a)),
-        Read::Tick(a, count) => silent(owe_ticks(next, a, count), 0),
-        Read::Receive(a, at) => carry(
+    let next = p.next_line();
+    let t = next.telling(0, true);
+    match event {
+        LineEvent::Add(a, asn) => carry(
             next,
-            recording_call::hear_neighbour(st, table, out, t, a, &line[at..]),
+            recording_call::add_neighbour(p.state, out, t, a, asn),
+        ),
+        LineEvent::Remove(a) => carry(next, recording_call::remove_neighbour(p.state, out, t, a)),
+        LineEvent::Start(a) => carry(
+            next,
+            recording_call::start_neighbour(p.state, table, out, t, a),
+        ),
+        LineEvent::Stop(a) => carry(
+            next,
+            recording_call::stop_neighbour(p.state, table, out, t, a),
+        ),
+        LineEvent::Tick(address, ticks) => {
+            let next = Player {
+                address,
+                ticks,
+                passed: 0,
+                ..next
+            };
+            silent(next, 0)
+        }
+        LineEvent::Receive(a, digits) => carry(
+            next,
+            recording_call::hear_neighbour(p.state, table, out, t, a, digits),
         ),
     }
 }
@@ -380,13 +323,16 @@ fn take_line(p: Player, line: &[u8], used: usize, table: &mut [u32], out: &mut [
     if is_setting(p.lines, line) {
         return take_setting(p, line, used, out);
     }
-    let read = recording_lines::event(line);
-    let st = p.state;
-    let refusal = event_answer(p.traced, st, read, table.len(), out.len());
-    if refusal != 0 {
-        return silent(p, refusal);
+    let Some(event) = recording_lines::event(line) else {
+        return skip_line(p, used, out);
+    };
+    if let Err(refusal) = check_event(p, event, table.len(), out.len()) {
+        return silent(p, u8::from(refusal));
     }
-    with_used(play_event(p, read, line, table, out), used)
+    Told {
+        used,
+        ..play_event(p, event, table, out)
+    }
 }
 
 // One of the ticks that are due.
@@ -396,16 +342,18 @@ fn make_tick(p: Player, table: &mut [u32], out: &mut [u8]) -> Told
     ensures table_after { table.new ≡ (given p table.old (call_checks (roomy out.old) p.state (length table.old)) (tick_step p table.old)).table }
     ensures out_after { out.new ≡ over (given p table.old (call_checks (roomy out.old) p.state (length table.old)) (tick_step p table.old)).text out.old }
 {
-    let st = p.state;
-    let refusal = lent_answer(st, table.len(), out.len());
-    if refusal != 0 {
-        return silent(p, refusal);
+    if let Err(refusal) = check_call(p.state, table.len(), out.len()) {
+        return silent(p, u8::from(refusal));
     }
-    let next = owe_ticks(p, p.address, p.ticks - 1);
-    let t = telling(p, p.passed, p.ticks == 1);
+    let next = Player {
+        ticks: p.ticks - 1,
+        passed: 0,
+        ..p
+    };
+    let t = p.telling(p.passed, p.ticks == 1);
     carry(
         next,
-        recording_call::tick_neighbour(st, table, out, t, p.address),
+        recording_call::tick_neighbour(p.state, table, out, t, p.address),
     )
 }
 
@@ -420,8 +368,6 @@ pub fn begin(traced: bool) -> Player
         net: 0,
         quiet: 0,
     };
-    let o = gateway_slots::fresh(settings);
-    let state = o.state;
     Player {
         lines: 0,
         held: 0,
@@ -429,7 +375,7 @@ pub fn begin(traced: bool) -> Player
         address: 0,
         ticks: 0,
         settings,
-        state,
+        state: gateway_slots::fresh(settings).state,
         traced,
         passed: 0,
     }
@@ -444,19 +390,26 @@ pub fn turn(p: Player, line: &mut [u8], table: &mut [u32], input: &[u8], out: &m
     ensures out_after { out.new ≡ over (turn_step (roomy out.old) p line.old table.old input.now).text out.old }
 {
     if p.broken {
-        return with_used(silent(p, 0), input.len());
+        return Told {
+            used: input.len(),
+            ..silent(p, 0)
+        };
     }
     if 0 < p.ticks {
         return make_tick(p, table, out);
     }
     if line.len() < 4118 {
-        return silent(p, 3);
+        return silent(p, u8::from(Refusal::ShortBuffer));
     }
     let mut whole = [0u8; 4118];
     let g = recording_gather::join_piece(&mut whole, line, p.held, input);
     if !g.ended {
         recording_gather::gather(line, p.held, input);
-        return with_used(silent(hold(p, g.held), 0), g.used);
+        let next = Player { held: g.held, ..p };
+        return Told {
+            used: g.used,
+            ..silent(next, 0)
+        };
     }
     take_line(
         p,
@@ -476,10 +429,10 @@ pub fn close(p: Player, out: &mut [u8]) -> Told
         return silent(p, 0);
     }
     if p.lines < 4 {
-        return give_up(p, 19, 0, out);
+        return give_up(p, u8::from(Refusal::BadLine), 0, out);
     }
     if 0 < p.held {
-        return skip_line(p, out);
+        return skip_line(p, 0, out);
     }
     silent(p, 0)
 }
@@ -489,14 +442,10 @@ pub fn finish(p: Player, table: &[u32], out: &mut [u8]) -> Told
     ensures value { result ≡ told_of (finish_step out.old p table.now) }
     ensures out_after { out.new ≡ over (finish_step out.old p table.now).text out.old }
 {
-    if p.broken {
+    if p.broken || p.lines < 4 {
         return silent(p, 0);
     }
-    if p.lines < 4 {
-        return silent(p, 0);
-    }
-    let st = p.state;
-    let o = listing::listing(st, table, out);
+    let o = listing::listing(p.state, table, out);
     Told {
         player: p,
         answer: o.answer,

@@ -69,10 +69,10 @@ fn read_on(
         return c;
     }
     match input.read(piece) {
-        Ok(got) => recording_course::given(c, true, got),
+        Ok(got) => recording_course::given(c, Some(got)),
         Err(error) => {
             fail(rt, name, error);
-            recording_course::given(c, false, 0)
+            recording_course::given(c, None)
         }
     }
 }
@@ -93,28 +93,22 @@ fn go_on(
     recording_course::advance(c, line, table, piece, &mut out[held..])
 }
 
-// Writes what is held, where that is due.
+// Writes what is held, where that is due, and says how much is held then.
 fn show_held(
     rt: &(impl Print + Eprint),
     status: &mut u8,
     c: Course,
     held: usize,
     out: &[u8],
-) -> Went
+) -> (Course, usize)
     requires held_in_bounds { held ≤ length out.now }
     requires in_bounds { 65536 ≤ length out.now }
-    ensures { result.written + 65536 ≤ length out.now }
+    ensures { result.1 + 65536 ≤ length out.now }
 {
     if !recording_course::is_due(c, out.len() - held) {
-        return Went {
-            course: c,
-            written: held,
-        };
+        return (c, held);
     }
-    Went {
-        course: recording_course::wrote(c, show(rt, status, out, held)),
-        written: 0,
-    }
+    (recording_course::wrote(c, show(rt, status, out, held)), 0)
 }
 
 // Step after step. Nothing says that an input ends, so they are counted, up to a number that no recording reaches.
@@ -139,10 +133,7 @@ fn play_all(
         }
         c = read_on(rt, c, input, name, piece);
         let w = go_on(c, held, line, table, piece, out);
-        c = w.course;
-        let left = show_held(rt, status, c, held + w.written, out);
-        c = left.course;
-        held = left.written;
+        (c, held) = show_held(rt, status, w.course, held + w.written, out);
     }
 }
 
@@ -169,11 +160,7 @@ fn play(rt: &(impl Print + Eprint), traced: bool, input: &mut impl Read, name: &
 
 // Whether the program was given an argument of this number.
 fn is_given(rt: &impl Env, number: usize) -> bool {
-    match rt.arg(number, &mut [0u8; 1]) {
-        Ok(_) => true,
-        Err(FillError::TooLong) => true,
-        Err(FillError::NotPresent) => false,
-    }
+    !matches!(rt.arg(number, &mut [0; 1]), Err(FillError::NotPresent))
 }
 
 // Plays the file that the argument names.

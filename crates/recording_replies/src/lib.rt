@@ -3,25 +3,26 @@
 
 ghost use Rattle.std.specs.Prelude.{◌≡◌, ◌+◌, ◌≤◌, length};
 ghost use Rattle.octets.specs.Buffer.{over};
-ghost use Rattle.octets.specs.Written.{Written};
+ghost use Rattle.text.specs.Writer.{Puts, HasRoom};
 ghost use Rattle.recording_replies.specs.Replies.{tx_text, replies_text};
 ghost use Rattle.recording_replies.specs.Seen.{seen_in};
 
 use gateway_state::Outcome;
+use text::{Address, Writer};
 
 // Writes a message that was sent as a line; nothing where none was.
-fn put_tx(out: &mut [u8], at: usize, address: u32, message: &[u8]) -> usize
-    requires { at + length (tx_text address message.now) ≤ length out.old }
-    ensures { Written (tx_text address message.now) at out.old out.new result }
+fn put_tx(out: &mut Writer<'_>, address: u32, message: &[u8])
+    requires { HasRoom out.old (tx_text address message.now) }
+    ensures { Puts (tx_text address message.now) out.old out.new }
 {
-    if message.len() == 0 {
-        return at;
+    if message.is_empty() {
+        return;
     }
-    let name = octets::put(out, at, b"tx=");
-    let slash = text::put_dotted(out, name, address);
-    let digits = octets::put(out, slash, b"/");
-    let end = text_values::put_hex(out, digits, message);
-    octets::put(out, end, b"\n")
+    out.put(b"tx=");
+    out.put(Address(address));
+    out.put(b"/");
+    text_values::put_hex(out, message);
+    out.put(b"\n");
 }
 
 // Writes the two messages of a reply at the front of out, and says how long the lines are.
@@ -32,6 +33,8 @@ pub fn put_replies(out: &mut [u8], o: Outcome, reply: &[u8], address: u32) -> us
 {
     let first = o.first as usize;
     let end = first + o.second as usize;
-    let next = put_tx(out, 0, address, &reply[..first]);
-    put_tx(out, next, address, &reply[first..end])
+    let mut writer = Writer::new(out);
+    put_tx(&mut writer, address, &reply[..first]);
+    put_tx(&mut writer, address, &reply[first..end]);
+    writer.end()
 }

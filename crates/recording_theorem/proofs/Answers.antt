@@ -13,8 +13,7 @@ use Rattle.neighbour.specs.declared.Settings.{Settings}
 use Rattle.neighbour.specs.Record.{with_quiet}
 use Rattle.gateway_state.specs.Formed.{state_formed}
 use Rattle.gateway_slots.specs.Calls.{fresh_of}
-use Rattle.text_values.specs.declared.Number.{Number}
-use Rattle.text_values.specs.declared.Number.TheVariants.{Bad, Is}
+use Rattle.std.specs.Prelude.{Option, Some, None}
 use Rattle.recording_lines.specs.Lines.{Event, bad, add, remove, start, stop, tick, rx, event_of, quiet_of}
 use Rattle.recording_lines.proofs.Events.{quiet_no_event}
 use Rattle.recording_gather.specs.Gathering.{gathered}
@@ -72,13 +71,13 @@ module _ (p : Player) (line table input : List ℕ) (t : TakesLine p line input)
         (on_false (is_setting p.lines whole) _ _ no ∙ ap (event_step p table) k)
 
   -- an event that asks for room is no setting
-  no_quiet : (e : Event) → event_of whole ≡ e → checks_room e ≡ true → quiet_of whole ≡ Bad
+  no_quiet : (e : Event) → event_of whole ≡ e → checks_room e ≡ true → quiet_of whole ≡ None
   unfolding checks_room
   no_quiet e k h = go (quiet_of whole) refl
     where
-      go : (value : Number) → quiet_of whole ≡ value → value ≡ Bad
-      go Bad q = refl
-      go (Is n) q = absurd (false≢true (ap checks_room (sym (quiet_no_event n whole q) ∙ k) ∙ h))
+      go : (value : Option ℕ) → quiet_of whole ≡ value → value ≡ None
+      go None q = refl
+      go (Some n) q = absurd (false≢true (ap checks_room (sym (quiet_no_event n whole q) ∙ k) ∙ h))
 
   an_event : (e : Event) → 4 ≤ p.lines → event_of whole ≡ e → checks_room e ≡ true → is_setting p.lines whole ≡ false
   an_event e late k h = go (eqb p.lines 4) refl

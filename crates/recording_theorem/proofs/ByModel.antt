@@ -19,8 +19,7 @@ use Rattle.neighbour.specs.declared.Settings.{Settings}
 use Rattle.neighbour.specs.Record.{with_quiet}
 use Rattle.gateway_slots.specs.Calls.{fresh_of}
 use Rattle.listing_lines.specs.Lines.{listing_text}
-use Rattle.text_values.specs.declared.Number.{Number}
-use Rattle.text_values.specs.declared.Number.TheVariants.{Bad, Is}
+use Rattle.std.specs.Prelude.{Option, Some, None}
 use Rattle.text_values.specs.Numbers.{when_number}
 use Rattle.recording_lines.specs.Lines.{Event, bad, add, remove, start, stop, tick, rx, own_as_of, own_of, capability_of, net_of, quiet_of}
 use Rattle.recording_lines.proofs.Events.{settings}
@@ -187,10 +186,10 @@ quiet_opens lines g [] e k = (e, k)
 quiet_opens lines g (unended line ∷ events) e k = (e, k)
 quiet_opens lines g (ended line ∷ events) e k = go (quiet_of line) (λ n q. settings.quiet.range n line q)
   where
-    go : (value : Number) → ((n : ℕ) → value ≡ Is n → n ≤ 1)
+    go : (value : Option ℕ) → ((n : ℕ) → value ≡ Some n → n ≤ 1)
         → Opens lines (when_number value (opened g 4 (ended line ∷ events)) (λ quiet. opened (with_quiet g quiet) 5 events))
-    go Bad small = (e, k)
-    go (Is n) small = (quiet_taken g n e (small n refl), omega (arith, k))
+    go None small = (e, k)
+    go (Some n) small = (quiet_taken g n e (small n refl), omega (arith, k))
 
 taken_opens : (lines : ℕ) (g : Settings) (rest : List RecordedLine) → 4 + length rest ≤ lines → Opens lines (taken_by g rest)
 unfolding taken_by Opens
@@ -199,10 +198,10 @@ taken_opens lines g rest k =
     (λ e. quiet_opens lines g rest (eqb-true (fresh_of g).answer 0 e) k) (λ e. refl)
 
 -- a value, or the end
-value_opens : (lines number : ℕ) (value : Number) (next : ℕ → Opening) → ((n : ℕ) → Opens lines (next n)) → Opens lines (when_number value (broken number) next)
+value_opens : (lines number : ℕ) (value : Option ℕ) (next : ℕ → Opening) → ((n : ℕ) → Opens lines (next n)) → Opens lines (when_number value (broken number) next)
 unfolding when_number Opens
-value_opens lines number Bad next h = refl
-value_opens lines number (Is n) next h = h n
+value_opens lines number None next h = refl
+value_opens lines number (Some n) next h = h n
 
 net_opens : (lines asn own capability : ℕ) (l : List RecordedLine) → 3 + length l ≤ lines → Opens lines (from_net asn own capability l)
 unfolding from_net Opens

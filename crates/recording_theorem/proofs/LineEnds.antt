@@ -14,8 +14,7 @@ use Rattle.neighbour.specs.declared.Settings.{Settings}
 use Rattle.neighbour.specs.Record.{with_quiet}
 use Rattle.gateway_state.specs.declared.Outcome.{Outcome}
 use Rattle.gateway_slots.specs.Calls.{fresh_of}
-use Rattle.text_values.specs.declared.Number.{Number}
-use Rattle.text_values.specs.declared.Number.TheVariants.{Bad, Is}
+use Rattle.std.specs.Prelude.{Option, Some, None}
 use Rattle.text_values.specs.Numbers.{when_number}
 use Rattle.recording_lines.specs.Lines.{Event, bad, add, remove, start, stop, tick, rx, event_of, own_as_of, own_of, capability_of, net_of, quiet_of}
 use Rattle.recording_lines.specs.Claims.{is_address, is_good, in_range}
@@ -103,10 +102,10 @@ module _ (p : Player) (l : List RecordedLine) (z : p.ticks ≡ 0) where
   module _ (f : p.broken ≡ false) where
     setting_follows : (set : Settings → ℕ → Settings) (next : ℕ → Opening) → one_more p.lines < 4
         → ((n : ℕ) → next n ≡ opening_from (one_more p.lines) (set p.settings n) l)
-        → (value : Number) → Follows (setting_step p empty_table value set) (opening_due p.traced (when_number value (broken (one_more p.lines)) next)) l
+        → (value : Option ℕ) → Follows (setting_step p empty_table value set) (opening_due p.traced (when_number value (broken (one_more p.lines)) next)) l
     unfolding setting_step when_number silent_step settled next_line saying
-    setting_follows set next k h Bad = broken_follows 19
-    setting_follows set next k h (Is n) =
+    setting_follows set next k h None = broken_follows 19
+    setting_follows set next k h (Some n) =
         record {
           kept = kept_early (settled (next_line p) (set p.settings n)) z (λ e g. absurd (omega (arith, k, g))) (λ e g. absurd (omega (arith, k, g)));
           none = refl;
@@ -162,15 +161,15 @@ module _ (p : Player) (l : List RecordedLine) (z : p.ticks ≡ 0) (f : p.broken 
           }
       go false e = net_broken fresh.answer
 
-  net_follows : (value : Number) → Follows (net_step p empty_table value)
+  net_follows : (value : Option ℕ) → Follows (net_step p empty_table value)
       (opening_due p.traced (when_number value (broken 4) (λ net. taken_by (with_net p.settings net) l))) l
   unfolding net_step when_number
-  net_follows Bad = net_broken 19
-  net_follows (Is net) = fresh_follows (with_net p.settings net)
+  net_follows None = net_broken 19
+  net_follows (Some net) = fresh_follows (with_net p.settings net)
 
 -- the fifth: fresh takes the settings with `quiet` too
 module _ (p : Player) (line : List ℕ) (l : List RecordedLine) (z : p.ticks ≡ 0) (f : p.broken ≡ false) (four : p.lines ≡ 4) (b : Started p) where
-  quiet_follows : (n : ℕ) → quiet_of line ≡ Is n
+  quiet_follows : (n : ℕ) → quiet_of line ≡ Some n
       → Follows (fresh_step p empty_table (with_quiet p.settings n)) (opening_due p.traced (from_quiet p.settings (ended line ∷ l))) l
   unfolding fresh_step from_quiet value_in when_number silent_step settled having next_line one_more saying
   quiet_follows n q =
@@ -315,7 +314,7 @@ no_setting lines line e = go (ltb lines 4) refl e
     go false h e = ltb-false lines 4 h
 
 module _ (p : Player) (table line : List ℕ) (l : List RecordedLine) (f : p.broken ≡ false) (z : p.ticks ≡ 0) (k : Kept p table) where
-  events_follow : 4 ≤ p.lines → is_setting p.lines (take 4118 line) ≡ false → (p.lines ≡ 4 → quiet_of line ≡ Bad)
+  events_follow : 4 ≤ p.lines → is_setting p.lines (take 4118 line) ≡ false → (p.lines ≡ 4 → quiet_of line ≡ None)
       → Follows (line_step p table (take 4118 line)) (remaining p table (ended line ∷ l)) l
   unfolding line_step event_in from_quiet value_in when_number
   events_follow late event unset =
@@ -332,17 +331,17 @@ module _ (p : Player) (table line : List ℕ) (l : List RecordedLine) (f : p.bro
     short : quiet_of (take 4118 line) ≡ quiet_of line
     short = number_short quiet_of (text "quiet=") decimal 1 settings.quiet line
 
-    fresh_again : (n : ℕ) → quiet_of line ≡ Is n → line_step p table (take 4118 line) ≡ fresh_step p table (with_quiet p.settings n)
+    fresh_again : (n : ℕ) → quiet_of line ≡ Some n → line_step p table (take 4118 line) ≡ fresh_step p table (with_quiet p.settings n)
     unfolding line_step
     fresh_again n q =
         let yes = sym (setting_quiet p.lines (take 4118 line) n (omega (arith, four)) four (short ∙ q)) in
         rw yes (head_quiet p table (take 4118 line) n four (short ∙ q))
 
-    fifth_follows : (value : Number) → quiet_of line ≡ value → Follows (line_step p table (take 4118 line)) (remaining p table (ended line ∷ l)) l
+    fifth_follows : (value : Option ℕ) → quiet_of line ≡ value → Follows (line_step p table (take 4118 line)) (remaining p table (ended line ∷ l)) l
     unfolding opening_from
-    fifth_follows Bad q =
+    fifth_follows None q =
         events_follow (omega (arith, four)) (sym (setting_none p.lines (take 4118 line) (omega (arith, four)) four (short ∙ q))) (λ _. q)
-    fifth_follows (Is n) q =
+    fifth_follows (Some n) q =
         let due : remaining p table (ended line ∷ l) ≡ opening_due p.traced (from_quiet p.settings (ended line ∷ l)) =
         remaining_early p table (ended line ∷ l) f (omega (arith, four)) ∙ ap (λ (n : ℕ). opening_due p.traced (opening_from n p.settings (ended line ∷ l))) four in
         rw (fresh_again n q, due, k.early (omega (arith, four))) (quiet_follows p line l z f four (k.started f four) n q)

@@ -8,8 +8,7 @@ use lib.Dec.{leb}
 use lib.ListN.{length, take}
 use lib.Seq.{take_all, length-take-le}
 use borrow.Author.Tests.{leb-true, leb-false}
-use Rattle.text_values.specs.declared.Number.{Number}
-use Rattle.text_values.specs.declared.Number.TheVariants.{Bad, Is}
+use Rattle.std.specs.Prelude.{Option, Some, None}
 use Rattle.recording_lines.specs.Lines.{Event, bad, add, remove, start, stop, tick, rx, event_of}
 use Rattle.recording_lines.specs.Claims.{is_good, Setting}
 use Rattle.recording_lines.proofs.Events.{events}
@@ -41,13 +40,13 @@ event_long line k = go (event_of line) (events.longest line)
 pub event_short : (line : List ℕ) → event_of (take 4118 line) ≡ event_of line
 event_short = read_short event_of bad event_long
 
-module _ (read : List ℕ → Number) (key : List ℕ) (value : ℕ → List ℕ) (most : ℕ) (s : Setting read key value most) where
-  number_long : (line : List ℕ) → 4117 < length line → read line ≡ Bad
+module _ (read : List ℕ → Option ℕ) (key : List ℕ) (value : ℕ → List ℕ) (most : ℕ) (s : Setting read key value most) where
+  number_long : (line : List ℕ) → 4117 < length line → read line ≡ None
   number_long line k = go (read line) (λ n. s.longest n line)
     where
-      go : (r : Number) → ((n : ℕ) → r ≡ Is n → length line ≤ 4117) → r ≡ Bad
-      go Bad h = refl
-      go (Is n) h = absurd (omega (arith, h n refl))
+      go : (r : Option ℕ) → ((n : ℕ) → r ≡ Some n → length line ≤ 4117) → r ≡ None
+      go None h = refl
+      go (Some n) h = absurd (omega (arith, h n refl))
 
   pub number_short : (line : List ℕ) → read (take 4118 line) ≡ read line
-  number_short = read_short read Bad number_long
+  number_short = read_short read None number_long

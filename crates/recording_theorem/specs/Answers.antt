@@ -3,7 +3,7 @@ use Rattle.std.specs.Prelude.{ℕ, ◌≤◌, ◌≡◌, Bool, true, false, List
 use Rattle.neighbour.specs.Record.{with_quiet}
 use Rattle.gateway_state.specs.Formed.{state_formed}
 use Rattle.gateway_slots.specs.Calls.{fresh_of}
-use Rattle.text_values.specs.declared.Number.TheVariants.{Is}
+use Rattle.std.specs.Prelude.{Option, Some, None}
 use Rattle.recording_lines.specs.Lines.{Event, bad, add, remove, start, stop, tick, rx, event_of, net_of, quiet_of}
 use Rattle.recording_gather.specs.Gathering.{gathered}
 use Rattle.model.specs.Model as M
@@ -39,11 +39,11 @@ pub record Answers (p : Player) (line table input : List ℕ) : Type 0 where
       → state_formed p.state ≡ true → length table ≡ 3072 → (turn_step false p line table input).answer ≡ 3
   -- fresh's own number, with room or without
   pub fresh :
-      (room : Bool) (net : ℕ) → p.lines ≡ 3 → net_of (ended_line p line input) ≡ Is net
+      (room : Bool) (net : ℕ) → p.lines ≡ 3 → net_of (ended_line p line input) ≡ Some net
       → (turn_step room p line table input).answer ≡ (fresh_of (with_net p.settings net)).answer
   -- and again with `quiet`
   pub fresh_quiet :
-      (room : Bool) (quiet : ℕ) → p.lines ≡ 4 → quiet_of (ended_line p line input) ≡ Is quiet
+      (room : Bool) (quiet : ℕ) → p.lines ≡ 4 → quiet_of (ended_line p line input) ≡ Some quiet
       → (turn_step room p line table input).answer ≡ (fresh_of (with_quiet p.settings quiet)).answer
   -- a call's own number, once all is lent
   pub own :

@@ -6,8 +6,7 @@ use Rattle.neighbour.specs.declared.Settings.{Settings}
 use Rattle.neighbour.specs.Record.{with_quiet}
 use Rattle.gateway_slots.specs.Calls.{fresh_of}
 use Rattle.listing_lines.specs.Lines.{listing_text}
-use Rattle.text_values.specs.declared.Number.{Number}
-use Rattle.text_values.specs.declared.Number.TheVariants.{Bad}
+use Rattle.std.specs.Prelude.{Option, Some, None}
 use Rattle.text_values.specs.Numbers.{when_number}
 use Rattle.recording_lines.specs.Lines.{Event, bad, add, remove, start, stop, tick, rx, event_of, own_as_of, own_of, capability_of, net_of, quiet_of}
 use Rattle.recording_bad_line.specs.BadLine.{bad_text}
@@ -37,9 +36,9 @@ unfoldable pub event_in : RecordedLine → Event
 event_in (ended line) = event_of line
 event_in (unended line) = bad
 
-unfoldable pub value_in : (List ℕ → Number) → RecordedLine → Number
+unfoldable pub value_in : (List ℕ → Option ℕ) → RecordedLine → Option ℕ
 value_in read (ended line) = read line
-value_in read (unended line) = Bad
+value_in read (unended line) = None
 
 -- ---- the settings: the first four lines, and a fifth
 

@@ -3,17 +3,15 @@
 
 ghost use Rattle.std.specs.Prelude.{◌≡◌, List, ℕ, ◌+◌, ◌≤◌, length};
 ghost use Rattle.octets.specs.Buffer.{over};
-ghost use Rattle.octets.specs.Written.{Written};
-ghost use Rattle.neighbour.specs.Record.{phase_number};
-ghost use Rattle.listing_lines.specs.Lines.{state_word, mode_word};
+ghost use Rattle.text.specs.Writer.{Puts, Room};
 ghost use Rattle.recording_trace.specs.Trace.{deed_word, slot_word, received_text, sent_text, slot_for, told_slot, record_numbers, front_text, record_text, messages_text, trace_text, is_unchanged, is_quiet_tick, is_tick, is_passed_over};
 ghost use Rattle.recording_trace.specs.Steps.{happened_in};
 
 use gateway_state::{Outcome, Slot, State};
-use neighbour::{Mode, Phase};
+use text::Writer;
 
 // Which event a call is.
-#[derive(Clone, Copy)]
+#[derive(Clone, Copy, Debug, PartialEq, Eq)]
 pub enum Deed {
     Add,
     Remove,
@@ -33,92 +31,64 @@ pub struct Telling {
     pub last: bool,
 }
 
-fn put_deed(out: &mut [u8], at: usize, deed: Deed) -> usize
-    requires { at + 6 ≤ length out.old }
-    ensures written { Written (deed_word deed) at out.old out.new result }
-    ensures upper_bound { result ≤ at + 6 }
+#[tactic(auto, unfolding(crate::specs::Trace::deed_word, text::specs::Text::text))]
+fn deed_word(deed: Deed) -> &'static [u8]
+    ensures word { result.now ≡ deed_word deed }
+    ensures upper_bound { length result.now ≤ 6 }
 {
     match deed {
-        Deed::Add => octets::put(out, at, b"add"),
-        Deed::Remove => octets::put(out, at, b"remove"),
-        Deed::Start => octets::put(out, at, b"start"),
-        Deed::Stop => octets::put(out, at, b"stop"),
-        Deed::Tick => octets::put(out, at, b"tick"),
-        Deed::Receive => octets::put(out, at, b"rx"),
+        Deed::Add => b"add",
+        Deed::Remove => b"remove",
+        Deed::Start => b"start",
+        Deed::Stop => b"stop",
+        Deed::Tick => b"tick",
+        Deed::Receive => b"rx",
     }
 }
 
-fn put_phase(out: &mut [u8], at: usize, phase: Phase) -> usize
-    requires { at + 11 ≤ length out.old }
-    ensures written { Written (state_word phase) at out.old out.new result }
-    ensures upper_bound { result ≤ at + 11 }
-{
-    match phase {
-        Phase::Idle => octets::put(out, at, b"idle"),
-        Phase::Acquisition => octets::put(out, at, b"acquisition"),
-        Phase::Down => octets::put(out, at, b"down"),
-        Phase::Up => octets::put(out, at, b"up"),
-        Phase::Cease => octets::put(out, at, b"cease"),
-    }
-}
-
-// A slot's state; of a free one none.
-fn put_state(out: &mut [u8], at: usize, slot: Slot) -> usize
-    requires { at + 11 ≤ length out.old }
-    ensures written { Written (slot_word slot) at out.old out.new result }
-    ensures upper_bound { result ≤ at + 11 }
+// The word of a slot's state; of a free one none.
+#[tactic(auto, unfolding(crate::specs::Trace::slot_word, text::specs::Text::text))]
+fn slot_word(slot: Slot) -> &'static [u8]
+    ensures { result.now ≡ slot_word slot }
 {
     if slot.address == 0 {
-        return octets::put(out, at, b"none");
+        return b"none";
     }
-    let n = slot.neighbour;
-    let phase = n.phase;
-    put_phase(out, at, phase)
-}
-
-fn put_mode(out: &mut [u8], at: usize, mode: Mode) -> usize
-    requires { at + 7 ≤ length out.old }
-    ensures written { Written (mode_word mode) at out.old out.new result }
-    ensures upper_bound { result ≤ at + 7 }
-{
-    match mode {
-        Mode::Unset => octets::put(out, at, b"none"),
-        Mode::Active => octets::put(out, at, b"active"),
-        Mode::Passive => octets::put(out, at, b"passive"),
-    }
+    listing_lines::state_word(slot.neighbour.phase)
 }
 
 // The message that was received, if the call is one.
-fn put_received(out: &mut [u8], at: usize, deed: Deed, net: u32, message: &[u8]) -> usize
+fn put_received(out: &mut Writer<'_>, deed: Deed, net: u32, message: &[u8])
     requires message_len_bound { length message.now ≤ 2049 }
-    requires at_in_bounds { at + 14110 ≤ length out.old }
-    ensures written { Written (received_text deed net message.now) at out.old out.new result }
-    ensures upper_bound { result ≤ at + 14110 }
+    requires room { Room out.old 14110 }
+    ensures written { Puts (received_text deed net message.now) out.old out.new }
+    ensures upper_bound { out.new.end ≤ out.old.end + 14110 }
 {
-    match deed {
-        Deed::Receive => recording_message::put_message(out, at, b" received=", net, message),
-        _ => at,
+    if let Deed::Receive = deed {
+        recording_message::put_message(out, b" received=", net, message);
     }
 }
 
 // A message that was sent, if there is one.
-fn put_sent(out: &mut [u8], at: usize, net: u32, message: &[u8]) -> usize
+fn put_sent(out: &mut Writer<'_>, net: u32, message: &[u8])
     requires message_len_bound { length message.now ≤ 2049 }
-    requires at_in_bounds { at + 14110 ≤ length out.old }
-    ensures written { Written (sent_text net message.now) at out.old out.new result }
-    ensures upper_bound { result ≤ at + 14110 }
+    requires room { Room out.old 14110 }
+    ensures written { Puts (sent_text net message.now) out.old out.new }
+    ensures upper_bound { out.new.end ≤ out.old.end + 14110 }
 {
-    if message.len() == 0 {
-        return at;
+    if !message.is_empty() {
+        recording_message::put_message(out, b" sent=", net, message);
     }
-    recording_message::put_message(out, at, b" sent=", net, message)
 }
 
 // The slot of the neighbour with this address, or a free one.
 fn slot_for(st: State, address: u32) -> Slot
     ensures { result ≡ slot_for st address }
 {
-    gateway_state::slot_at(st, gateway_state::slot_of(st, address))
+    match gateway_state::slot_of(st, address) {
+        Some(i) => st.slots[i],
+        None => gateway_state::free_slot(),
+    }
 }
 
 // What is told of: the slot that a call leaves, or, where it leaves none, the one that it found.
@@ -135,15 +105,13 @@ fn told_slot(found: Slot, left: Slot) -> Slot
 fn record_numbers(passed: u64, found: Slot, left: Slot, told: Slot) -> [u64; 17]
     ensures { result ≡ record_numbers passed found left told }
 {
-    let before = found.neighbour;
-    let after = left.neighbour;
     let n = told.neighbour;
     [
         passed,
         found.rows as u64,
         left.rows as u64,
-        before.register as u64,
-        after.register as u64,
+        found.neighbour.register as u64,
+        left.neighbour.register as u64,
         told.asn as u64,
         n.s as u64,
         n.r as u64,
@@ -160,59 +128,55 @@ fn record_numbers(passed: u64, found: Slot, left: Slot, told: Slot) -> [u64; 17]
 }
 
 // The line's front: its number, the neighbour, the event, the second and the answer.
-fn put_front(out: &mut [u8], line: u64, deed: Deed, address: u32, second: u64, answer: u8) -> usize
-    requires { 120 ≤ length out.old }
-    ensures written { Written (front_text line deed address second answer) 0 out.old out.new result }
-    ensures upper_bound { result ≤ 120 }
+fn put_front(out: &mut Writer<'_>, line: u64, deed: Deed, address: u32, second: u64, answer: u8)
+    requires { Room out.old 120 }
+    ensures written { Puts (front_text line deed address second answer) out.old out.new }
+    ensures upper_bound { out.new.end ≤ out.old.end + 120 }
 {
-    let number = recording_message::put_fields(out, 0, b"line=", &[line]);
-    let neighbour = recording_message::put_address(out, number, b" neighbour=", address);
-    let key = octets::put(out, neighbour, b" event=");
-    let event = put_deed(out, key, deed);
-    recording_message::put_fields(out, event, b" second= answer=", &[second, answer as u64])
+    recording_message::put_fields(out, b"line=", &[line]);
+    recording_message::put_address(out, b" neighbour=", address);
+    out.put(b" event=");
+    out.put(deed_word(deed));
+    recording_message::put_fields(out, b" second= answer=", &[second, answer as u64]);
 }
 
 // The neighbour's record: its state before and after, and the numbers.
-fn put_record(out: &mut [u8], at: usize, passed: u64, found: Slot, left: Slot) -> usize
-    requires { at + 520 ≤ length out.old }
-    ensures written { Written (record_text passed found left) at out.old out.new result }
-    ensures upper_bound { result ≤ at + 520 }
+fn put_record(out: &mut Writer<'_>, passed: u64, found: Slot, left: Slot)
+    requires { Room out.old 520 }
+    ensures written { Puts (record_text passed found left) out.old out.new }
+    ensures upper_bound { out.new.end ≤ out.old.end + 520 }
 {
     let told = told_slot(found, left);
-    let n = told.neighbour;
-    let mode = n.mode;
-    let first = octets::put(out, at, b" before=");
-    let before = put_state(out, first, found);
-    let second = octets::put(out, before, b" after=");
-    let after = put_state(out, second, left);
-    let third = octets::put(out, after, b" mode=");
-    let kind = put_mode(out, third, mode);
+    out.put(b" before=");
+    out.put(slot_word(found));
+    out.put(b" after=");
+    out.put(slot_word(left));
+    out.put(b" mode=");
+    out.put(listing_lines::mode_word(told.neighbour.mode));
     recording_message::put_fields(
         out,
-        kind,
         b" quiet= rowsbefore= rowsafter= registerbefore= registerafter= peer= S= R= T1= T2= t1= t2= t3= heard= cause= sincehello= sincepoll=",
         &record_numbers(passed, found, left, told),
-    )
+    );
 }
 
 // The messages of a call.
 fn put_messages(
-    out: &mut [u8],
-    at: usize,
+    out: &mut Writer<'_>,
     deed: Deed,
     net: u32,
     received: &[u8],
     first: &[u8],
     second: &[u8],
-) -> usize
+)
     requires received_len_bound { (length received.now ≤ 2049) × (length first.now ≤ 2049) × (length second.now ≤ 2049) }
-    requires at_in_bounds { at + 42330 ≤ length out.old }
-    ensures written { Written (messages_text deed net received.now first.now second.now) at out.old out.new result }
-    ensures upper_bound { result ≤ at + 42330 }
+    requires room { Room out.old 42330 }
+    ensures written { Puts (messages_text deed net received.now first.now second.now) out.old out.new }
+    ensures upper_bound { out.new.end ≤ out.old.end + 42330 }
 {
-    let heard = put_received(out, at, deed, net, received);
-    let one = put_sent(out, heard, net, first);
-    put_sent(out, one, net, second)
+    put_received(out, deed, net, received);
+    put_sent(out, net, first);
+    put_sent(out, net, second);
 }
 
 // Writes the line of a call at the front of out, and says how long it is.
@@ -231,59 +195,35 @@ pub fn put_trace(
     ensures value { result ≡ length (trace_text t (happened_in deed address received.now st o reply.now)) }
     ensures out_after { out.new ≡ over (trace_text t (happened_in deed address received.now st o reply.now)) out.old }
 {
-    let after = o.state;
     let found = slot_for(st, address);
-    let left = slot_for(after, address);
+    let left = slot_for(o.state, address);
     let told = told_slot(found, left);
-    let seconds = told.seconds;
-    let settings = st.settings;
+    let second = told.seconds.sum();
     let first = o.first as usize;
     let end = first + o.second as usize;
-    let front = put_front(
-        out,
-        t.line,
+    let mut writer = Writer::new(out);
+    put_front(&mut writer, t.line, deed, address, second, o.answer);
+    put_record(&mut writer, t.passed, found, left);
+    put_messages(
+        &mut writer,
         deed,
-        address,
-        neighbour_seconds::sum(seconds),
-        o.answer,
-    );
-    let record = put_record(out, front, t.passed, found, left);
-    let messages = put_messages(
-        out,
-        record,
-        deed,
-        settings.net,
+        st.settings.net,
         received,
         &reply[..first],
         &reply[first..end],
     );
-    octets::put(out, messages, b"\n")
-}
-
-fn phase_number(phase: Phase) -> u8
-    ensures { result ≡ phase_number phase }
-{
-    match phase {
-        Phase::Idle => 0,
-        Phase::Acquisition => 1,
-        Phase::Down => 2,
-        Phase::Up => 3,
-        Phase::Cease => 4,
-    }
+    writer.put(b"\n");
+    writer.end()
 }
 
 // Whether state, register and row count are the same.
 fn is_unchanged(found: Slot, left: Slot) -> bool
     ensures { result ≡ is_unchanged found left }
 {
-    let before = found.neighbour;
-    let after = left.neighbour;
-    let old = before.phase;
-    let new = after.phase;
-    if phase_number(old) != phase_number(new) {
+    if u8::from(found.neighbour.phase) != u8::from(left.neighbour.phase) {
         return false;
     }
-    if before.register != after.register {
+    if found.neighbour.register != left.neighbour.register {
         return false;
     }
     found.rows == left.rows
@@ -297,17 +237,14 @@ fn is_quiet_tick(deed: Deed, address: u32, st: State, o: Outcome, reply: &[u8]) 
     if o.first != 0 {
         return false;
     }
-    let after = o.state;
-    is_unchanged(slot_for(st, address), slot_for(after, address))
+    is_unchanged(slot_for(st, address), slot_for(o.state, address))
 }
 
+#[tactic(auto, unfolding(crate::specs::Trace::is_tick))]
 fn is_tick(deed: Deed) -> bool
     ensures { result ≡ is_tick deed }
 {
-    match deed {
-        Deed::Tick => true,
-        _ => false,
-    }
+    matches!(deed, Deed::Tick)
 }
 
 // Whether no line tells of a call: a quiet tick that is not its line's last.

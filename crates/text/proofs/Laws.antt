@@ -11,7 +11,7 @@ use lib.Dec.{ltb}
 use lib.ListN.{length, set, length-append}
 use Rattle.octets.specs.Written.{Written}
 use Rattle.octets.proofs.Storing.{written_one, written_append, Writing, start, room, turn, last}
-use Rattle.text.specs.Text.{text, digit, digits, decimal, dotted, line}
+use Rattle.text.specs.Text.{text, digit, digits, decimal, dotted}
 use Rattle.text.specs.Claims.{number_from, DecimalLaws, Lengths}
 use Rattle.text.specs.Steps.{before_dot}
 
@@ -193,31 +193,6 @@ module _ (a at : ℕ) (old : List ℕ) (h : at + length (dotted a) ≤ length ol
 
         pub quad_done : {new : List ℕ} {end : ℕ} → Written (decimal (a % 256)) k three new end → Written (dotted a) at old new end
         quad_done s = last from_fourth s
-
--- ---- what the three writers of lines ask
-
-module _ (name value : List ℕ) (at : ℕ) (old : List ℕ) (h : at + length (line name value) ≤ length old) where
-  from_name : Writing (line name value) at old (line name value) at old
-  from_name = start (line name value) at old h
-
-  pub name_room : at + length name ≤ length old
-  unfolding line
-  name_room = room from_name name (value ++ (10 ∷ [])) refl
-
-  module _ {mid : List ℕ} {i : ℕ} (p : Written name at old mid i) where
-    from_value : Writing (line name value) at old (value ++ (10 ∷ [])) i mid
-    unfolding line
-    from_value = turn from_name name (value ++ (10 ∷ [])) refl p
-
-    pub value_room : i + length value ≤ length mid
-    value_room = room from_value value (10 ∷ []) refl
-
-    module _ {new : List ℕ} {end : ℕ} (q : Written value i mid new end) where
-      pub end_room : end < length new
-      end_room = omega (arith, (turn from_value value (10 ∷ []) refl q).fits)
-
-      pub line_done : {out : List ℕ} {o : ℕ} → Written (10 ∷ []) end new out o → Written (line name value) at old out o
-      line_done r = last (turn from_value value (10 ∷ []) refl q) r
 
 -- ---- what put_before_dot asks
 

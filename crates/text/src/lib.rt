@@ -1,47 +1,147 @@
-// Text as octets: fixed words, decimal numbers and dotted quads, written into a lent buffer from an index on.
+// Text as octets: fixed words, decimal numbers and dotted quads, written one after the other into a lent buffer.
 #![tactic(auto)]
 
-ghost use Rattle.std.specs.Prelude.{◌≡◌, [], ◌∷◌, ◌+◌, ◌≤◌, ◌<◌, length};
+ghost use Rattle.std.specs.Prelude.{◌≡◌, ℕ, List, [], ◌∷◌, ◌+◌, ◌≤◌, ◌<◌, length};
 ghost use Rattle.octets.specs.Written.{Written};
 ghost use Rattle.text.specs.Text.{decimal, dotted, line};
 ghost use Rattle.text.specs.Steps.{before_dot};
+ghost use Rattle.text.specs.Writer.{Puts, HasRoom};
+
+// A lent buffer, and how far it is written.
+#[derive(Drop)]
+pub struct Writer<'a> {
+    out: &'a mut [u8],
+    end: usize,
+}
+
+// What can be written.
+pub trait Text {
+    ghost octets: { Self → List ℕ };
+
+    // Stores it from index `at` on, and says where it ends.
+    fn store(self, out: &mut [u8], at: usize) -> usize
+        requires { at + length (octets self) ≤ length out.old }
+        ensures { Written (octets self) at out.old out.new result };
+}
+
+impl Text for &[u8] {
+    ghost octets = { λ word. word.now };
+
+    fn store(self, out: &mut [u8], at: usize) -> usize {
+        octets::put(out, at, self)
+    }
+}
+
+impl<const N: usize> Text for &[u8; N] {
+    ghost octets = { λ word. word.now };
+
+    fn store(self, out: &mut [u8], at: usize) -> usize {
+        octets::put(out, at, self)
+    }
+}
+
+impl Text for u64 {
+    ghost octets = { decimal };
+
+    fn store(self, out: &mut [u8], at: usize) -> usize {
+        put_decimal(out, at, self)
+    }
+}
+
+impl Text for u32 {
+    ghost octets = { decimal };
+
+    fn store(self, out: &mut [u8], at: usize) -> usize {
+        put_decimal(out, at, u64::from(self))
+    }
+}
+
+// An address, written as a dotted quad.
+#[derive(Clone, Copy)]
+pub struct Address(pub u32);
+
+impl Text for Address {
+    ghost octets = { λ address. dotted address.0 };
+
+    fn store(self, out: &mut [u8], at: usize) -> usize {
+        put_dotted(out, at, u64::from(self.0))
+    }
+}
+
+impl<'a> Writer<'a> {
+    // Writes from the front on.
+    pub fn new(out: &'a mut [u8]) -> Writer<'a>
+        ensures begun { result.end ≡ 0 }
+        ensures same_reference { result.out.ghost_name ≡ out.entry.ghost_name }
+        ensures after { result.out.now ≡ out.old }
+    {
+        Writer { out, end: 0 }
+    }
+
+    // How many octets are written.
+    pub fn end(&self) -> usize
+        ensures { result ≡ self.now.end }
+    {
+        self.end
+    }
+
+    // Writes a value behind what is written.
+
+    pub fn put<T: Text>(&mut self, value: T)
+        requires { HasRoom self.old (T.octets value) }
+        ensures { Puts (T.octets value) self.old self.new }
+    {
+        self.end = value.store(self.out, self.end);
+    }
+
+    // Writes a line: a name with its sign, and a value.
+    #[tactic(auto, unfolding(crate::specs::Text::line))]
+    pub fn put_line<T: Text>(&mut self, name: &[u8], value: T)
+        requires { HasRoom self.old (line name.now (T.octets value)) }
+        ensures { Puts (line name.now (T.octets value)) self.old self.new }
+    {
+        let start = octets::put(self.out, self.end, name);
+        let end = value.store(self.out, start);
+        self.end = octets::put(self.out, end, b"\n");
+    }
+}
 
 // Writes a number of any length, the highest digit first.
-fn put_long(out: &mut [u8], at: usize, n: u32) -> usize
+fn put_long(out: &mut [u8], at: usize, n: u64) -> usize
     requires { at + length (decimal n) ≤ length out.old }
     ensures { Written (decimal n) at out.old out.new result }
 {
     if n < 10 {
-        out[at] = (48 + n) as u8;
+        out[at] = b'0' + n as u8;
         return at + 1;
     }
     let end = put_long(out, at, n / 10);
-    out[end] = (48 + n % 10) as u8;
+    out[end] = b'0' + (n % 10) as u8;
     end + 1
 }
 
 // Writes a number of at most three digits, as nearly all are: a digit a store, and no call.
-fn put_digits(out: &mut [u8], at: usize, n: u32) -> usize
+fn put_digits(out: &mut [u8], at: usize, n: u64) -> usize
     requires { (n < 1000) × (at + length (decimal n) ≤ length out.old) }
     ensures { Written (decimal n) at out.old out.new result }
 {
     if n < 10 {
-        out[at] = (48 + n) as u8;
+        out[at] = b'0' + n as u8;
         return at + 1;
     }
     if n < 100 {
-        out[at] = (48 + n / 10) as u8;
-        out[at + 1] = (48 + n % 10) as u8;
+        out[at] = b'0' + (n / 10) as u8;
+        out[at + 1] = b'0' + (n % 10) as u8;
         return at + 2;
     }
-    out[at] = (48 + n / 10 / 10) as u8;
-    out[at + 1] = (48 + n / 10 % 10) as u8;
-    out[at + 2] = (48 + n % 10) as u8;
+    out[at] = b'0' + (n / 10 / 10) as u8;
+    out[at + 1] = b'0' + (n / 10 % 10) as u8;
+    out[at + 2] = b'0' + (n % 10) as u8;
     at + 3
 }
 
 // Writes a number, the highest digit first.
-pub fn put_decimal(out: &mut [u8], at: usize, n: u32) -> usize
+fn put_decimal(out: &mut [u8], at: usize, n: u64) -> usize
     requires { at + length (decimal n) ≤ length out.old }
     ensures { Written (decimal n) at out.old out.new result }
 {
@@ -52,7 +152,7 @@ pub fn put_decimal(out: &mut [u8], at: usize, n: u32) -> usize
 }
 
 // Writes one of the first three numbers of a dotted quad, and the dot behind it.
-fn put_before_dot(out: &mut [u8], at: usize, n: u32) -> usize
+fn put_before_dot(out: &mut [u8], at: usize, n: u64) -> usize
     requires { at + length (before_dot n) ≤ length out.old }
     ensures { Written (before_dot n) at out.old out.new result }
 {
@@ -61,7 +161,7 @@ fn put_before_dot(out: &mut [u8], at: usize, n: u32) -> usize
 }
 
 // Writes an address as a dotted quad.
-pub fn put_dotted(out: &mut [u8], at: usize, address: u32) -> usize
+fn put_dotted(out: &mut [u8], at: usize, address: u64) -> usize
     requires { at + length (dotted address) ≤ length out.old }
     ensures { Written (dotted address) at out.old out.new result }
 {
@@ -69,43 +169,4 @@ pub fn put_dotted(out: &mut [u8], at: usize, address: u32) -> usize
     let second = put_before_dot(out, first, address / 65536 % 256);
     let third = put_before_dot(out, second, address / 256 % 256);
     put_decimal(out, third, address % 256)
-}
-
-// Ends a line.
-fn put_end(out: &mut [u8], at: usize) -> usize
-    requires { at < length out.old }
-    ensures { Written (10 ∷ []) at out.old out.new result }
-{
-    out[at] = 10;
-    at + 1
-}
-
-// Writes a line: a name with its sign, a word, and the end of the line.
-pub fn put_line_text(out: &mut [u8], at: usize, name: &[u8], value: &[u8]) -> usize
-    requires { at + length (line name.now value.now) ≤ length out.old }
-    ensures { Written (line name.now value.now) at out.old out.new result }
-{
-    let start = octets::put(out, at, name);
-    let end = octets::put(out, start, value);
-    put_end(out, end)
-}
-
-// The same with a number.
-pub fn put_line_decimal(out: &mut [u8], at: usize, name: &[u8], n: u32) -> usize
-    requires { at + length (line name.now (decimal n)) ≤ length out.old }
-    ensures { Written (line name.now (decimal n)) at out.old out.new result }
-{
-    let start = octets::put(out, at, name);
-    let end = put_decimal(out, start, n);
-    put_end(out, end)
-}
-
-// The same with an address.
-pub fn put_line_dotted(out: &mut [u8], at: usize, name: &[u8], address: u32) -> usize
-    requires { at + length (line name.now (dotted address)) ≤ length out.old }
-    ensures { Written (line name.now (dotted address)) at out.old out.new result }
-{
-    let start = octets::put(out, at, name);
-    let end = put_dotted(out, start, address);
-    put_end(out, end)
 }

@@ -14,23 +14,22 @@ use Rattle.checks.specs.Lists.{first, every}
 use Rattle.checks.proofs.Laws.{and_left, and_right, and_both, cond_elim}
 use Rattle.text.specs.Text.{text, digit, decimal, dotted}
 use Rattle.text.proofs.Laws.{decimal_one, decimal_more, decimal_elim, decimal_most, dotted_length}
-use Rattle.text_values.specs.declared.Number.{Number}
-use Rattle.text_values.specs.declared.Number.TheVariants.{Bad, Is}
+use Rattle.std.specs.Prelude.{Option, Some, None}
 use Rattle.text_values.specs.Places.{index_of}
 use Rattle.text_values.specs.Numbers.{when_number, is_digit, digits_of, leads_with_zero, decimal_of, dotted_from, dotted_of}
 use Rattle.text_values.specs.Hex.{hex_digit, hex_text, nibble, is_hex, hex_octets}
 use Rattle.text_values.specs.Claims.{Decimals, Addresses, Hexes, are_octets}
 
 -- text that is no number gives none
-pub never : {A : Type 0} (n : ℕ) → Bad ≡ Is n → A
+pub never : {A : Type 0} (n : ℕ) → None ≡ Some n → A
 never n e = let z : ◌≡◌ {A = ℕ} 0 1 = cc in absurd (omega arith)
 
 -- a choice that gives a number took its first branch
-chosen : (b : Bool) (x : Number) (n : ℕ) → cond b x Bad ≡ Is n → (b ≡ true) × (x ≡ Is n)
+chosen : (b : Bool) (x : Option ℕ) (n : ℕ) → cond b x None ≡ Some n → (b ≡ true) × (x ≡ Some n)
 chosen true x n e = (refl, e)
 chosen false x n e = never n e
 
-refused : (b : Bool) (x : Number) (n : ℕ) → cond b Bad x ≡ Is n → (b ≡ false) × (x ≡ Is n)
+refused : (b : Bool) (x : Option ℕ) (n : ℕ) → cond b None x ≡ Some n → (b ≡ false) × (x ≡ Some n)
 refused true x n e = never n e
 refused false x n e = (refl, e)
 
@@ -72,32 +71,32 @@ digits_turn : (limit n d : ℕ) (rest : List ℕ) → d < 10 → n * 10 + d ≤ 
 unfolding digits_of
 digits_turn limit n d rest h k = rw (digit_digit d h, digit_value d, le-leb (n * 10 + d) limit k)
 
-digits_last : (limit : ℕ) (l : List ℕ) (n m octet : ℕ) → digits_of limit n l ≡ Is m → digits_of limit n (l ++ (octet ∷ [])) ≡ digits_of limit m (octet ∷ [])
+digits_last : (limit : ℕ) (l : List ℕ) (n m octet : ℕ) → digits_of limit n l ≡ Some m → digits_of limit n (l ++ (octet ∷ [])) ≡ digits_of limit m (octet ∷ [])
 unfolding digits_of
 digits_last limit [] n m octet e = let q : n ≡ m = cc in ap (λ (k : ℕ). digits_of limit k (octet ∷ [])) q
 digits_last limit (d ∷ l) n m octet e =
     go (is_digit d && leb (n * 10 + (d - 48)) limit) (digits_last limit l (n * 10 + (d - 48)) m octet) e
   where
     go : (b : Bool)
-        → (digits_of limit (n * 10 + (d - 48)) l ≡ Is m → digits_of limit (n * 10 + (d - 48)) (l ++ (octet ∷ [])) ≡ digits_of limit m (octet ∷ []))
-        → cond b (digits_of limit (n * 10 + (d - 48)) l) Bad ≡ Is m
-        → cond b (digits_of limit (n * 10 + (d - 48)) (l ++ (octet ∷ []))) Bad ≡ digits_of limit m (octet ∷ [])
+        → (digits_of limit (n * 10 + (d - 48)) l ≡ Some m → digits_of limit (n * 10 + (d - 48)) (l ++ (octet ∷ [])) ≡ digits_of limit m (octet ∷ []))
+        → cond b (digits_of limit (n * 10 + (d - 48)) l) None ≡ Some m
+        → cond b (digits_of limit (n * 10 + (d - 48)) (l ++ (octet ∷ []))) None ≡ digits_of limit m (octet ∷ [])
     go true r e = r e
     go false r e = never m e
 
-digits_back : (limit n : ℕ) → n ≤ limit → digits_of limit 0 (decimal n) ≡ Is n
+digits_back : (limit n : ℕ) → n ≤ limit → digits_of limit 0 (decimal n) ≡ Some n
 unfolding digits_of
 digits_back limit n =
-    decimal_elim (λ n l. n ≤ limit → digits_of limit 0 l ≡ Is n) one more n
+    decimal_elim (λ n l. n ≤ limit → digits_of limit 0 l ≡ Some n) one more n
   where
-    one : (n : ℕ) → n < 10 → n ≤ limit → digits_of limit 0 (digit n ∷ []) ≡ Is n
-    one n h k = let e : 0 * 10 + n ≡ n = omega arith in digits_turn limit 0 n [] h (omega arith) ∙ ap Is e
+    one : (n : ℕ) → n < 10 → n ≤ limit → digits_of limit 0 (digit n ∷ []) ≡ Some n
+    one n h k = let e : 0 * 10 + n ≡ n = omega arith in digits_turn limit 0 n [] h (omega arith) ∙ ap Some e
 
-    more : (n : ℕ) (l : List ℕ) → 10 ≤ n → (n / 10 ≤ limit → digits_of limit 0 l ≡ Is (n / 10)) → n ≤ limit
-        → digits_of limit 0 (l ++ (digit (n % 10) ∷ [])) ≡ Is n
+    more : (n : ℕ) (l : List ℕ) → 10 ≤ n → (n / 10 ≤ limit → digits_of limit 0 l ≡ Some (n / 10)) → n ≤ limit
+        → digits_of limit 0 (l ++ (digit (n % 10) ∷ [])) ≡ Some n
     more n l h r k =
         let e : n / 10 * 10 + n % 10 ≡ n = omega arith in
-        digits_last limit l 0 (n / 10) (digit (n % 10)) (r (omega arith)) ∙ digits_turn limit (n / 10) (n % 10) [] (omega arith) (omega arith) ∙ ap Is e
+        digits_last limit l 0 (n / 10) (digit (n % 10)) (r (omega arith)) ∙ digits_turn limit (n / 10) (n % 10) [] (omega arith) (omega arith) ∙ ap Some e
 
 -- at least one digit, and the first is a zero in zero only
 some_digits : (n : ℕ) → (1 ≤ length (decimal n)) × (1 ≤ n → 49 ≤ get_or (decimal n) 0 0)
@@ -117,7 +116,7 @@ no_leading_zero (suc n) =
     let h = (some_digits (suc n)).1 (omega arith) in
     rw (ne_eqb (get_or (decimal (suc n)) 0 0) 48 (λ e. omega arith))
 
-decimal_back : (limit n : ℕ) → n ≤ limit → decimal_of limit (decimal n) ≡ Is n
+decimal_back : (limit n : ℕ) → n ≤ limit → decimal_of limit (decimal n) ≡ Some n
 unfolding decimal_of
 decimal_back limit n h =
     let k = (some_digits n).0 in
@@ -138,7 +137,7 @@ digits_step octet rest n h e =
 
 module _ (limit : ℕ) where
   -- behind a number the digits go on with it
-  digits_only : (rest : List ℕ) (n m : ℕ) → 1 ≤ n → n ≤ limit → digits_of limit n rest ≡ Is m → (decimal n ++ rest ≡ decimal m) × (m ≤ limit)
+  digits_only : (rest : List ℕ) (n m : ℕ) → 1 ≤ n → n ≤ limit → digits_of limit n rest ≡ Some m → (decimal n ++ rest ≡ decimal m) × (m ≤ limit)
   unfolding digits_of
   digits_only [] n m h k e = let q : n ≡ m = cc in (append-nil (decimal n) ∙ ap decimal q, omega arith)
   digits_only (octet ∷ rest) n m h k e =
@@ -149,13 +148,13 @@ module _ (limit : ℕ) where
       (digits_step octet rest n h digital ∙ r.0, r.1)
 
   -- a zero stands alone
-  zero_only : (rest : List ℕ) (n : ℕ) → leads_with_zero (48 ∷ rest) ≡ false → digits_of limit 0 rest ≡ Is n → (48 ∷ rest ≡ decimal n) × (n ≤ limit)
+  zero_only : (rest : List ℕ) (n : ℕ) → leads_with_zero (48 ∷ rest) ≡ false → digits_of limit 0 rest ≡ Some n → (48 ∷ rest ≡ decimal n) × (n ≤ limit)
   unfolding leads_with_zero digits_of digit
   zero_only [] n h e = let q : 0 ≡ n = cc in (sym (decimal_one 0 (omega arith)) ∙ ap decimal q, omega arith)
   zero_only (octet ∷ rest) n h e = absurd (omega (arith, ltb-false))
 
   -- another digit leads
-  lead_only : (octet : ℕ) (rest : List ℕ) (n : ℕ) → (octet ≡ 48 → ⊥) → is_digit octet ≡ true → octet - 48 ≤ limit → digits_of limit (octet - 48) rest ≡ Is n
+  lead_only : (octet : ℕ) (rest : List ℕ) (n : ℕ) → (octet ≡ 48 → ⊥) → is_digit octet ≡ true → octet - 48 ≤ limit → digits_of limit (octet - 48) rest ≡ Some n
       → (octet ∷ rest ≡ decimal n) × (n ≤ limit)
   lead_only octet rest n other h k e =
       let least = digit_least octet h in
@@ -164,11 +163,11 @@ module _ (limit : ℕ) where
       let front : decimal (octet - 48) ≡ octet ∷ [] = decimal_one (octet - 48) (omega arith) ∙ ap (λ (o : ℕ). o ∷ []) (digit_again octet h) in
       (rw front at r.0, r.1)
 
-  decimal_only : (text : List ℕ) (n : ℕ) → decimal_of limit text ≡ Is n → (text ≡ decimal n) × (n ≤ limit)
+  decimal_only : (text : List ℕ) (n : ℕ) → decimal_of limit text ≡ Some n → (text ≡ decimal n) × (n ≤ limit)
   unfolding decimal_of digits_of
   decimal_only [] n e = never n e
   decimal_only (octet ∷ rest) n e =
-      let some = refused (eqb (suc (length rest)) 0) (cond (leads_with_zero (octet ∷ rest)) Bad (digits_of limit 0 (octet ∷ rest))) n e in
+      let some = refused (eqb (suc (length rest)) 0) (cond (leads_with_zero (octet ∷ rest)) None (digits_of limit 0 (octet ∷ rest))) n e in
       let lead = refused (leads_with_zero (octet ∷ rest)) (digits_of limit 0 (octet ∷ rest)) n some.1 in
       let c = chosen (is_digit octet && leb (0 * 10 + (octet - 48)) limit) (digits_of limit (0 * 10 + (octet - 48)) rest) n lead.1 in
       let digital = and_left (is_digit octet) (leb (0 * 10 + (octet - 48)) limit) c.0 in
@@ -177,7 +176,7 @@ module _ (limit : ℕ) where
       go (eqb octet 48) refl lead.0 digital (rw z at below) (rw z at c.1)
     where
       go : (b : Bool) → eqb octet 48 ≡ b → leads_with_zero (octet ∷ rest) ≡ false → is_digit octet ≡ true → octet - 48 ≤ limit
-          → digits_of limit (octet - 48) rest ≡ Is n → (octet ∷ rest ≡ decimal n) × (n ≤ limit)
+          → digits_of limit (octet - 48) rest ≡ Some n → (octet ∷ rest ≡ decimal n) × (n ≤ limit)
       go true q lead h k e =
           let o = eqb-true octet 48 q in
           rw o (zero_only rest n (rw o at lead) (rw o at e))
@@ -186,11 +185,11 @@ module _ (limit : ℕ) where
 pub decimals : Decimals
 decimals = record { back = decimal_back; only = λ limit n text e. decimal_only limit text n e }
 
-pub decimal_bound : (limit n : ℕ) (text : List ℕ) → decimal_of limit text ≡ Is n → n ≤ limit
+pub decimal_bound : (limit n : ℕ) (text : List ℕ) → decimal_of limit text ≡ Some n → n ≤ limit
 decimal_bound limit n text e = (decimal_only limit text n e).1
 
 -- five digits are enough below 100,000
-pub decimal_long5 : (limit n : ℕ) (text : List ℕ) → limit < 100000 → decimal_of limit text ≡ Is n → length text ≤ 5
+pub decimal_long5 : (limit n : ℕ) (text : List ℕ) → limit < 100000 → decimal_of limit text ≡ Some n → length text ≤ 5
 decimal_long5 limit n text h e =
     let r = decimal_only limit text n e in
     rw r.0 (decimal_most 4 n (omega arith))
@@ -259,7 +258,7 @@ quad_turn dots n d rest h =
       decimal_back 255 d h,
     )
 
-quad_last : (n d : ℕ) → d ≤ 255 → dotted_from 0 n (decimal d) ≡ Is (n * 256 + d)
+quad_last : (n d : ℕ) → d ≤ 255 → dotted_from 0 n (decimal d) ≡ Some (n * 256 + d)
 unfolding dotted_from when_number
 quad_last n d h = rw (decimal_back 255 d h)
 
@@ -273,14 +272,14 @@ quad_octets a h =
     let q : a / 256 ≡ a / 65536 * 256 + a / 256 % 256 = rw (← (div-div-eq-div-mul a 256 256)) (sym (div-add-mod' (a / 256) 256)) in
     omega arith
 
-dotted_back : (a : ℕ) → a < 4294967296 → dotted_of (dotted a) ≡ Is a
+dotted_back : (a : ℕ) → a < 4294967296 → dotted_of (dotted a) ≡ Some a
 unfolding dotted_of dotted text
 dotted_back a h =
     let w = a / 16777216 % 256 in
     let x = a / 65536 % 256 in
     let y = a / 256 % 256 in
     quad_turn 2 0 w _ (omega arith) ∙ quad_turn 1 (0 * 256 + w) x _ (omega arith) ∙ quad_turn 0 ((0 * 256 + w) * 256 + x) y _ (omega arith)
-    ∙ quad_last (((0 * 256 + w) * 256 + x) * 256 + y) (a % 256) (omega arith) ∙ ap Is (quad_octets a h)
+    ∙ quad_last (((0 * 256 + w) * 256 + x) * 256 + y) (a % 256) (omega arith) ∙ ap Some (quad_octets a h)
 
 -- ---- and nothing else is
 
@@ -294,18 +293,18 @@ record Octet (dots n a : ℕ) (text : List ℕ) : Type 0 where
   rest : List ℕ
   small : number ≤ 255
   same : text ≡ behind number rest
-  goes : dotted_from dots (n * 256 + number) rest ≡ Is a
+  goes : dotted_from dots (n * 256 + number) rest ≡ Some a
 
-quad_only : (dots n a : ℕ) (text : List ℕ) → dotted_from (suc dots) n text ≡ Is a → Octet dots n a text
+quad_only : (dots n a : ℕ) (text : List ℕ) → dotted_from (suc dots) n text ≡ Some a → Octet dots n a text
 unfolding dotted_from when_number
 quad_only dots n a text e =
     let c = chosen (ltb (index_of 46 text) (length text)) _ a e in
     go (decimal_of 255 (take (index_of 46 text) text)) refl (ltb-true (index_of 46 text) (length text) c.0) c.1
   where
-    go : (x : Number) → decimal_of 255 (take (index_of 46 text) text) ≡ x → index_of 46 text < length text
-        → when_number x Bad (λ octet. dotted_from dots (n * 256 + octet) (drop (suc (index_of 46 text)) text)) ≡ Is a → Octet dots n a text
-    go Bad q h e = never a e
-    go (Is d) q h e =
+    go : (x : Option ℕ) → decimal_of 255 (take (index_of 46 text) text) ≡ x → index_of 46 text < length text
+        → when_number x None (λ octet. dotted_from dots (n * 256 + octet) (drop (suc (index_of 46 text)) text)) ≡ Some a → Octet dots n a text
+    go None q h e = never a e
+    go (Some d) q h e =
         let r = decimal_only 255 (take (index_of 46 text) text) d q in
         record {
           number = d;
@@ -322,13 +321,13 @@ record Last (n a : ℕ) (text : List ℕ) : Type 0 where
   same : text ≡ decimal number
   ends : n * 256 + number ≡ a
 
-quad_end : (n a : ℕ) (text : List ℕ) → dotted_from 0 n text ≡ Is a → Last n a text
+quad_end : (n a : ℕ) (text : List ℕ) → dotted_from 0 n text ≡ Some a → Last n a text
 unfolding dotted_from when_number
 quad_end n a text e = go (decimal_of 255 text) refl e
   where
-    go : (x : Number) → decimal_of 255 text ≡ x → when_number x Bad (λ octet. Is (n * 256 + octet)) ≡ Is a → Last n a text
-    go Bad q e = never a e
-    go (Is d) q e = let r = decimal_only 255 text d q in record { number = d; small = r.1; same = r.0; ends = cc }
+    go : (x : Option ℕ) → decimal_of 255 text ≡ x → when_number x None (λ octet. Some (n * 256 + octet)) ≡ Some a → Last n a text
+    go None q e = never a e
+    go (Some d) q e = let r = decimal_only 255 text d q in record { number = d; small = r.1; same = r.0; ends = cc }
 
 dotted_quad : (w x y z : ℕ) → w ≤ 255 → x ≤ 255 → y ≤ 255 → z ≤ 255
     → behind w (behind x (behind y (decimal z))) ≡ dotted (quad w x y z)
@@ -347,7 +346,7 @@ quad_joined a text f g h l =
     let parts = f.same ∙ ap (behind f.number) (g.same ∙ ap (behind g.number) (h.same ∙ ap (behind h.number) l.same)) in
     (parts ∙ dotted_quad f.number g.number h.number l.number f.small g.small h.small l.small ∙ ap dotted l.ends, omega arith)
 
-dotted_only : (a : ℕ) (text : List ℕ) → dotted_of text ≡ Is a → (text ≡ dotted a) × (a < 4294967296)
+dotted_only : (a : ℕ) (text : List ℕ) → dotted_of text ≡ Some a → (text ≡ dotted a) × (a < 4294967296)
 unfolding dotted_of
 dotted_only a text e =
     let f = quad_only 2 0 a text e in
@@ -358,7 +357,7 @@ dotted_only a text e =
 pub addresses : Addresses
 addresses = record { back = dotted_back; only = dotted_only }
 
-pub dotted_long : (a : ℕ) (text : List ℕ) → dotted_of text ≡ Is a → length text ≤ 15
+pub dotted_long : (a : ℕ) (text : List ℕ) → dotted_of text ≡ Some a → length text ≤ 15
 dotted_long a text e = rw (dotted_only a text e).0 (dotted_length a)
 
 -- 47 is a slash, which no address has

@@ -1,20 +1,19 @@
 -- What is written reads back the same, and nothing else reads: one text for each number, each address and each list of octets. The proofs are in proofs/.
-use Rattle.std.specs.Prelude.{ℕ, ◌*◌, ◌≤◌, ◌<◌, ◌≡◌, true, List, length, ltb}
+use Rattle.std.specs.Prelude.{ℕ, ◌*◌, ◌≤◌, ◌<◌, ◌≡◌, true, List, length, ltb, Some}
 use Rattle.checks.specs.Lists.{every}
 use Rattle.text.specs.Text.{decimal, dotted}
-use Rattle.text_values.specs.declared.Number.TheVariants.{Is}
 use Rattle.text_values.specs.Numbers.{decimal_of, dotted_of}
 use Rattle.text_values.specs.Hex.{hex_text, is_hex, hex_octets}
 
 -- numbers in decimal
 pub record Decimals : Type 0 where
-  pub back : (limit n : ℕ) → n ≤ limit → decimal_of limit (decimal n) ≡ Is n
-  pub only : (limit n : ℕ) (text : List ℕ) → decimal_of limit text ≡ Is n → (text ≡ decimal n) × (n ≤ limit)
+  pub back : (limit n : ℕ) → n ≤ limit → decimal_of limit (decimal n) ≡ Some n
+  pub only : (limit n : ℕ) (text : List ℕ) → decimal_of limit text ≡ Some n → (text ≡ decimal n) × (n ≤ limit)
 
 -- addresses as dotted quads
 pub record Addresses : Type 0 where
-  pub back : (a : ℕ) → a < 4294967296 → dotted_of (dotted a) ≡ Is a
-  pub only : (a : ℕ) (text : List ℕ) → dotted_of text ≡ Is a → (text ≡ dotted a) × (a < 4294967296)
+  pub back : (a : ℕ) → a < 4294967296 → dotted_of (dotted a) ≡ Some a
+  pub only : (a : ℕ) (text : List ℕ) → dotted_of text ≡ Some a → (text ≡ dotted a) × (a < 4294967296)
 
 -- octets in hex
 abbrev pub are_octets : List ℕ → Type 0

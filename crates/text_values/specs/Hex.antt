@@ -1,5 +1,5 @@
 -- Octets as hex. 02: "Hex is capitals".
-use Rattle.std.specs.Prelude.{ℕ, ◌+◌, ◌-◌, ◌*◌, ◌/◌, ◌%◌, Bool, true, false, cond, ◌&&◌, List, [], ◌∷◌, leb, ltb}
+use Rattle.std.specs.Prelude.{ℕ, ◌+◌, ◌-◌, ◌*◌, ◌/◌, ◌%◌, Bool, true, false, cond, ◌&&◌, List, [], ◌∷◌, leb, ltb, Option, Some, None}
 
 -- 0 to 15 as a digit: 0 to 9, then A to F
 unfoldable pub hex_digit : ℕ → ℕ
@@ -14,6 +14,10 @@ hex_text (octet ∷ rest) = hex_digit (octet / 16) ∷ hex_digit (octet % 16) �
 unfoldable pub nibble : ℕ → ℕ
 nibble digit =
     cond (leb 48 digit && leb digit 57) (digit - 48) (cond (leb 65 digit && leb digit 70) (digit - 55) 16)
+
+-- the number that a digit is, if it is one
+abbrev pub digit_number : ℕ → Option ℕ
+digit_number digit = cond (ltb (nibble digit) 16) (Some (nibble digit)) None
 
 -- whole octets, in capital digits
 unfoldable pub is_hex : List ℕ → Bool

@@ -1,147 +1,92 @@
 // Values read from text: decimal numbers, dotted quads and octets in hex; and octets written in hex.
 #![tactic(auto)]
 
-ghost use Rattle.std.specs.Prelude.{◌≡◌, true, ◌+◌, ◌≤◌, ◌<◌, length};
+ghost use Rattle.std.specs.Prelude.{◌≡◌, true, ◌+◌, ◌≤◌, ◌<◌, length, MatchOption};
 ghost use Rattle.octets.specs.Buffer.{over};
-ghost use Rattle.octets.specs.Written.{Written};
+ghost use Rattle.text.specs.Writer.{Puts, HasRoom};
 ghost use Rattle.text_values.specs.Numbers.{digits_of, decimal_of, dotted_of};
-ghost use Rattle.text_values.specs.Hex.{nibble, is_hex, hex_octets, hex_digit, hex_text};
-ghost use Rattle.text_values.specs.Places.{index_of, starts_with};
+ghost use Rattle.text_values.specs.Hex.{digit_number, is_hex, hex_octets, hex_digit, hex_text};
+ghost use Rattle.text_values.specs.Places.{place_of, no_place, IsCut};
 
-// What was read: a number, or text that is none.
-#[derive(Clone, Copy)]
-pub enum Number {
-    Bad,
-    Is(u32),
+use text::Writer;
+
+// The index of the first such octet.
+pub fn index_of(octets: &[u8], octet: u8) -> Option<usize>
+    ensures { result ≡ place_of octet octets.now }
+{
+    octets.iter().position(|o| *o == octet)
 }
 
-// The index of the first such octet, or the length.
-pub fn index_of(octets: &[u8], octet: u8) -> usize
-    ensures { result ≡ index_of octet octets.now }
+// What stands before the first such octet, and what behind it.
+pub fn split_once(text: &[u8], octet: u8) -> Option<(&[u8], &[u8])>
+    ensures { MatchOption result (no_place octet text.now ≡ true) (λ parts. IsCut octet text.now parts.0.now parts.1.now) }
 {
-    let mut at = 0;
-    while at < octets.len() {
-        if octets[at] == octet {
-            return at;
-        }
-        at += 1;
-    }
-    at
-}
-
-// Whether the octets begin with these.
-pub fn starts_with(octets: &[u8], front: &[u8]) -> bool
-    ensures { result ≡ starts_with front.now octets.now }
-{
-    if octets.len() < front.len() {
-        return false;
-    }
-    let mut i = 0;
-    while i < front.len() {
-        if octets[i] != front[i] {
-            return false;
-        }
-        i += 1;
-    }
-    true
+    let at = index_of(text, octet)?;
+    Some((&text[..at], &text[at + 1..]))
 }
 
 // Digits to the end, none of the numbers on the way above the limit.
-fn read_digits(text: &[u8], limit: u32) -> Number
+fn read_digits(text: &[u8], limit: u32) -> Option<u32>
     ensures { result ≡ digits_of limit 0 text.now }
 {
     let mut n = 0u64;
-    let mut rest = text;
-    while 0 < rest.len() {
-        let octet = rest[0];
-        if octet < 48 {
-            return Number::Bad;
+    for digit in text {
+        if !digit.is_ascii_digit() {
+            return None;
         }
-        if 57 < octet {
-            return Number::Bad;
+        n = n * 10 + u64::from(*digit - b'0');
+        if u64::from(limit) < n {
+            return None;
         }
-        n = n * 10 + (octet as u64 - 48);
-        if (limit as u64) < n {
-            return Number::Bad;
-        }
-        rest = &rest[1..];
     }
-    Number::Is(n as u32)
+    Some(n as u32)
 }
 
 // A number up to this limit, in decimal without leading zeros.
-pub fn read_decimal(text: &[u8], limit: u32) -> Number
+#[tactic(auto, unfolding(crate::specs::Numbers::decimal_of, crate::specs::Numbers::leads_with_zero))]
+pub fn read_decimal(text: &[u8], limit: u32) -> Option<u32>
     ensures { result ≡ decimal_of limit text.now }
 {
-    if text.len() == 0 {
-        return Number::Bad;
+    if text.is_empty() {
+        return None;
     }
-    if text[0] == 48 {
-        if 1 < text.len() {
-            return Number::Bad;
-        }
+    if text[0] == b'0' && 1 < text.len() {
+        return None;
     }
     read_digits(text, limit)
 }
 
 // An address: four numbers up to 255 with dots between them.
-pub fn read_dotted(text: &[u8]) -> Number
+pub fn read_dotted(text: &[u8]) -> Option<u32>
     ensures { result ≡ dotted_of text.now }
 {
-    let mut n = 0u32;
-    let mut dots = 3u8;
+    let mut n = 0;
     let mut rest = text;
-    while 0 < dots {
-        let dot = index_of(rest, 46);
-        if rest.len() <= dot {
-            return Number::Bad;
-        }
-        let Number::Is(octet) = read_decimal(&rest[..dot], 255) else {
-            return Number::Bad;
-        };
-        n = n * 256 + octet;
-        let next = dot + 1;
-        rest = &rest[next..];
-        dots -= 1;
+    for _ in 0..3u8 {
+        let (octet, behind) = split_once(rest, b'.')?;
+        n = n * 256 + read_decimal(octet, 255)?;
+        rest = behind;
     }
-    let Number::Is(octet) = read_decimal(rest, 255) else {
-        return Number::Bad;
-    };
-    Number::Is(n * 256 + octet)
+    Some(n * 256 + read_decimal(rest, 255)?)
 }
 
-// The number that a capital hex digit is, and 16 for any other octet.
-fn digit_value(digit: u8) -> u8
-    ensures { result ≡ nibble digit }
+// The number that a capital hex digit is.
+#[tactic(auto, unfolding(crate::specs::Hex::nibble))]
+fn digit_value(digit: u8) -> Option<u8>
+    ensures { result ≡ digit_number digit }
 {
-    if 48 <= digit {
-        if digit <= 57 {
-            return digit - 48;
-        }
+    match digit {
+        b'0'..=b'9' => Some(digit - b'0'),
+        b'A'..=b'F' => Some(digit - b'A' + 10),
+        _ => None,
     }
-    if 65 <= digit {
-        if digit <= 70 {
-            return digit - 55;
-        }
-    }
-    16
 }
 
 // Whether the text is whole octets in capital hex.
 pub fn is_hex(text: &[u8]) -> bool
     ensures { result ≡ is_hex text.now }
 {
-    let mut rest = text;
-    while 1 < rest.len() {
-        if 16 <= digit_value(rest[0]) {
-            return false;
-        }
-        if 16 <= digit_value(rest[1]) {
-            return false;
-        }
-        rest = &rest[2..];
-    }
-    rest.len() == 0
+    text.len() % 2 == 0 && text.iter().all(|digit| digit_value(*digit).is_some())
 }
 
 // Lays the octets that the text says over the front of out, and says how many.
@@ -150,39 +95,31 @@ pub fn read_hex(out: &mut [u8], text: &[u8]) -> usize
     ensures value { result ≡ length (hex_octets text.now) }
     ensures out_after { out.new ≡ over (hex_octets text.now) out.old }
 {
-    let mut i = 0;
-    let mut rest = text;
-    while 1 < rest.len() {
-        out[i] = digit_value(rest[0]) * 16 + digit_value(rest[1]);
-        i += 1;
-        rest = &rest[2..];
+    // A loop over chunks of two would index as much: both digits, and the place of their octet.
+    let size = text.len() / 2;
+    for i in 0..size {
+        let high = digit_value(text[2 * i]).unwrap();
+        let low = digit_value(text[2 * i + 1]).unwrap();
+        out[i] = high * 16 + low;
     }
-    i
+    size
 }
 
 // A capital hex digit.
+#[tactic(auto, unfolding(crate::specs::Hex::hex_digit))]
 fn digit_of(n: u8) -> u8
     requires { n < 16 }
     ensures { result ≡ hex_digit n }
 {
-    if n < 10 {
-        return 48 + n;
-    }
-    55 + n
+    if n < 10 { b'0' + n } else { b'A' + (n - 10) }
 }
 
-// Writes octets in hex from index `at` on, and says where they end.
-pub fn put_hex(out: &mut [u8], at: usize, octets: &[u8]) -> usize
-    requires { at + length (hex_text octets.now) ≤ length out.old }
-    ensures { Written (hex_text octets.now) at out.old out.new result }
+// Writes octets in hex.
+pub fn put_hex(out: &mut Writer<'_>, octets: &[u8])
+    requires { HasRoom out.old (hex_text octets.now) }
+    ensures { Puts (hex_text octets.now) out.old out.new }
 {
-    let mut end = at;
-    let mut i = 0;
-    while i < octets.len() {
-        out[end] = digit_of(octets[i] / 16);
-        out[end + 1] = digit_of(octets[i] % 16);
-        end += 2;
-        i += 1;
+    for octet in octets {
+        out.put(&[digit_of(*octet / 16), digit_of(*octet % 16)]);
     }
-    end
 }

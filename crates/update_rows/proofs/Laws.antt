@@ -1,22 +1,29 @@
 -- Laws of storing rows: what is left to store, and what it leaves. Assumes nothing.
-use Prim.Native.Nat.{ℕ, zero, suc, ◌+◌, ◌*◌, ◌-◌, ◌^◌, ◌≤◌, ◌<◌}
+use Prim.Native.Nat.{ℕ, zero, suc, ◌+◌, ◌*◌, ◌-◌, ◌/◌, ◌%◌, ◌^◌, ◌≤◌, ◌<◌}
+use borrow.Rule.Slice.PartMut.{put_mid}
+use mir.Syntax.{w32}
+use Rattle.std.specs.Int.{swap_bytes, to_le_bytes}
 use native.Mathlib.Numerals.{add-one}
-use native.Mathlib.Nat.{add-zero, sub-zero}
+use native.Mathlib.Nat.{add-zero, zero-add}
 use native.Mathlib.Omega.{arith}
 use borrow.Author.Tests.{ltb-true, ltb-false, leb-false}
 use mathlib.Core.Path.{◌≡◌, refl, sym, ap, subst, ◌∙◌}
 use mathlib.Core.Bool.{Bool, true, false}
 use mathlib.Core.List.{List, [], ◌∷◌, ◌++◌, append-nil}
 use lib.Dec.{ltb, leb}
-use lib.ListN.{length, take, drop, get_or, set, replicate, length-append, length-drop, length-replicate, drop_of_length-le}
+use lib.ListN.{length, take, drop, get_or, set, replicate, length-set, length-append, length-drop, length-replicate, drop_of_length-le}
 use lib.Seq.{sets, length-sets, sets-eq, get_or-drop, drop-drop}
 use Rattle.checks.proofs.Laws.{part_from_lem, cond_elim}
-use Rattle.octets.proofs.Numbers.{sets_append}
+use Rattle.octets.specs.Numbers.{quad_of}
+use Rattle.octets.proofs.Numbers.{sets_append, sets_part}
+use Rattle.octets.proofs.Back.{quad_back, first_of, second_of, third_of, fourth_of}
+use Rattle.octets_words.specs.Words.{words_of}
+use Rattle.octets_words.proofs.Words.{words_length, words_short}
 use Rattle.nets.specs.Classes.{first_octet, width_of, net_width, host_span, good_net}
 use Rattle.nets.specs.Rows.{Row, flat}
 use Rattle.update_walk.specs.Body.{Got, got, stop, and_then, after, many, extended, big_endian, left_justified, net_row, group_rows, host_width, gateway_of, block_rows, both_sides, Walk, whole, broken, walked_blocks, update_of, accepted}
 use Rattle.update_walk.proofs.Flat.{group_rows_lem, block_rows_lem, both_sides_lem}
-use Rattle.update_walk.proofs.Laws.{never, Front, Sounds, front_fits, front_rest, many_next, many_stop, many_none, many_sound, block_sound, nonzero, width_small, class_a_lem, class_b, class_c, classless}
+use Rattle.update_walk.proofs.Laws.{never, many_next, many_stop, many_none, nonzero, width_small, class_a_lem, class_b, class_c, classless}
 use Rattle.update_walk.proofs.Turns.{Stepped, row_at}
 use Rattle.update_walk.proofs.Groups.{net_good}
 use Rattle.update_walk.proofs.Accepted.{Whole, whole_is, accepted_is}
@@ -53,12 +60,12 @@ pub sets_rows : (out : List ℕ) (o : ℕ) (xs ys : List Row) → sets out o (fl
 sets_rows out o xs ys =
     ap (sets out o) (flat_append xs ys) ∙ sets_append out o (flat xs) (flat ys) ∙ ap (λ (n : ℕ). sets (sets out o (flat xs)) (o + n) (flat ys)) (flat_length xs)
 
--- what storing leaves: the numbers, where the next goes, how many octets are left
+-- what storing leaves: the numbers, where the next goes, the octets that are left
 pub data Final : Type 0 where
-  fin : List ℕ → ℕ → ℕ → Final
+  fin : List ℕ → ℕ → List ℕ → Final
 
 unfoldable pub final : Got (List Row) → ℕ → List ℕ → Final
-final g o out = fin (sets out o (flat (got_rows g))) (o + 3 * length (got_rows g)) (length (got_rest g))
+final g o out = fin (sets out o (flat (got_rows g))) (o + 3 * length (got_rows g)) (got_rest g)
 
 -- the goal is what the rest leaves, f read k times from u and stored from o on
 pub record Doing (goal : Final) (size : ℕ) (f : List ℕ → Got (List Row)) (k : ℕ) (u : List ℕ) (o : ℕ) (out : List ℕ) : Type 0 where
@@ -71,7 +78,7 @@ pub start : (f : List ℕ → Got (List Row)) (k : ℕ) (u : List ℕ) (o : ℕ)
     → Doing (final (many f k u) o out) (length out) f k u o out
 start f k u o out r = record { good = r.good; fits = r.fits; long = refl; same = refl }
 
-pub stored : (g : Got (List Row)) (at : ℕ) (old new : List ℕ) (p : Put) → final g at old ≡ fin new p.at p.left → Stored g at old new p
+pub stored : (g : Got (List Row)) (at : ℕ) (old new : List ℕ) (p : Put) → final g at old ≡ fin new p.at p.rest.now → Stored g at old new p
 unfolding final
 stored g at old new p e = record { numbers = cc; next = cc; rest = cc }
 
@@ -109,65 +116,61 @@ stop_bad : {A : Type 0} (left : ℕ) → is_got (stop left) ≡ true → A
 unfolding is_got
 stop_bad left h = never h
 
-module _ {goal : Final} {size : ℕ} {f : List ℕ → Got (List Row)} {k : ℕ} {u : List ℕ} {o : ℕ} {out : List ℕ} (inv : Doing goal size f k u o out) (some : 0 < k) where
-  module _ (xs : List Row) (rest : List ℕ) (e : f u ≡ got xs rest) where
-    -- the turn's rows, then the others
-    more : is_got (after xs (many f (k - 1) rest)) ≡ true
-    more = sym (ap is_got (many_next f k u xs rest some e)) ∙ inv.good
+module _ {goal : Final} {size : ℕ} {f : List ℕ → Got (List Row)} {k : ℕ} {u : List ℕ} {o : ℕ} {out : List ℕ} (inv : Doing goal size f k u o out) where
+  module _ (some : 0 < k) where
+    module _ (xs : List Row) (rest : List ℕ) (e : f u ≡ got xs rest) where
+      -- the turn's rows, then the others
+      more : is_got (after xs (many f (k - 1) rest)) ≡ true
+      more = sym (ap is_got (many_next f k u xs rest some e)) ∙ inv.good
 
-    split : got_rows (many f k u) ≡ xs ++ got_rows (many f (k - 1) rest)
-    split = ap got_rows (many_next f k u xs rest some e) ∙ after_rows xs (many f (k - 1) rest) more
+      split : got_rows (many f k u) ≡ xs ++ got_rows (many f (k - 1) rest)
+      split = ap got_rows (many_next f k u xs rest some e) ∙ after_rows xs (many f (k - 1) rest) more
 
-    pub turn_got : (new : List ℕ) → new ≡ sets out o (flat xs) → Doing goal size f (k - 1) rest (o + 3 * length xs) new
-    turn_got new n =
-        let y = many f (k - 1) rest in
-        let l : length new ≡ length out = ap length n ∙ length-sets out o (flat xs) in
-        record {
-          good = after_good xs y more;
-          fits = omega (arith, inv.fits, ap length split, length-append xs (got_rows y));
-          long = l ∙ inv.long;
-          same = inv.same ∙ ap (λ (g : Got (List Row)). final g o out) (many_next f k u xs rest some e) ∙ after_final xs y o out more ∙ ap (final y (o + 3 * length xs)) (sym n);
-        }
+      turn_less : (new : List ℕ) → new ≡ sets out o (flat xs) → Doing goal size f (k - 1) rest (o + 3 * length xs) new
+      turn_less new n =
+          let y = many f (k - 1) rest in
+          let l : length new ≡ length out = ap length n ∙ length-sets out o (flat xs) in
+          record {
+            good = after_good xs y more;
+            fits = omega (arith, inv.fits, ap length split, length-append xs (got_rows y));
+            long = l ∙ inv.long;
+            same = inv.same ∙ ap (λ (g : Got (List Row)). final g o out) (many_next f k u xs rest some e) ∙ after_final xs y o out more ∙ ap (final y (o + 3 * length xs)) (sym n);
+          }
 
-    pub turn_fits : o + 3 * length xs ≤ length out
-    turn_fits = omega (arith, inv.fits, ap length split, length-append xs (got_rows (many f (k - 1) rest)))
+      pub turn_fits : o + 3 * length xs ≤ length out
+      turn_fits = omega (arith, inv.fits, ap length split, length-append xs (got_rows (many f (k - 1) rest)))
 
-  pub next : Next f u o out
-  next = go (f u) refl
-    where
-      go : (g : Got (List Row)) → f u ≡ g → Next f u o out
-      go (got xs rest) e = record { items = xs; rest = rest; is = e; fits = turn_fits xs rest e }
-      go (stop left) e = stop_bad left (sym (ap is_got (many_stop f k u left some e)) ∙ inv.good)
+    pub next : Next f u o out
+    next = go (f u) refl
+      where
+        go : (g : Got (List Row)) → f u ≡ g → Next f u o out
+        go (got xs rest) e = record { items = xs; rest = rest; is = e; fits = turn_fits xs rest e }
+        go (stop left) e = stop_bad left (sym (ap is_got (many_stop f k u left some e)) ∙ inv.good)
 
-  pub turn_room : Room (f u) o out
-  unfolding is_got got_rows
-  turn_room =
-      let n = next in
-      rw n.is (record { good = refl; fits = n.fits })
+    pub turn_room : Room (f u) o out
+    unfolding is_got got_rows
+    turn_room =
+        let n = next in
+        rw n.is (record { good = refl; fits = n.fits })
 
-  pub turn_stored : Sounds f → (new : List ℕ) (p : Put) → Stored (f u) o out new p
-      → Doing goal size f (k - 1) (take (length u - (length u - p.left)) (drop (length u - p.left) u)) p.at new
-  unfolding got_rows got_rest
-  turn_stored s new p w =
-      let n = next in
-      let l : p.left ≡ length n.rest = w.rest ∙ ap (λ (g : Got (List Row)). length (got_rest g)) n.is in
-      let a : p.at ≡ o + 3 * length n.items = w.next ∙ ap (λ (g : Got (List Row)). o + 3 * length (got_rows g)) n.is in
-      let v : new ≡ sets out o (flat n.items) = w.numbers ∙ ap (λ (g : Got (List Row)). sets out o (flat (got_rows g))) n.is in
-      rw (part_from_lem (length u - p.left) u, l, front_rest (rw n.is at (s u)), a) (turn_got n.items n.rest n.is new v)
+  module _ (j : ℕ) (d : k ≡ j + 1) where
+    pub turn_got : (xs : List Row) (rest : List ℕ) → f u ≡ got xs rest → (new : List ℕ) → new ≡ sets out o (flat xs) → Doing goal size f j rest (o + 3 * length xs) new
+    turn_got xs rest e new n =
+        let l : k - 1 ≡ j = omega arith in
+        rw l at (turn_less (omega arith) xs rest e new n)
 
-pub stored_left : {f : List ℕ → Got (List Row)} → Sounds f → {goal : Final} {size k : ℕ} {u : List ℕ} {o : ℕ} {out : List ℕ} → Doing goal size f k u o out → 0 < k
-    → (new : List ℕ) (p : Put) → Stored (f u) o out new p → p.left ≤ length u
-unfolding got_rest
-stored_left {f} s {goal} {size} {k} {u} {o} {out} inv some new p w =
-    let n = next inv some in
-    let l : p.left ≡ length n.rest = w.rest ∙ ap (λ (g : Got (List Row)). length (got_rest g)) n.is in
-    omega (arith, l, front_fits (rw n.is at (s u)))
+    pub turn_stored : (new : List ℕ) (p : Put) → Stored (f u) o out new p → Doing goal size f j p.rest.now p.at new
+    unfolding got_rows got_rest
+    turn_stored new p w =
+        let n = next (omega arith) in
+        let l : p.rest.now ≡ n.rest = w.rest ∙ ap got_rest n.is in
+        let a : p.at ≡ o + 3 * length n.items = w.next ∙ ap (λ (g : Got (List Row)). o + 3 * length (got_rows g)) n.is in
+        let v : new ≡ sets out o (flat n.items) = w.numbers ∙ ap (λ (g : Got (List Row)). sets out o (flat (got_rows g))) n.is in
+        rw (l, a) (turn_got n.items n.rest n.is new v)
 
-pub done : {goal : Final} {size : ℕ} {f : List ℕ → Got (List Row)} {k : ℕ} {u : List ℕ} {o : ℕ} {out : List ℕ}
-    → Doing goal size f k u o out → k ≤ 0 → goal ≡ fin out o (length u)
-unfolding final got_rows got_rest flat
-done {goal} {size} {f} {k} {u} {o} {out} inv h =
-    inv.same ∙ ap (λ (g : Got (List Row)). final g o out) (many_none f k u h) ∙ ap (λ (n : ℕ). fin out n (length u)) (add-zero o)
+  pub done : k ≤ 0 → goal ≡ fin out o u
+  unfolding final got_rows got_rest flat
+  done h = inv.same ∙ ap (λ (g : Got (List Row)). final g o out) (many_none f k u h) ∙ ap (λ (n : ℕ). fin out n u) (add-zero o)
 
 -- the number of the first octets, by their number: one octet more at a time
 digits_more : (n w : ℕ) (l : List ℕ) → w < length l → extended n (take (suc w) l) ≡ extended n (take w l) * 256 + get_or l w 0
@@ -189,17 +192,14 @@ module _ (l : List ℕ) where
 
 -- a host part by its width
 module _ (t : List ℕ) (host number : ℕ) (fits : host ≤ length t) where
-  abbrev HostIs : Type 0
-  HostIs = (number ≡ big_endian (take host t)) × (number < 256 ^ host)
+  pub host_three : host ≡ 3 → number ≡ quad_of 0 (get_or t 0 0) (get_or t 1 0) (get_or t 2 0) → number ≡ big_endian (take host t)
+  host_three e n = rw e (n ∙ omega arith ∙ sym (three_octets t (omega arith)))
 
-  pub host_three : host ≡ 3 → number ≡ (get_or t 0 0 * 256 + get_or t 1 0) * 256 + get_or t 2 0 → number < 16777216 → HostIs
-  host_three e n b = rw e (n ∙ sym (three_octets t (omega arith)), b)
+  pub host_two : host ≡ 2 → number ≡ quad_of 0 0 (get_or t 0 0) (get_or t 1 0) → number ≡ big_endian (take host t)
+  host_two e n = rw e (n ∙ omega arith ∙ sym (two_octets t (omega arith)))
 
-  pub host_two : host ≡ 2 → number ≡ get_or t 0 0 * 256 + get_or t 1 0 → number < 65536 → HostIs
-  host_two e n b = rw e (n ∙ sym (two_octets t (omega arith)), b)
-
-  pub host_one : host ≡ 1 → number ≡ get_or t 0 0 → number < 256 → HostIs
-  host_one e n b = rw e (n ∙ sym (one_octet t (omega arith)), b)
+  pub host_one : host ≡ 1 → number ≡ get_or t 0 0 → number ≡ big_endian (take host t)
+  host_one e n = rw e (n ∙ sym (one_octet t (omega arith)))
 
 -- a net that is read has a class: from 192 on it is C
 pub only_c : (first : ℕ) → 192 ≤ first → 0 < net_width first → 3 ≡ net_width first
@@ -223,23 +223,23 @@ module _ (t : List ℕ) (i : ℕ) (fits : i + net_width (get_or t i 0) ≤ lengt
   at_first : get_or (drop i t) 0 0 ≡ get_or t i 0
   at_first = at_front 0 ∙ ap (λ (n : ℕ). get_or t n 0) (add-zero i)
 
-  pub at_a : (number : ℕ) → number ≡ get_or t i 0 * 16777216 → get_or t i 0 < 128 → NetIs 1 number
+  pub at_a : (number : ℕ) → number ≡ quad_of (get_or t i 0) 0 0 0 → get_or t i 0 < 128 → NetIs 1 number
   unfolding left_justified host_span
   at_a number e h =
       let w = class_a_lem (get_or t i 0) h in
-      (w, rw (← w, one_octet (drop i t) (long 1 w), at_first) e)
+      (w, rw (← w, one_octet (drop i t) (long 1 w), at_first) (e ∙ omega arith))
 
-  pub at_b : (number : ℕ) → number ≡ (get_or t i 0 * 256 + get_or t (i + 1) 0) * 65536 → 128 ≤ get_or t i 0 → get_or t i 0 < 192 → NetIs 2 number
+  pub at_b : (number : ℕ) → number ≡ quad_of (get_or t i 0) (get_or t (i + 1) 0) 0 0 → 128 ≤ get_or t i 0 → get_or t i 0 < 192 → NetIs 2 number
   unfolding left_justified host_span
   at_b number e h k =
       let w = class_b (get_or t i 0) h k in
-      (w, rw (← w, two_octets (drop i t) (long 2 w), at_first, at_front 1) e)
+      (w, rw (← w, two_octets (drop i t) (long 2 w), at_first, at_front 1) (e ∙ omega arith))
 
-  pub at_c : (number : ℕ) → number ≡ ((get_or t i 0 * 256 + get_or t (i + 1) 0) * 256 + get_or t (i + 2) 0) * 256 → 192 ≤ get_or t i 0 → 0 < net_width (get_or t i 0) → NetIs 3 number
+  pub at_c : (number : ℕ) → number ≡ quad_of (get_or t i 0) (get_or t (i + 1) 0) (get_or t (i + 2) 0) 0 → 192 ≤ get_or t i 0 → 0 < net_width (get_or t i 0) → NetIs 3 number
   unfolding left_justified host_span
   at_c number e h k =
       let w = only_c (get_or t i 0) h k in
-      (w, rw (← w, three_octets (drop i t) (long 3 w), at_first, at_front 1, at_front 2) e)
+      (w, rw (← w, three_octets (drop i t) (long 3 w), at_first, at_front 1, at_front 2) (e ∙ omega arith))
 
 -- a turn that stores the net at i
 module _ (gateway third : ℕ) {goal : Final} {size k : ℕ} (t : List ℕ) (i : ℕ) {o : ℕ} {out : List ℕ} (inv : Doing goal size (net_row gateway third) k (drop i t) o out) (some : 0 < k) where
@@ -259,28 +259,135 @@ module _ (gateway third : ℕ) {goal : Final} {size k : ℕ} (t : List ℕ) (i :
   net_room = turn_fits inv some (row_at gateway third (drop i t) (net_width (get_or t i 0)) ∷ []) _ step.is
 
   pub turn_net : (w net : ℕ) (new : List ℕ) → w ≡ net_width (get_or t i 0) → net ≡ left_justified (net_width (get_or t i 0)) (drop i t)
-      → new ≡ sets out o (net ∷ gateway ∷ third ∷ []) → Doing goal size (net_row gateway third) (k - 1) (drop (i + w) t) (o + 3) new
+      → new ≡ sets out o (net ∷ gateway ∷ third ∷ []) → (j : ℕ) → k ≡ j + 1 → Doing goal size (net_row gateway third) j (drop (i + w) t) (o + 3) new
   unfolding flat
-  turn_net w net new e v n =
+  turn_net w net new e v n j d =
       rw (e, ← drop-drop (net_width (get_or t i 0)) i t)
-      (turn_got inv some (row_at gateway third (drop i t) (net_width (get_or t i 0)) ∷ []) (drop (net_width (get_or t i 0)) (drop i t)) step.is new
+      (turn_got inv j d (row_at gateway third (drop i t) (net_width (get_or t i 0)) ∷ []) (drop (net_width (get_or t i 0)) (drop i t)) step.is new
       (n ∙ ap (λ (m : ℕ). sets out o (m ∷ gateway ∷ third ∷ [])) v))
 
--- zeros to the end
-pub clear_turn : (out : List ℕ) (i n : ℕ) → i < n → sets out i (zeros (n - i)) ≡ sets (set out i 0) (i + 1) (zeros (n - (i + 1)))
-unfolding zeros
-clear_turn out i n h =
-    let a : n - i ≡ n - (i + 1) + 1 = omega arith in
-    ap (λ (m : ℕ). sets out i (replicate m 0)) (a ∙ add-one (n - (i + 1))) ∙ ap (λ (j : ℕ). sets (set out i 0) j (replicate (n - (i + 1)) 0)) (sym (add-one i))
+-- ---- a part of a slice, written anew
 
-pub clear_done : (out : List ℕ) (i n : ℕ) → n ≤ i → sets out i (zeros (n - i)) ≡ out
+-- what a part from here to the end is filled with
+pub filled : (part zeroed : List ℕ) (at : ℕ) → zeroed ≡ replicate (length (take (length part - at) (drop at part))) 0 → zeroed ≡ zeros (length part - at)
 unfolding zeros
-clear_done out i n h =
-    let a : n - i ≡ 0 = omega arith in
-    rw a
+filled part zeroed at e = e ∙ ap (λ (n : ℕ). replicate n 0) (ap length (part_from_lem at part) ∙ length-drop at part)
 
-pub clear_all : (old new : List ℕ) → new ≡ sets old 0 (zeros (length old - 0)) → new ≡ zeros (length old)
-clear_all old new e = e ∙ ap (λ (n : ℕ). sets old 0 (zeros n)) (sub-zero (length old)) ∙ sets_all old (zeros (length old)) (zeros_length (length old))
+-- zeros from here to the end
+pub part_cleared : (part zeroed : List ℕ) (at : ℕ) → at ≤ length part → zeroed ≡ zeros (length part - at)
+    → put_mid at (length part - at) part zeroed ≡ sets part at (zeros (length part - at))
+part_cleared part zeroed at h e =
+    sets_part part (zeros (length part - at)) zeroed at (length part - at) e (sym (zeros_length (length part - at))) (omega (arith, h, zeros_length (length part - at)))
+
+-- ---- octets stored, and the numbers that they make
+
+-- a number, from its octets turned round
+pub octets_turned : (n m : ℕ) → n < 4294967296 → m ≡ swap_bytes w32 n → quad_of (m % 256) (m / 256 % 256) (m / 65536 % 256) (m / 16777216 % 256) ≡ n
+octets_turned n m h e =
+    let a = n % 256 in
+    let b = n / 256 % 256 in
+    let c = n / 65536 % 256 in
+    let d = n / 16777216 % 256 in
+    let is : m ≡ quad_of a b c d = e ∙ omega arith in
+    let p : a < 256 = omega arith in
+    let q : b < 256 = omega arith in
+    let r : c < 256 = omega arith in
+    let s : d < 256 = omega arith in
+    rw (is, first_of a b c d p q r s, second_of a b c d p q r s, third_of a b c d p q r s, fourth_of a b c d p q r s) (quad_back n h)
+
+-- four octets stored are one number stored
+pub words_set : (at : ℕ) (l : List ℕ) (a b c d : ℕ) → words_of (sets l (at * 4) (a ∷ b ∷ c ∷ d ∷ [])) ≡ set (words_of l) at (quad_of a b c d)
+unfolding words_of
+words_set zero [] a b c d = refl
+words_set zero (x ∷ []) a b c d = refl
+words_set zero (x ∷ y ∷ []) a b c d = refl
+words_set zero (x ∷ y ∷ z ∷ []) a b c d = refl
+words_set zero (x ∷ y ∷ z ∷ w ∷ rest) a b c d = refl
+words_set (suc at) [] a b c d = refl
+words_set (suc at) (x ∷ []) a b c d = let e : suc at * 4 ≡ suc (suc (suc (suc (at * 4)))) = omega arith in rw e
+words_set (suc at) (x ∷ y ∷ []) a b c d = let e : suc at * 4 ≡ suc (suc (suc (suc (at * 4)))) = omega arith in rw e
+words_set (suc at) (x ∷ y ∷ z ∷ []) a b c d = let e : suc at * 4 ≡ suc (suc (suc (suc (at * 4)))) = omega arith in rw e
+words_set (suc at) (x ∷ y ∷ z ∷ w ∷ rest) a b c d =
+    let e : suc at * 4 ≡ suc (suc (suc (suc (at * 4)))) = omega arith in
+    rw e (ap (λ (r : List ℕ). quad_of x y z w ∷ r) (words_set at rest a b c d))
+
+-- a number stored, lowest octet of its turned octets first
+pub words_number : (part octets : List ℕ) (at n m k : ℕ) → k ≡ 4 → octets ≡ to_le_bytes w32 m → n < 4294967296 → m ≡ swap_bytes w32 n → at < length (words_of part)
+    → words_of (put_mid (at * 4) k part octets) ≡ set (words_of part) at n
+words_number part octets at n m k four o h e b =
+    ap words_of (sets_part part (to_le_bytes w32 m) octets (at * 4) k o four (omega (arith, b, words_length part)))
+    ∙ words_set at part (m % 256) (m / 256 % 256) (m / 65536 % 256) (m / 16777216 % 256)
+    ∙ ap (set (words_of part) at) (octets_turned n m h e)
+
+-- a number stored leaves as many
+pub set_kept : (old new : List ℕ) (at n : ℕ) → new ≡ set old at n → length new ≡ length old
+set_kept old new at n e = ap length e ∙ length-set old at n
+
+-- three numbers, one after the other
+pub row_set : (old a b new : List ℕ) (at net gateway third : ℕ) → a ≡ set old at net → b ≡ set a (at + 1) gateway → new ≡ set b (at + 2) third
+    → new ≡ sets old at (net ∷ gateway ∷ third ∷ [])
+row_set old a b new at net gateway third e f g =
+    let k : at + 2 ≡ suc (suc at) = omega arith in
+    rw (g, f, e, add-one, k)
+
+-- zeros
+words_zeros : (n at : ℕ) (l : List ℕ) → words_of (sets l (at * 4) (zeros (n * 4))) ≡ sets (words_of l) at (zeros n)
+unfolding zeros
+words_zeros zero at l = refl
+words_zeros (suc n) at l =
+    let e : suc n * 4 ≡ suc (suc (suc (suc (n * 4)))) = omega arith in
+    let f : at * 4 + 4 ≡ suc at * 4 = omega arith in
+    ap (λ (k : ℕ). words_of (sets l (at * 4) (zeros k))) e
+    ∙ ap words_of (sets_append l (at * 4) (0 ∷ 0 ∷ 0 ∷ 0 ∷ []) (zeros (n * 4)))
+    ∙ ap (λ (k : ℕ). words_of (sets (sets l (at * 4) (0 ∷ 0 ∷ 0 ∷ 0 ∷ [])) k (zeros (n * 4)))) f
+    ∙ words_zeros n (suc at) (sets l (at * 4) (0 ∷ 0 ∷ 0 ∷ 0 ∷ []))
+    ∙ ap (λ (m : List ℕ). sets m (suc at) (zeros n)) (words_set at l 0 0 0 0)
+
+sets_past : (x : ℕ) (l vs : List ℕ) (i : ℕ) → sets (x ∷ l) (suc i) vs ≡ x ∷ sets l i vs
+sets_past x l [] i = refl
+sets_past x l (v ∷ vs) i = sets_past x (set l i v) vs (suc i)
+
+-- octets behind the last whole number make none
+words_tail : (n : ℕ) (l vs : List ℕ) → length vs < 4 → n * 4 + length vs ≡ length l → words_of (sets l (n * 4) vs) ≡ words_of l
+unfolding words_of
+words_tail zero l vs s e = words_short (sets l 0 vs) (omega (arith, s, e, length-sets l 0 vs)) ∙ sym (words_short l (omega (arith, s, e)))
+words_tail (suc n) [] vs s e = absurd (omega (arith, e))
+words_tail (suc n) (x ∷ []) vs s e = absurd (omega (arith, e))
+words_tail (suc n) (x ∷ y ∷ []) vs s e = absurd (omega (arith, e))
+words_tail (suc n) (x ∷ y ∷ z ∷ []) vs s e = absurd (omega (arith, e))
+words_tail (suc n) (x ∷ y ∷ z ∷ w ∷ rest) vs s e =
+    let k : suc n * 4 ≡ suc (suc (suc (suc (n * 4)))) = omega arith in
+    rw (
+      k,
+      sets_past x (y ∷ z ∷ w ∷ rest) vs (suc (suc (suc (n * 4)))),
+      sets_past y (z ∷ w ∷ rest) vs (suc (suc (n * 4))),
+      sets_past z (w ∷ rest) vs (suc (n * 4)),
+      sets_past w rest vs (n * 4),
+    )
+    (ap (λ (r : List ℕ). quad_of x y z w ∷ r) (words_tail n rest vs s (omega (arith, e))))
+
+zeros_append : (a b : ℕ) → zeros (a + b) ≡ zeros a ++ zeros b
+unfolding zeros
+zeros_append zero b = ap (λ (n : ℕ). replicate n 0) (zero-add b)
+zeros_append (suc a) b = let e : suc a + b ≡ suc (a + b) = omega arith in rw e (ap (λ (l : List ℕ). 0 ∷ l) (zeros_append a b))
+
+pub words_cleared : (part zeroed : List ℕ) (at : ℕ) → at ≤ length (words_of part) → zeroed ≡ zeros (length part - at * 4)
+    → words_of (put_mid (at * 4) (length part - at * 4) part zeroed) ≡ sets (words_of part) at (zeros (length (words_of part) - at))
+words_cleared part zeroed at h e =
+    let n = length (words_of part) - at in
+    let r = length part - length (words_of part) * 4 in
+    let m : length part - at * 4 ≡ n * 4 + r = omega (arith, h, words_length part) in
+    let o : at * 4 + length (zeros (n * 4)) ≡ (at + n) * 4 = omega (arith, zeros_length (n * 4)) in
+    let w = sets part (at * 4) (zeros (n * 4)) in
+    let k : (at + n) * 4 + length (zeros r) ≡ length w = omega (arith, h, words_length part, zeros_length r, length-sets part (at * 4) (zeros (n * 4))) in
+    let f : length (zeros r) < 4 = omega (arith, words_length part, zeros_length r) in
+    ap words_of (part_cleared part zeroed (at * 4) (omega (arith, h, words_length part)) e)
+    ∙ ap (λ (i : ℕ). words_of (sets part (at * 4) (zeros i))) m
+    ∙ ap (λ (l : List ℕ). words_of (sets part (at * 4) l)) (zeros_append (n * 4) r)
+    ∙ ap words_of (sets_append part (at * 4) (zeros (n * 4)) (zeros r))
+    ∙ ap (λ (i : ℕ). words_of (sets w i (zeros r))) o
+    ∙ words_tail (at + n) w (zeros r) f k
+    ∙ words_zeros n at part
 
 -- one group
 module _ (side gateway : ℕ) (t : List ℕ) where
@@ -384,7 +491,7 @@ room_of g xs rest at part e h = rw e (record { good = refl; fits = h })
 record Known (xs : List Row) (rest : List ℕ) (at : ℕ) (old new : List ℕ) (p : Put) : Type 0 where
   numbers : new ≡ sets old at (flat xs)
   next : p.at ≡ at + 3 * length xs
-  left : p.left ≡ length rest
+  left : p.rest.now ≡ rest
   long : length new ≡ length old
 
 known : (g : Got (List Row)) (xs : List Row) (rest : List ℕ) (at : ℕ) (old new : List ℕ) (p : Put) → g ≡ got xs rest → Stored g at old new p → Known xs rest at old new p
@@ -394,7 +501,7 @@ known g xs rest at old new p e s =
     record {
       numbers = n;
       next = s.next ∙ ap (λ (y : Got (List Row)). at + 3 * length (got_rows y)) e;
-      left = s.rest ∙ ap (λ (y : Got (List Row)). length (got_rest y)) e;
+      left = s.rest ∙ ap got_rest e;
       long = ap length n ∙ length-sets old at (flat xs);
     }
 
@@ -420,20 +527,14 @@ module _ (net : ℕ) (message part : List ℕ) (s : Storable net message part) w
       inner : Known parts.inside parts.rest 0 part new p
       inner = known _ parts.inside parts.rest 0 part new p first_is w
 
-      front : Front (many (block_rows 0 net) (get_or message 10 0)) body parts.inside parts.rest
-      front = rw first_is at (many_sound (block_rows 0 net) (block_sound 0 net) (get_or message 10 0) body)
+      second_is : many (block_rows 256 net) (get_or message 11 0) p.rest.now ≡ got parts.outside []
+      second_is = rw inner.left parts.second
 
-      pub first_left : p.left ≤ length body
-      first_left = omega (arith, front_fits front, inner.left)
-
-      second_is : many (block_rows 256 net) (get_or message 11 0) (take (length body - (length body - p.left)) (drop (length body - p.left) body)) ≡ got parts.outside []
-      second_is = rw (part_from_lem (length body - p.left) body, inner.left, front_rest front) parts.second
-
-      pub second_room : Room (many (block_rows 256 net) (get_or message 11 0) (take (length body - (length body - p.left)) (drop (length body - p.left) body))) p.at new
+      pub second_room : Room (many (block_rows 256 net) (get_or message 11 0) p.rest.now) p.at new
       second_room = room_of _ parts.outside [] p.at new second_is (omega (arith, s.room, counts, inner.next, inner.long))
 
       module _ (new2 : List ℕ) (q : Put)
-          (v : Stored (many (block_rows 256 net) (get_or message 11 0) (take (length body - (length body - p.left)) (drop (length body - p.left) body))) p.at new new2 q) where
+          (v : Stored (many (block_rows 256 net) (get_or message 11 0) p.rest.now) p.at new new2 q) where
         outer : Known parts.outside [] p.at new new2 q
         outer = known _ parts.outside [] p.at new new2 q second_is v
 

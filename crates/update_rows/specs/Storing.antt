@@ -44,8 +44,8 @@ pub record Room (g : Got (List Row)) (at : ℕ) (part : List ℕ) : Type 0 where
   pub good : is_got g ≡ true
   pub fits : at + 3 * length (got_rows g) ≤ length part
 
--- the numbers of its rows stand from here on, nothing else changed; where they end, and how many octets are left
+-- the numbers of its rows stand from here on, nothing else changed; where they end, and the octets that are left
 pub record Stored (g : Got (List Row)) (at : ℕ) (old new : List ℕ) (put : Put) : Type 0 where
   pub numbers : new ≡ sets old at (flat (got_rows g))
   pub next : put.at ≡ at + 3 * length (got_rows g)
-  pub rest : put.left ≡ length (got_rest g)
+  pub rest : put.rest.now ≡ got_rest g

@@ -12,7 +12,7 @@ use Rattle.checks.proofs.Laws.{cond_elim, and_left, and_right}
 use Rattle.nets.specs.Classes.{good_net}
 use Rattle.nets.specs.Rows.{Row}
 use Rattle.update_walk.specs.Body.{big_endian, Got, got, stop, both_sides, Walk, whole, broken, nothing_left, body_of, further, net_at, walked_blocks, UpdateRead, accepted, broken_at, too_many, read_within, update_of, walked_of, rows_read}
-use Rattle.update_walk.specs.declared.Walked.TheVariants.{Rows}
+use Rattle.std.specs.Prelude.{Ok}
 use Rattle.update_walk.proofs.Laws.{Front, front_fits, sides_sound}
 use Rattle.update_walk.proofs.Digits.{Octets, octets_drop, octets_take, big_below}
 use Rattle.update_walk.proofs.Good.{GoodRow, All, sides_good}
@@ -61,7 +61,7 @@ judged_is room (whole ys) rs e = go (leb (length ys) room) refl e
     go false h k = let z : ◌≡◌ {A = ℕ} 0 1 = cc in absurd (omega arith)
 judged_is room (broken k) rs e = let z : ◌≡◌ {A = ℕ} 0 1 = cc in absurd (omega arith)
 
-counted : (u : UpdateRead) (n : ℕ) → walked_of u ≡ Rows n → (u ≡ accepted (rows_read u)) × (length (rows_read u) ≡ n)
+counted : (u : UpdateRead) (n : ℕ) → walked_of u ≡ Ok n → (u ≡ accepted (rows_read u)) × (length (rows_read u) ≡ n)
 unfolding rows_read
 counted (accepted rs) n e = (refl, cc)
 counted (broken_at k) n e = let z : ◌≡◌ {A = ℕ} 0 1 = cc in absurd (omega arith)
@@ -77,7 +77,7 @@ module _ (room net : ℕ) (message : List ℕ) where
   accepted_of rs a = rw (a.is, le-leb (length rs) room a.fits)
 
   -- a walk that counted rows
-  pub walked_rows_lem : (n : ℕ) → walked_of (update_of room net message) ≡ Rows n
+  pub walked_rows_lem : (n : ℕ) → walked_of (update_of room net message) ≡ Ok n
       → (update_of room net message ≡ accepted (rows_read (update_of room net message))) × (length (rows_read (update_of room net message)) ≡ n)
   walked_rows_lem n e = counted (update_of room net message) n e
 

@@ -4,5 +4,5 @@ pub mod Digits
 pub mod Groups
 pub mod Good
 pub mod Accepted
-pub mod Cases
 pub mod Flat
+pub mod Cases

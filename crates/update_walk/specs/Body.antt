@@ -1,10 +1,12 @@
 -- The gateway blocks of an Update: what their octets say, for any list of octets.
-use Rattle.std.specs.Prelude.{ℕ, zero, suc, ◌+◌, ◌-◌, ◌*◌, cond, ◌&&◌, List, [], ◌∷◌, ◌++◌, map, ltb, leb, eqb, length, take, drop, get_or}
+use Rattle.std.specs.Prelude.{ℕ, zero, suc, ◌+◌, ◌-◌, ◌*◌, cond, ◌&&◌, List, [], ◌∷◌, ◌++◌, map, ltb, leb, eqb, length, take, drop, get_or, Result, Ok, Err}
 use Rattle.checks.specs.Lists.{join}
+use Rattle.checks.specs.declared.Refusal.{Refusal}
+use Rattle.checks.specs.declared.Refusal.TheVariants.{BrokenBlocks, TooManyRows}
 use Rattle.nets.specs.Classes.{net_width, width_of, host_span, good_net}
 use Rattle.nets.specs.Rows.{Row}
-use Rattle.update_walk.specs.declared.Walked.{Walked}
-use Rattle.update_walk.specs.declared.Walked.TheVariants.{Rows, Broken, TooMany}
+use Rattle.update_walk.specs.declared.BodyError.{BodyError}
+use Rattle.update_walk.specs.declared.BodyError.TheVariants.{Broken, TooMany}
 
 -- 01: "All numbers are big-endian": the number n, continued by these octets
 unfoldable pub extended : ℕ → List ℕ → ℕ
@@ -162,16 +164,21 @@ unfoldable pub update_of : ℕ → ℕ → List ℕ → UpdateRead
 update_of room net message = read_within room (walked_blocks net message)
 
 -- how many rows an Update has, or the offset where it breaks: the answer that the code gives
-abbrev pub walked_of : UpdateRead → Walked
-walked_of (accepted rs) = Rows (length rs)
-walked_of (broken_at offset) = Broken offset
-walked_of too_many = TooMany
+abbrev pub walked_of : UpdateRead → Result ℕ BodyError
+walked_of (accepted rs) = Ok (length rs)
+walked_of (broken_at offset) = Err (Broken offset)
+walked_of too_many = Err TooMany
+
+-- why a call with such an Update is refused
+abbrev pub refusal_of : BodyError → Refusal
+refusal_of (Broken offset) = BrokenBlocks
+refusal_of TooMany = TooManyRows
 
 -- 01's answer numbers 0, 14 and 15, one for each case of that answer
-abbrev pub walked_number : Walked → ℕ
-walked_number (Rows count) = 0
-walked_number (Broken offset) = 14
-walked_number TooMany = 15
+abbrev pub walked_number : Result ℕ BodyError → ℕ
+walked_number (Ok count) = 0
+walked_number (Err (Broken offset)) = 14
+walked_number (Err TooMany) = 15
 
 unfoldable pub update_number : UpdateRead → ℕ
 update_number update = walked_number (walked_of update)

@@ -1,16 +1,26 @@
--- What the functions of the walk answer, in numbers: rows counted, octets left, offsets.
-use Rattle.std.specs.Prelude.{ℕ, ◌+◌, ◌-◌, ◌≤◌, cond, ◌≡◌, List, [], leb, eqb, length, take, drop, get_or}
+-- What the functions of the walk answer: rows counted, and the octets that are left.
+use Rattle.std.specs.Prelude.{ℕ, ◌+◌, ◌-◌, ◌≤◌, ◌≡◌, List, [], length, take, drop, get_or, Result, Ok, Err, IfOk}
 use Rattle.nets.specs.Rows.{Row}
 use Rattle.update_walk.specs.Body.{Got, got, stop, many, net_row, group_rows}
-use Rattle.update_walk.specs.declared.Skip.{Skip}
-use Rattle.update_walk.specs.declared.Skip.TheVariants.{Past, Stop}
-use Rattle.update_walk.specs.declared.Walked.{Walked}
-use Rattle.update_walk.specs.declared.Walked.TheVariants.{Rows, Broken, TooMany}
+use Rattle.update_walk.specs.declared.Past.{Past}
+use Rattle.update_walk.specs.declared.Stop.{Stop}
+use Rattle.update_walk.specs.declared.Group as Declared
 
--- how many rows were read, and how many octets are left
-unfoldable pub skip_of : Got (List Row) → Skip
-skip_of (got rs t) = Past (length rs) (length t)
-skip_of (stop left) = Stop left
+-- what was skipped is what a reading gives: as many rows, and the same octets after them, or as many left at the stop
+abbrev pub Skipped : Got (List Row) → Result Past Stop → Type 0
+Skipped (got rs rest) (Ok past) = (past.rows ≡ length rs) × (past.rest.now ≡ rest)
+Skipped (got rs rest) (Err at) = ⊥
+Skipped (stop left) (Ok past) = ⊥
+Skipped (stop left) (Err at) = at.left ≡ left
+
+-- the rows that were passed and the octets after them are no more than these octets
+abbrev pub Within : List ℕ → Result Past Stop → Type 0
+Within t result = IfOk result (λ past. past.rows + length past.rest.now ≤ length t)
+
+-- how far a group was read
+abbrev pub past_group : Result Declared.Group Stop → Result Past Stop
+past_group (Ok group) = Ok group.past
+past_group (Err at) = Err at
 
 -- how many octets of t a reading took, 0 where it is bad
 unfoldable pub taken : {A : Type 0} → List ℕ → Got A → ℕ
@@ -21,8 +31,7 @@ taken t (stop left) = 0
 unfoldable pub group_end : List ℕ → ℕ
 group_end t = taken t (group_rows 0 0 t)
 
--- 01: "The nets of one distance are handed back as a part of the received octets"; none where the group is bad,
--- which `skip_of` of its reading tells
+-- 01: "The nets of one distance are handed back as a part of the received octets"; none where the group is bad
 unfoldable pub group_nets : List ℕ → List ℕ
 group_nets t = take (group_end t - 2) (drop 2 t)
 
@@ -32,13 +41,3 @@ pub record NetsAlone : Type 0 where
       → many (net_row gateway (side + get_or t 0 0)) (get_or t 1 0) (group_nets t) ≡ got rs []
   -- and a bad group has none, whatever side and gateway are
   pub none : (side gateway : ℕ) (t : List ℕ) (left : ℕ) → group_rows side gateway t ≡ stop left → group_nets t ≡ []
-
--- what the walk answers, from what it counted, the message's end and the room for rows
-unfoldable pub walk_verdict : ℕ → ℕ → Skip → Walked
-walk_verdict end room (Past count left) = cond (eqb left 0) (cond (leb count room) (Rows count) TooMany) (Broken (end - left))
-walk_verdict end room (Stop left) = Broken (end - left)
-
--- the octets that are left stand before the end
-abbrev pub WithinEnd : ℕ → Skip → Type 0
-WithinEnd end (Past count left) = left ≤ end
-WithinEnd end (Stop left) = left ≤ end

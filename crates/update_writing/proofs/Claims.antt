@@ -147,10 +147,9 @@ distance_runs_lem side (r ∷ s ∷ ss) e =
     let f = and_right (eqb (side_of r) side) (eqb (side_of s) side && every (λ row. eqb (side_of row) side) ss) e in
     let p = eqb-true (side_of r) side (and_left (eqb (side_of r) side) (eqb (side_of s) side && every (λ row. eqb (side_of row) side) ss) e) in
     let q = eqb-true (side_of s) side (and_left (eqb (side_of s) side) (every (λ row. eqb (side_of row) side) ss) f) in
-    ap (joined (λ row. row.third) r) (distance_runs_lem side (s ∷ ss) f)
-    ∙ ap (joined (λ row. row.third) r) (runs_front (λ row. row.third % 256) s ss)
-    ∙ rw (third_test r.third s.third side p q) refl
-    ∙ ap (joined (λ row. row.third % 256) r) (sym (runs_front (λ row. row.third % 256) s ss))
+    let front = (runs_front (λ row. row.third % 256) s ss).2 in
+    ap (joined (λ row. row.third) r) (distance_runs_lem side (s ∷ ss) f) ∙ ap (joined (λ row. row.third) r) front ∙ rw (third_test r.third s.third side p q) refl
+    ∙ ap (joined (λ row. row.third % 256) r) (sym front)
 
 pub distances : Distances
 distances = record { same = distance_runs_lem }

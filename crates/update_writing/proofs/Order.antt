@@ -1,75 +1,121 @@
--- Laws of rows in order: where the external ones begin. Assumes nothing.
-use Prim.Native.Nat.{ℕ, suc, ◌-◌, ◌*◌, ◌/◌, ◌%◌, ◌≤◌, ◌<◌}
-use native.Mathlib.Omega.{arith}
-use mathlib.Core.Bool.{true}
-use mathlib.Core.Path.{◌≡◌, refl}
-use mathlib.Core.List.{List, [], ◌∷◌}
-use borrow.Author.Tests.{eqb-true, leb-true}
-use lib.Dec.{leb}
-use lib.ListN.{length, get_or}
-use Rattle.checks.proofs.Laws.{and_left, and_right}
-use Rattle.nets.specs.Rows.{rows_of}
-use Rattle.update_writing.specs.Blocks.{side_rows}
-use Rattle.update_writing.specs.Writable.{ordered, writable_rows, writable_numbers}
+-- Laws of rows in order: the test of it, and where the external ones begin. Assumes nothing.
+use Rattle.std.proofs.Common.{rules, is_le, nat_cmp, ℕ, zero, suc, ◌+◌, ◌≤◌, ◌<◌, ◌≡◌, refl, sym, ap, Bool, true, false, ltb, leb, ◌&&◌, List, [], ◌∷◌, ◌++◌, length, map, get_or, take, drop, arith, take_at, drop_at, length-append, length-drop, length-take-le, ◌*◌}
+use borrow.Author.Tests.{le-leb, lt-ltb, ltb-true, ltb-false, leb-true, ne_eqb}
+use Rattle.std.proofs.lemmas.List.{take-map, drop-map}
+use Rattle.std.proofs.lemmas.List.{length-map}
+use Rattle.std.proofs.lemmas.List.Sorted.{IsPartitionPoint-from_clause}
+use Rattle.std.specs.Fn.{Called, ComputesKey}
+use denote.Param.Members.{Mut}
+use denote.Ref.{Bor}
+use Rattle.std.specs.List.{IsAllAdjacentAnswer, AllAdjacentBelow}
+use Rattle.std.specs.List.Sorted.{IsPartitionedBy, IsPartitionPoint}
+use Rattle.checks.proofs.Laws.{and_left, and_right, and_both}
+use Rattle.nets.specs.Rows.{Row}
+use Rattle.nets.specs.Classes.{good_net}
+use Rattle.checks.specs.Lists.{every}
+use Rattle.update_writing.specs.Blocks.{side_of, side_rows, side_octets, blocks_written}
+use Rattle.update_writing.specs.Writable.{ordered, writable_row, writable_rows}
+use Rattle.update_writing.proofs.Claims.{rows_most, writable_sides, short}
 
--- numbers alone: `omega` reads every hypothesis, and those of a clause below are long
-less_one : (n : ℕ) → suc n - 1 ≡ n
-less_one n = omega arith
+-- the two parts of a list
+parts : (s t u : List Row) (n : ℕ) → s ++ t ≡ u → length s ≡ n → (take n u ≡ s) × (drop n u ≡ t)
+parts s t u n e f = rw (← e, ← f) (take_at s t (length s) refl, drop_at s t (length s) refl)
 
-some_rows : (n : ℕ) → 2 < suc (suc (suc n))
-some_rows n = omega arith
+module _ {A : Type 0} (row : A → Row) where
+  abbrev pub side : A → ℕ
+  side a = side_of (row a)
 
-whole_before : (n : ℕ) → suc (suc (suc n)) % 3 ≡ 0 → n % 3 ≡ 0
-whole_before n e = omega arith
+  abbrev pub rises : A → A → Bool
+  rises a b = is_le (nat_cmp (side a) (side b))
 
-no_part_1 : 1 % 3 ≡ 0 → ⊥
-no_part_1 e = absurd (omega arith)
+  rises_leb : (a b : A) → rises a b ≡ leb (side a) (side b)
+  rises_leb a b = search rules
 
-no_part_2 : 2 % 3 ≡ 0 → ⊥
-no_part_2 e = absurd (omega arith)
+  -- is_in_order
+  in_order : (a : A) (xs : List A) → AllAdjacentBelow (λ x y. rises x y ≡ true) (a ∷ xs) (length (a ∷ xs)) → ordered (side a) (map row xs) ≡ true
+  unfolding ordered
+  in_order a [] p = refl
+  in_order a (b ∷ xs) p =
+      let e : (k : ℕ) → suc k + 1 ≡ suc (k + 1) = λ k. omega arith in
+      rw (← rises_leb a b) (and_both (rises a b) (ordered (side b) (map row xs)) (p 0 a (omega arith)) (in_order b xs (λ k d h. rw (e k) at (p (suc k) d (omega arith)))))
 
-none_of : (n : ℕ) → n ≤ 2 → 2 < n → ⊥
-none_of n p q = absurd (omega arith)
+  and_false : (b : Bool) → (b && false) ≡ false
+  and_false true = refl
+  and_false false = refl
 
-small : (n : ℕ) → leb n 2 ≡ true → n ≤ 2
-small n e = leb-true n 2 e
+  out_of_order : (a : A) (xs : List A) (k : ℕ) (d : A) → k + 1 < length (a ∷ xs) → rises (get_or (a ∷ xs) k d) (get_or (a ∷ xs) (k + 1) d) ≡ false → ordered (side a) (map row xs) ≡ false
+  unfolding ordered
+  out_of_order a [] k d h p = absurd (omega arith)
+  out_of_order a (b ∷ xs) zero d h p = rw (← rises_leb a b, p)
+  out_of_order a (b ∷ xs) (suc k) d h p =
+      let e : suc k + 1 ≡ suc (k + 1) = omega arith in
+      rw (out_of_order b xs k d (omega arith) (rw e at p)) (and_false (leb (side a) (side b)))
 
-below : (s t : ℕ) → s ≤ t → t ≡ 0 → s ≡ 0
-below s t p q = omega arith
+  pub order_tested : (r : Bool) (xs : List A) → IsAllAdjacentAnswer (λ x y b. b ≡ rises x y) xs r → r ≡ ordered 0 (map row xs)
+  unfolding ordered
+  order_tested true [] p = refl
+  order_tested false [] p = absurd (omega (arith, p.1))
+  order_tested true (a ∷ xs) p = rw (le-leb 0 (side a) (omega arith), in_order a xs (λ k d h. sym (p k d h)))
+  order_tested false (a ∷ xs) p = rw (le-leb 0 (side a) (omega arith), out_of_order a xs p.0 a p.1 (sym (p.2 a)))
 
-internal : (c : ℕ) → c < 256 → c / 256 ≡ 0
-internal c h = omega arith
+  -- where the external rows begin
+  abbrev pub internal : A → Bool
+  internal a = ltb (row a).third 256
 
-three_more : (n k : ℕ) → n ≡ 3 * k → suc (suc (suc n)) ≡ 3 * suc k
-three_more n k e = omega arith
+  lowest : (s : ℕ) (xs : List A) → ordered s (map row xs) ≡ true → (j : ℕ) (d : A) → j < length xs → s ≤ side (get_or xs j d)
+  unfolding ordered
+  lowest s [] o j d h = absurd (omega arith)
+  lowest s (a ∷ xs) o zero d h = leb-true s (side a) (and_left (leb s (side a)) (ordered (side a) (map row xs)) o)
+  lowest s (a ∷ xs) o (suc j) d h =
+      let p = leb-true s (side a) (and_left (leb s (side a)) (ordered (side a) (map row xs)) o) in
+      omega (arith, p, lowest (side a) xs (and_right (leb s (side a)) (ordered (side a) (map row xs)) o) j d (omega arith))
 
--- the last number, a row further
-last_next : (a b c d : ℕ) (v : List ℕ) → get_or (a ∷ b ∷ c ∷ d ∷ v) (length (a ∷ b ∷ c ∷ d ∷ v) - 1) 0 ≡ get_or (d ∷ v) (length (d ∷ v) - 1) 0
-last_next a b c d v = rw (less_one (suc (suc (suc (length v)))), less_one (length v))
+  partitioned : (s : ℕ) (xs : List A) → ordered s (map row xs) ≡ true → IsPartitionedBy internal xs
+  unfolding ordered
+  partitioned s [] o i j d l h p = absurd (omega arith)
+  partitioned s (a ∷ xs) o zero zero d l h p = p
+  partitioned s (a ∷ xs) o zero (suc j) d l h p =
+      let q = lowest (side a) xs (and_right (leb s (side a)) (ordered (side a) (map row xs)) o) j d (omega arith) in
+      lt-ltb (row a).third 256 (omega (arith, ltb-true (row (get_or xs j d)).third 256 p))
+  partitioned s (a ∷ xs) o (suc i) zero d l h p = absurd (omega arith)
+  partitioned s (a ∷ xs) o (suc i) (suc j) d l h p = partitioned (side a) xs (and_right (leb s (side a)) (ordered (side a) (map row xs)) o) i j d (omega arith) (omega arith) p
 
--- split_of: where the last row is internal, rows in order are all internal, and none of the other side comes before them
-in_order : (side : ℕ) (u : List ℕ) → 2 < length u → length u % 3 ≡ 0 → ordered side (rows_of u) ≡ true → get_or u (length u - 1) 0 < 256
-    → (side ≡ 0) × (length u ≡ 3 * length (side_rows 0 (rows_of u)))
-unfolding rows_of ordered side_rows
-in_order side [] h m o l = absurd (none_of 0 (small 0 refl) h)
-in_order side (a ∷ []) h m o l = absurd (none_of 1 (small 1 refl) h)
-in_order side (a ∷ b ∷ []) h m o l = absurd (none_of 2 (small 2 refl) h)
-in_order side (a ∷ b ∷ c ∷ []) h m o l =
-    let e = internal c l in
-    (below side (c / 256) (leb-true side (c / 256) (and_left (leb side (c / 256)) true o)) e, rw e)
-in_order side (a ∷ b ∷ c ∷ d ∷ []) h m o l = absurd (no_part_1 (whole_before 1 m))
-in_order side (a ∷ b ∷ c ∷ d ∷ f ∷ []) h m o l = absurd (no_part_2 (whole_before 2 m))
-in_order side (a ∷ b ∷ c ∷ d ∷ f ∷ g ∷ u) h m o l =
-    let r = in_order (c / 256) (d ∷ f ∷ g ∷ u) (some_rows (length u)) (whole_before (suc (suc (suc (length u)))) m) (and_right (leb side (c / 256)) (ordered (c / 256) (rows_of (d ∷ f ∷ g ∷ u))) o) (rw (last_next a b c d (f ∷ g ∷ u)) at l) in (
-      below side (c / 256) (leb-true side (c / 256) (and_left (leb side (c / 256)) (ordered (c / 256) (rows_of (d ∷ f ∷ g ∷ u))) o)) r.0,
-      rw r.0 (three_more (suc (suc (suc (length u)))) (length (side_rows 0 (rows_of (d ∷ f ∷ g ∷ u)))) r.1),
-    )
+  internal_number : (n : ℕ) (xs : List A) → n ≤ length xs → IsPartitionPoint (λ y. internal y ≡ true) (λ y. internal y ≡ false) xs n → length (side_rows 0 (map row xs)) ≡ n
+  unfolding side_rows
+  internal_number zero [] h p = refl
+  internal_number (suc n) [] h p = absurd (omega arith)
+  internal_number zero (a ∷ xs) h p =
+      let q = ltb-false (row a).third 256 (p.1 0 a (omega arith) (omega arith)) in
+      rw (ne_eqb (side a) 0 (λ e. absurd (omega arith))) (internal_number zero xs (omega arith) (λ k d l m. absurd (omega arith), λ k d l m. p.1 (suc k) d (omega arith) (omega arith)))
+  internal_number (suc n) (a ∷ xs) h p =
+      let q = ltb-true (row a).third 256 (p.0 0 a (omega arith) (omega arith)) in
+      let e : side a ≡ 0 = omega arith in
+      rw e (ap suc (internal_number n xs (omega arith) (λ k d l m. p.0 (suc k) d (omega arith) (omega arith), λ k d l m. p.1 (suc k) d (omega arith) (omega arith))))
 
-pub all_internal : (u : List ℕ) → 2 < length u → length u % 3 ≡ 0 → ordered 0 (rows_of u) ≡ true → get_or u (length u - 1) 0 < 256
-    → length u ≡ 3 * length (side_rows 0 (rows_of u))
-all_internal u h m o l = (in_order 0 u h m o l).1
+  -- write_blocks: the rows of the two sides
+  pub record Sides (net : ℕ) (xs front back : List A) : Type 0 where
+    pub first : map row front ≡ side_rows 0 (map row xs)
+    pub second : map row back ≡ side_rows 1 (map row xs)
+    pub whole : length front + length back ≡ length xs
+    pub most : length xs ≤ 128
+    pub room : length (side_octets net (map row front)) + length (side_octets net (map row back)) ≤ 9 * length xs
 
--- what split_of asks
-pub split_asked : (net : ℕ) (u : List ℕ) → writable_numbers net u ≡ true → (length u % 3 ≡ 0) × (ordered 0 (rows_of u) ≡ true)
-unfolding writable_numbers writable_rows
-split_asked net u e = (eqb-true (length u % 3) 0 (search and_left), search (and_left, and_right))
+  pub sides : {F : Type 0} {g : Mut F (Bor A × Unit {0}) Bool} {f : F} (net : ℕ) (xs front back : List A) (n : ℕ) → good_net net ≡ true → writable_rows net (map row xs) ≡ true → n ≤ length xs
+      → ((q : A → Bool) → ComputesKey g q f → IsPartitionedBy q xs → IsPartitionPoint (λ y. q y ≡ true) (λ y. q y ≡ false) xs n)
+      → ((a : Bor A × Unit {0}) (r : Bool) (f' : F) → Called g f a r f' → (r ≡ internal a.0.now) × (f' ≡ f))
+      → front ≡ take n xs → back ≡ drop n xs → Sides net xs front back
+  unfolding writable_rows blocks_written
+  sides {g = g} {f} net xs front back n good w h clause calls x y =
+      let rows = map row xs in
+      let o : ordered 0 rows ≡ true = and_right (leb (length rows) 128 && every (writable_row net) rows) (ordered 0 rows) w in
+      let p = IsPartitionPoint-from_clause internal xs n clause (partitioned 0 xs o) calls in
+      let q = parts (side_rows 0 rows) (side_rows 1 rows) rows n (writable_sides net rows w) (internal_number n xs h p) in
+      let a : map row front ≡ side_rows 0 rows = rw (x, ← take-map row n xs) q.0 in
+      let b : map row back ≡ side_rows 1 rows = rw (y, ← drop-map row n xs) q.1 in
+      record {
+        first = a;
+        second = b;
+        whole = rw (x, y) (omega (arith, length-take-le n xs h, length-drop n xs, h));
+        most = omega (arith, rows_most net rows w, length-map xs row);
+        room = rw (a, b) (omega (arith, short.blocks net good rows, length-map xs row, length-append (side_octets net (side_rows 0 rows)) (side_octets net (side_rows 1 rows))));
+      }

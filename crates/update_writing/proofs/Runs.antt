@@ -1,62 +1,71 @@
 -- Laws of runs of rows and of the two sides. Assumes nothing.
-use Prim.Native.Nat.{ℕ, zero, suc, ◌+◌, ◌*◌, ◌≤◌, ◌<◌}
+use Prim.Native.Nat.{ℕ, zero, suc, ◌+◌, ◌-◌, ◌*◌, ◌≤◌, ◌<◌}
 use native.Mathlib.Nat.{mul-add}
 use native.Mathlib.Omega.{arith}
 use mathlib.Core.Bool.{Bool, true, false, cond}
 use mathlib.Core.Path.{◌≡◌, refl, sym, ap, ◌∙◌}
 use mathlib.Core.List.{List, [], ◌∷◌, ◌++◌}
-use borrow.Author.Tests.{eqb-true, ne_eqb, leb-true}
+use borrow.Author.Tests.{eqb-true, eq-eqb, ne_eqb, leb-true}
 use lib.Dec.{eqb, leb}
-use lib.ListN.{length, take, drop, length-append}
-use lib.Seq.{take_at, drop_at}
+use lib.ListN.{length, length-append}
+use Rattle.std.proofs.Common.{map}
+use Rattle.std.proofs.lemmas.List.{map-append}
+use Rattle.std.specs.List.{IsChunkByPrefix}
 use Rattle.checks.proofs.Laws.{and_left, and_right}
 use Rattle.checks.specs.Lists.{every}
-use Rattle.nets.specs.Rows.{Row, rows_of}
+use Rattle.nets.specs.Rows.{Row}
 use Rattle.update_writing.specs.Blocks.{side_of, side_rows, joined, runs, each}
 use Rattle.update_writing.specs.Writable.{ordered}
-use Rattle.update_writing.specs.Steps.{agreeing, run_length}
-use Rattle.update_writing.proofs.Lists.{rows_take, rows_drop, rows_length}
 
 module _ (key : Row → ℕ) where
-  -- the first run, and the runs of the rows after it
-  pub runs_front : (r : Row) (rs : List Row) → runs key (r ∷ rs) ≡ (r ∷ take (agreeing key (key r) rs) rs) ∷ runs key (drop (agreeing key (key r) rs) rs)
-  unfolding runs joined agreeing
-  runs_front r [] = refl
-  runs_front r (s ∷ ss) = ap (joined key r) (runs_front s ss) ∙ go (eqb (key r) (key s)) refl (runs_front s ss)
+  -- the row at the front begins the first run
+  pub runs_front : (r : Row) (rs : List Row) → (run : List Row) × (later : List (List Row)) × (runs key (r ∷ rs) ≡ (r ∷ run) ∷ later)
+  unfolding runs joined
+  runs_front r rs = go (runs key rs)
     where
-      go : (b : Bool) → eqb (key r) (key s) ≡ b
-          → joined key s (runs key ss) ≡ (s ∷ take (agreeing key (key s) ss) ss) ∷ runs key (drop (agreeing key (key s) ss) ss)
-          → cond (eqb (key r) (key s))
-          ((r ∷ s ∷ take (agreeing key (key s) ss) ss) ∷ runs key (drop (agreeing key (key s) ss) ss))
-          ((r ∷ []) ∷ (s ∷ take (agreeing key (key s) ss) ss) ∷ runs key (drop (agreeing key (key s) ss) ss))
-          ≡ (r ∷ take (cond (eqb (key r) (key s)) (suc (agreeing key (key r) ss)) 0) (s ∷ ss))
-          ∷ runs key (drop (cond (eqb (key r) (key s)) (suc (agreeing key (key r) ss)) 0) (s ∷ ss))
-      go true e ih = rw e (ap (λ (k : ℕ). (r ∷ s ∷ take (agreeing key k ss) ss) ∷ runs key (drop (agreeing key k ss) ss)) (sym (eqb-true (key r) (key s) e)))
-      go false e ih = rw e (ap (λ (l : List (List Row)). (r ∷ []) ∷ l) (sym ih))
+      go : (gs : List (List Row)) → (run : List Row) × (later : List (List Row)) × (joined key r gs ≡ (r ∷ run) ∷ later)
+      go [] = ([], [], refl)
+      go ([] ∷ later) = ([], later, refl)
+      go ((s ∷ run) ∷ later) = test (eqb (key r) (key s))
+        where
+          test : (b : Bool) → (front : List Row) × (rest : List (List Row)) × (cond b ((r ∷ s ∷ run) ∷ later) ((r ∷ []) ∷ (s ∷ run) ∷ later) ≡ (r ∷ front) ∷ rest)
+          test true = (s ∷ run, later, refl)
+          test false = ([], (s ∷ run) ∷ later, refl)
 
-  pub first_run : (rows : List Row) → 0 < length rows → runs key rows ≡ take (run_length key rows) rows ∷ runs key (drop (run_length key rows) rows)
-  unfolding run_length
-  first_run [] h = absurd (omega arith)
-  first_run (r ∷ rs) h = runs_front r rs
+  -- a row with the key of the next one joins its run
+  run_longer : (r s : Row) (run rest : List Row) → key r ≡ key s → runs key (s ∷ (run ++ rest)) ≡ (s ∷ run) ∷ runs key rest
+      → runs key (r ∷ s ∷ (run ++ rest)) ≡ (r ∷ s ∷ run) ∷ runs key rest
+  unfolding runs joined
+  run_longer r s run rest e h = ap (joined key r) h ∙ rw (eq-eqb (key r) (key s) e)
 
-  pub agreeing_within : (number : ℕ) (rows : List Row) → agreeing key number rows ≤ length rows
-  unfolding agreeing
-  agreeing_within number [] = omega arith
-  agreeing_within number (r ∷ rs) = go (eqb number (key r)) (agreeing_within number rs)
-    where
-      go : (b : Bool) → agreeing key number rs ≤ length rs → cond b (suc (agreeing key number rs)) 0 ≤ suc (length rs)
-      go true h = omega arith
-      go false h = omega arith
+  -- a row with another key than the next one is a run alone
+  run_alone : (r s : Row) (rest : List Row) → eqb (key r) (key s) ≡ false → runs key (r ∷ s ∷ rest) ≡ (r ∷ []) ∷ runs key (s ∷ rest)
+  unfolding runs joined
+  run_alone r s rest e =
+      let h = (runs_front s rest).2 in
+      ap (joined key r) h ∙ rw e (ap (λ (l : List (List Row)). (r ∷ []) ∷ l) (sym h))
 
-  pub run_within : (rows : List Row) → run_length key rows ≤ length rows
-  unfolding run_length
-  run_within [] = omega arith
-  run_within (r ∷ rs) = omega (arith, agreeing_within (key r) rs)
+  -- rows that agree each with the next, and the last of them not with the row behind them, are the first run
+  module _ {A : Type 0} (row : A → Row) where
+    abbrev pub agree : A → A → Bool
+    agree a b = eqb (key (row a)) (key (row b))
 
-  pub run_some : (rows : List Row) → 0 < length rows → 0 < run_length key rows
-  unfolding run_length
-  run_some [] h = absurd (omega arith)
-  run_some (r ∷ rs) h = omega arith
+    pub first_run : (run rest : List A) → 0 < length run → IsChunkByPrefix agree (run ++ rest) (length run)
+        → runs key (map row (run ++ rest)) ≡ map row run ∷ runs key (map row rest)
+    unfolding runs joined
+    first_run [] rest h p = absurd (omega arith)
+    first_run (a ∷ []) [] h p = refl
+    first_run (a ∷ []) (b ∷ rest) h p = run_alone (row a) (row b) (map row rest) (p.1 (omega arith) a)
+    first_run (a ∷ b ∷ run) rest h p =
+        let e : (k : ℕ) → suc k + 1 ≡ suc (k + 1) = λ k. omega arith in
+        let f : suc (suc (length run)) - 1 ≡ suc (suc (length run) - 1) = omega arith in
+        let q : IsChunkByPrefix agree ((b ∷ run) ++ rest) (length (b ∷ run)) = (
+          λ k d l. rw (e k) at (p.0 (suc k) d (omega arith)),
+          λ l d. rw f at (p.1 (omega arith) d),
+        ) in
+        rw (map-append row run rest)
+        (run_longer (row a) (row b) (map row run) (map row rest) (eqb-true (key (row a)) (key (row b)) (p.0 0 a (omega arith)))
+        (rw (map-append row run rest) at (first_run (b ∷ run) rest (omega arith) q)))
 
   -- the runs, one after the other, are the rows
   joined_whole : (r : Row) (gs : List (List Row)) → each (λ (run : List Row). run) (joined key r gs) ≡ r ∷ each (λ (run : List Row). run) gs
@@ -89,20 +98,6 @@ module _ (key : Row → ℕ) where
   unfolding runs
   runs_number [] = omega arith
   runs_number (r ∷ rs) = omega (arith, joined_number r (runs key rs), runs_number rs)
-
-  -- the first run over the numbers of the rows
-  module _ (u : List ℕ) (numbers : ℕ) (h : 2 < length u) (e : numbers ≡ 3 * run_length key (rows_of u)) where
-    rows_some : 0 < length (rows_of u)
-    rows_some = rw (rows_length u) (omega arith)
-
-    pub numbers_within : numbers ≤ length u
-    numbers_within = omega (arith, run_within (rows_of u), rows_length u)
-
-    pub numbers_some : 2 < numbers
-    numbers_some = omega (arith, run_some (rows_of u) rows_some)
-
-    pub runs_turn : runs key (rows_of u) ≡ rows_of (take numbers u) ∷ runs key (rows_of (drop numbers u))
-    runs_turn = rw (e, rows_take, rows_drop) (first_run (rows_of u) rows_some)
 
 each_within : {A : Type 0} (give : List A → List ℕ) (most : ℕ) → ((run : List A) → length (give run) ≤ most * length run)
     → (gs : List (List A)) → length (each give gs) ≤ most * length (each (λ (run : List A). run) gs)
@@ -165,14 +160,3 @@ sides_whole (r ∷ rs) f o =
     go zero e h whole only q = ap (λ (l : List Row). r ∷ l) (whole q)
     go (suc zero) e h whole only q = rw (only q).0 (ap (λ (l : List Row). r ∷ l) (only q).1)
     go (suc (suc n)) e h whole only q = absurd (omega arith)
-
--- the same over the numbers of the rows
-module _ (u : List ℕ) (split : ℕ) (w : side_rows 0 (rows_of u) ++ side_rows 1 (rows_of u) ≡ rows_of u) (e : split ≡ 3 * length (side_rows 0 (rows_of u))) where
-  pub split_within : split ≤ length u
-  split_within = omega (arith, sides_within (rows_of u), rows_length u)
-
-  pub internal_part : rows_of (take split u) ≡ side_rows 0 (rows_of u)
-  internal_part = rw (e, rows_take) (ap (take (length (side_rows 0 (rows_of u)))) (sym w) ∙ take_at (side_rows 0 (rows_of u)) (side_rows 1 (rows_of u)) _ refl)
-
-  pub external_part : rows_of (drop split u) ≡ side_rows 1 (rows_of u)
-  external_part = rw (e, rows_drop) (ap (drop (length (side_rows 0 (rows_of u)))) (sym w) ∙ drop_at (side_rows 0 (rows_of u)) (side_rows 1 (rows_of u)) _ refl)

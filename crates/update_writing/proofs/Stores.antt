@@ -1,5 +1,5 @@
 -- Laws of the octets of a net and of a host, stored one by one. Assumes nothing.
-use Prim.Native.Nat.{ℕ, suc, ◌+◌, ◌/◌, ◌%◌, ◌≤◌}
+use Prim.Native.Nat.{ℕ, suc, ◌+◌, ◌/◌, ◌%◌}
 use native.Mathlib.Numerals.{add-one}
 use native.Mathlib.Omega.{arith}
 use mathlib.Core.Path.{◌≡◌, refl}
@@ -7,18 +7,11 @@ use mathlib.Core.List.{List, [], ◌∷◌}
 use lib.ListN.{set}
 use Rattle.octets.specs.Numbers.{octets32}
 use Rattle.octets.specs.Written.{Written}
-use Rattle.nets.specs.Classes.{first_octet, width_of}
+use Rattle.nets.specs.Classes.{width_of}
 use Rattle.update_writing.specs.Blocks.{address_octets, net_octets, host_octets}
-use Rattle.update_writing.proofs.Claims.{width_fits}
 
 -- the octets of a net or a host by the width that was computed
 module _ (net width : ℕ) (e : width ≡ width_of net) where
-  pub no_width : (width ≡ 3 → ⊥) → (width ≡ 2 → ⊥) → (width ≡ 1 → ⊥) → width ≡ 0
-  no_width p q r = go width (width_fits width (first_octet net) e) p q r
-    where
-      go : (w : ℕ) → w ≤ 3 → (w ≡ 3 → ⊥) → (w ≡ 2 → ⊥) → (w ≡ 1 → ⊥) → w ≡ 0
-      go w h p q r = omega arith
-
   pub net_three : width ≡ 3 → net_octets net ≡ net / 16777216 % 256 ∷ net / 65536 % 256 ∷ net / 256 % 256 ∷ []
   unfolding net_octets address_octets
   net_three w = rw (← e, w)

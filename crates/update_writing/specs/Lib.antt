@@ -1,4 +1,3 @@
 pub mod Blocks
 pub mod Writable
 pub mod Claims
-pub mod Steps

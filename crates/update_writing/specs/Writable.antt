@@ -5,9 +5,13 @@ use Rattle.nets.specs.Classes.{good_net, on_net}
 use Rattle.nets.specs.Rows.{Row, rows_of}
 use Rattle.update_writing.specs.Blocks.{side_of}
 
+-- a row with a left-justified A, B or C net, a gateway on the common net, and at most this third number
+abbrev pub good_row : ℕ → ℕ → Row → Bool
+good_row common most row = good_net row.net && on_net common row.gateway && leb row.third most
+
 -- a row that the reader can give: its net is a left-justified A, B or C net, its gateway is on the Update's net, its third number at most 511
 unfoldable pub writable_row : ℕ → Row → Bool
-writable_row net row = good_net row.net && on_net net row.gateway && leb row.third 511
+writable_row net row = good_row net 511 row
 
 -- no row's side is below that of the row before it; the first comes after one of the side given
 unfoldable pub ordered : ℕ → List Row → Bool
@@ -17,10 +21,6 @@ ordered side (row ∷ rest) = leb side (side_of row) && ordered (side_of row) re
 -- 01: "more than 128 rows": how many rows the writer takes
 abbrev pub most_written : ℕ
 most_written = 128
-
--- the same in numbers, three a row
-abbrev pub most_written_numbers : ℕ
-most_written_numbers = 384
 
 -- the rows' part of refusal 16
 unfoldable pub writable_rows : ℕ → List Row → Bool

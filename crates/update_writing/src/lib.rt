@@ -1,17 +1,67 @@
 // Writing the gateway blocks of an Update from rows.
 #![tactic(auto)]
 
-ghost use Rattle.std.specs.Prelude.{◌≡◌, true, ◌+◌, ◌*◌, ◌≤◌, ◌<◌, ◌%◌, length, take};
+ghost use Rattle.std.specs.Prelude.{◌≡◌, true, ◌+◌, ◌*◌, ◌≤◌, ◌<◌, length, map, get_or};
 ghost use Rattle.std.proofs.lemmas.List.Edits.{sets};
+ghost use Rattle.checks.specs.Lists.{every};
+ghost use Rattle.octets.specs.Numbers.{word32};
 ghost use Rattle.octets.specs.Written.{Written};
 ghost use Rattle.nets.specs.Classes.{good_net};
-ghost use Rattle.nets.specs.Rows.{rows_of};
-ghost use Rattle.update_writing.specs.Blocks.{address_octets, net_octets, host_octets, nets_octets, group_octets, groups_octets, block_octets, side_octets, side_rows, distance_runs, gateway_runs, blocks_written, internal_blocks, external_blocks};
-ghost use Rattle.update_writing.specs.Writable.{most_written_numbers, ordered, writable_numbers, writable_row};
-ghost use Rattle.update_writing.specs.Steps.{column, agreeing, run_length};
+ghost use Rattle.nets.specs.Rows.{Row};
+ghost use Rattle.update_writing.specs.Blocks.{net_octets, host_octets, group_octets, block_octets, side_octets, gateway_runs, blocks_written, internal_blocks, external_blocks};
+ghost use Rattle.update_writing.specs.Writable.{most_written, good_row, ordered, writable_rows, writable_numbers};
 
-// How many numbers the writer takes, three a row: 128 rows.
-const MOST_NUMBERS: usize = 384;
+// How many rows the writer takes.
+const MOST_ROWS: usize = 128;
+
+// A row as a caller lends it.
+pub trait LentRow {
+    ghost as_row: { Self → Row };
+
+    fn net(&self) -> u32
+        ensures { result ≡ (as_row self.now).net };
+
+    fn gateway(&self) -> u32
+        ensures { result ≡ (as_row self.now).gateway };
+
+    // The distance, plus 256 if external.
+    fn third(&self) -> u32
+        ensures { result ≡ (as_row self.now).third };
+}
+
+// As three numbers.
+impl LentRow for [u32; 3] {
+    ghost as_row = { λ numbers. record { net = get_or numbers 0 0; gateway = get_or numbers 1 0; third = get_or numbers 2 0 } };
+
+    fn net(&self) -> u32 {
+        self[0]
+    }
+
+    fn gateway(&self) -> u32 {
+        self[1]
+    }
+
+    fn third(&self) -> u32 {
+        self[2]
+    }
+}
+
+// As a C host lends it: the same numbers, four octets each.
+impl LentRow for [u8; 12] {
+    ghost as_row = { λ octets. record { net = word32 octets 0; gateway = word32 octets 4; third = word32 octets 8 } };
+
+    fn net(&self) -> u32 {
+        octets::word32_at(self, 0)
+    }
+
+    fn gateway(&self) -> u32 {
+        octets::word32_at(self, 4)
+    }
+
+    fn third(&self) -> u32 {
+        octets::word32_at(self, 8)
+    }
+}
 
 // Where the blocks of an Update end in the buffer, and the two counts of its head.
 #[derive(Clone, Copy)]
@@ -21,261 +71,148 @@ pub struct Blocks {
     pub external: u8,
 }
 
-// Where a run ends in the buffer, and how many numbers it takes.
+// Where the blocks of one side end in the buffer, and how many they are.
 #[derive(Clone, Copy)]
-struct Group {
-    end: usize,
-    numbers: usize,
-}
-
-// Where a sequence of runs ends in the buffer, and how many runs it has.
-#[derive(Clone, Copy)]
-struct Sequence {
+struct Side {
     end: usize,
     count: u8,
 }
 
-// Whether a row has only what the reader can give.
-fn writable_row(common: u32, net: u32, gateway: u32, third: u32) -> bool
-    ensures { result ≡ writable_row common (record { net = net; gateway = gateway; third = third }) }
+// Whether a row has a net of class A, B or C, a gateway on the common net, and at most this third number.
+fn is_good_row<R: LentRow>(common: u32, most: u32, row: &R) -> bool
+    ensures { result ≡ good_row common most (R.as_row row.now) }
 {
-    if !nets::good_net(net) {
-        return false;
-    }
-    if !nets::on_net(common, gateway) {
-        return false;
-    }
-    if 511 < third {
-        return false;
-    }
-    true
+    nets::good_net(row.net()) && nets::on_net(common, row.gateway()) && row.third() <= most
+}
+
+// Whether each of these rows is such.
+pub fn are_good_rows<R: LentRow>(common: u32, most: u32, rows: &[R]) -> bool
+    ensures { result ≡ every (good_row common most) (map R.as_row rows.now) }
+{
+    rows.iter().all(|row| is_good_row(common, most, row))
+}
+
+// Whether no internal row comes after an external one.
+fn is_in_order<R: LentRow>(rows: &[R]) -> bool
+    ensures { result ≡ ordered 0 (map R.as_row rows.now) }
+{
+    rows.is_sorted_by_key(|row| row.third() / 256)
+}
+
+// Whether the writer takes these rows.
+fn are_writable<R: LentRow>(net: u32, rows: &[R]) -> bool
+    ensures { result ≡ writable_rows net (map R.as_row rows.now) }
+{
+    rows.len() <= MOST_ROWS && are_good_rows(net, 511, rows) && is_in_order(rows)
 }
 
 // Whether the writer takes these rows, three numbers a row.
 pub fn writable(net: u32, rows: &[u32]) -> bool
     ensures { result ≡ writable_numbers net rows.now }
 {
-    if rows.len() % 3 != 0 {
-        return false;
-    }
-    if MOST_NUMBERS < rows.len() {
-        return false;
-    }
-    let mut side = 0;
-    let mut rest = rows;
-    while 2 < rest.len() {
-        let third = rest[2];
-        if !writable_row(net, rest[0], rest[1], third) {
-            return false;
-        }
-        if third / 256 < side {
-            return false;
-        }
-        side = third / 256;
-        rest = &rest[3..];
-    }
-    true
+    let (rows, rest) = rows.as_chunks::<3>();
+    rest.is_empty() && are_writable(net, rows)
 }
 
-// Writes the net part of a net: an octet a store, since a copy of so few octets is a call.
+// Writes the net part of a net. An arm for each width: a copy of a number of octets not known before is a call.
 fn write_net(out: &mut [u8], at: usize, net: u32) -> usize
     requires { at + length (net_octets net) ≤ length out.old }
     ensures { Written (net_octets net) at out.old out.new result }
 {
-    let width = nets::width_of(net);
-    if width == 3 {
-        out[at] = octets::first_of(net);
-        out[at + 1] = octets::second_of(net);
-        out[at + 2] = octets::third_of(net);
-        return at + 3;
+    let [first, second, third, _] = net.to_be_bytes();
+    match nets::width_of(net) {
+        1 => octets::put(out, at, &[first]),
+        2 => octets::put(out, at, &[first, second]),
+        3 => octets::put(out, at, &[first, second, third]),
+        _ => at,
     }
-    if width == 2 {
-        out[at] = octets::first_of(net);
-        out[at + 1] = octets::second_of(net);
-        return at + 2;
-    }
-    if width == 1 {
-        out[at] = octets::first_of(net);
-        return at + 1;
-    }
-    at
 }
 
 // Writes the host part of a gateway.
-pub fn write_host(out: &mut [u8], at: usize, net: u32, gateway: u32) -> usize
+fn write_host(out: &mut [u8], at: usize, net: u32, gateway: u32) -> usize
     requires { at + length (host_octets net gateway) ≤ length out.old }
     ensures { Written (host_octets net gateway) at out.old out.new result }
 {
-    let width = nets::width_of(net);
-    if width == 3 {
-        out[at] = octets::fourth_of(gateway);
-        return at + 1;
+    let [first, second, third, fourth] = gateway.to_be_bytes();
+    match nets::width_of(net) {
+        1 => octets::put(out, at, &[second, third, fourth]),
+        2 => octets::put(out, at, &[third, fourth]),
+        3 => octets::put(out, at, &[fourth]),
+        _ => octets::put(out, at, &[first, second, third, fourth]),
     }
-    if width == 2 {
-        out[at] = octets::third_of(gateway);
-        out[at + 1] = octets::fourth_of(gateway);
-        return at + 2;
-    }
-    if width == 1 {
-        out[at] = octets::second_of(gateway);
-        out[at + 1] = octets::third_of(gateway);
-        out[at + 2] = octets::fourth_of(gateway);
-        return at + 3;
-    }
-    octets::put32(out, at, gateway);
-    at + 4
 }
 
-// How many numbers the first run of rows takes, of equal numbers in a column.
-fn run(rows: &[u32], by: usize) -> usize
-    requires { (2 < length rows.now) × (by < 3) }
-    ensures { result ≡ 3 * run_length (column by) (rows_of rows.now) }
+// Writes rows of one gateway and one distance: distance, number of nets, nets.
+fn write_group<R: LentRow>(out: &mut [u8], at: usize, rows: &[R]) -> usize
+    requires in_bounds { (0 < length rows.now) × (length rows.now ≤ most_written) }
+    requires rows_in_bounds { at + length (group_octets (map R.as_row rows.now)) ≤ length out.old }
+    ensures { Written (group_octets (map R.as_row rows.now)) at out.old out.new result }
 {
-    let number = rows[by];
-    let mut numbers = 3;
-    let mut rest = &rows[3..];
-    while 2 < rest.len() {
-        if rest[by] != number {
-            return numbers;
-        }
-        numbers += 3;
-        rest = &rest[3..];
+    out[at] = (rows[0].third() % 256) as u8;
+    out[at + 1] = rows.len() as u8;
+    let mut end = at + 2;
+    for row in rows {
+        end = write_net(out, end, row.net());
     }
-    numbers
+    end
 }
 
-// Writes the nets of the rows at the front whose third number is this one, and counts their numbers on the way.
-fn write_nets(out: &mut [u8], at: usize, third: u32, rows: &[u32]) -> Group
-    requires { at + length (nets_octets (take (agreeing (column 2) third (rows_of rows.now)) (rows_of rows.now))) ≤ length out.old }
-    ensures written { Written (nets_octets (take (agreeing (column 2) third (rows_of rows.now)) (rows_of rows.now))) at out.old out.new result.end }
-    ensures numbers_value { result.numbers ≡ 3 * agreeing (column 2) third (rows_of rows.now) }
+// Writes rows of one gateway: host, number of distances, and the groups.
+fn write_block<R: LentRow>(out: &mut [u8], at: usize, net: u32, rows: &[R]) -> usize
+    requires in_bounds { (0 < length rows.now) × (length rows.now ≤ most_written) }
+    requires rows_in_bounds { at + length (block_octets net (map R.as_row rows.now)) ≤ length out.old }
+    ensures { Written (block_octets net (map R.as_row rows.now)) at out.old out.new result }
 {
-    let mut end = at;
-    let mut numbers = 0;
+    let host = write_host(out, at, net, rows[0].gateway());
+    let mut end = host + 1;
+    let mut count = 0;
     let mut rest = rows;
-    while 2 < rest.len() {
-        if rest[2] != third {
-            return Group { end, numbers };
-        }
-        end = write_net(out, end, rest[0]);
-        numbers += 3;
-        rest = &rest[3..];
+    // A run at a time: no `for` over `chunk_by` is proved in generic code (antt does not admit its `iterator-loop-group`).
+    while let Some(group) = rest
+        .chunk_by(|row, next| row.third() == next.third())
+        .next()
+    {
+        end = write_group(out, end, group);
+        count += 1;
+        rest = &rest[group.len()..];
     }
-    Group { end, numbers }
-}
-
-// Writes the first run of one distance: distance, number of nets, nets.
-fn write_group(out: &mut [u8], at: usize, rows: &[u32]) -> Group
-    requires in_bounds { (2 < length rows.now) × (length rows.now ≤ most_written_numbers) }
-    requires rows_in_bounds { at + length (group_octets (rows_of (take (3 * run_length (column 2) (rows_of rows.now)) rows.now))) ≤ length out.old }
-    ensures written { Written (group_octets (rows_of (take result.numbers rows.now))) at out.old out.new result.end }
-    ensures numbers_value { result.numbers ≡ 3 * run_length (column 2) (rows_of rows.now) }
-{
-    let third = rows[2];
-    out[at] = (third % 256) as u8;
-    let nets = write_nets(out, at + 2, third, rows);
-    let end = nets.end;
-    let numbers = nets.numbers;
-    out[at + 1] = (numbers / 3) as u8;
-    Group { end, numbers }
-}
-
-// Writes the groups of a run of one gateway.
-fn write_groups(out: &mut [u8], at: usize, rows: &[u32]) -> Sequence
-    requires rows_len_bound { length rows.now ≤ most_written_numbers }
-    requires rows_in_bounds { at + length (groups_octets (rows_of rows.now)) ≤ length out.old }
-    ensures written { Written (groups_octets (rows_of rows.now)) at out.old out.new result.end }
-    ensures count_value { result.count ≡ length (distance_runs (rows_of rows.now)) }
-{
-    let mut end = at;
-    let mut found: usize = 0;
-    let mut rest = rows;
-    while 2 < rest.len() {
-        let group = write_group(out, end, rest);
-        let numbers = group.numbers;
-        end = group.end;
-        found += 1;
-        rest = &rest[numbers..];
-    }
-    let count = found as u8;
-    Sequence { end, count }
-}
-
-// Writes a run of one gateway: host, number of distances, and the groups.
-fn write_block(out: &mut [u8], at: usize, net: u32, rows: &[u32]) -> usize
-    requires in_bounds { (2 < length rows.now) × (length rows.now ≤ most_written_numbers) }
-    requires rows_in_bounds { at + length (block_octets net (rows_of rows.now)) ≤ length out.old }
-    ensures { Written (block_octets net (rows_of rows.now)) at out.old out.new result }
-{
-    let host = write_host(out, at, net, rows[1]);
-    let groups = write_groups(out, host + 1, rows);
-    out[host] = groups.count;
-    groups.end
+    out[host] = count;
+    end
 }
 
 // Writes the blocks of rows of one side.
-fn write_side(out: &mut [u8], at: usize, net: u32, rows: &[u32]) -> Sequence
-    requires rows_len_bound { length rows.now ≤ most_written_numbers }
-    requires rows_in_bounds { at + length (side_octets net (rows_of rows.now)) ≤ length out.old }
-    ensures written { Written (side_octets net (rows_of rows.now)) at out.old out.new result.end }
-    ensures count_value { result.count ≡ length (gateway_runs (rows_of rows.now)) }
+fn write_side<R: LentRow>(out: &mut [u8], at: usize, net: u32, rows: &[R]) -> Side
+    requires rows_len_bound { length rows.now ≤ most_written }
+    requires rows_in_bounds { at + length (side_octets net (map R.as_row rows.now)) ≤ length out.old }
+    ensures written { Written (side_octets net (map R.as_row rows.now)) at out.old out.new result.end }
+    ensures count_value { result.count ≡ length (gateway_runs (map R.as_row rows.now)) }
 {
     let mut end = at;
-    let mut found: usize = 0;
+    let mut count = 0;
     let mut rest = rows;
-    while 2 < rest.len() {
-        let numbers = run(rest, 1);
-        end = write_block(out, end, net, &rest[..numbers]);
-        found += 1;
-        rest = &rest[numbers..];
+    while let Some(block) = rest
+        .chunk_by(|row, next| row.gateway() == next.gateway())
+        .next()
+    {
+        end = write_block(out, end, net, block);
+        count += 1;
+        rest = &rest[block.len()..];
     }
-    let count = found as u8;
-    Sequence { end, count }
-}
-
-// How many numbers the internal rows take.
-fn internal_numbers(rows: &[u32]) -> usize
-    ensures { result ≡ 3 * length (side_rows 0 (rows_of rows.now)) }
-{
-    let mut numbers = 0;
-    let mut rest = rows;
-    while 2 < rest.len() {
-        if rest[2] < 256 {
-            numbers += 3;
-        }
-        rest = &rest[3..];
-    }
-    numbers
-}
-
-// The same of rows in order: all, where the last one is internal.
-fn split_of(rows: &[u32]) -> usize
-    requires { (length rows.now % 3 ≡ 0) × (ordered 0 (rows_of rows.now) ≡ true) }
-    ensures { result ≡ 3 * length (side_rows 0 (rows_of rows.now)) }
-{
-    let numbers = rows.len();
-    if numbers < 3 {
-        return 0;
-    }
-    if rows[numbers - 1] < 256 {
-        return numbers;
-    }
-    internal_numbers(rows)
+    Side { end, count }
 }
 
 // Writes the gateway blocks of writable rows from index `at` on, internal blocks first.
-pub fn write_blocks(out: &mut [u8], at: usize, net: u32, rows: &[u32]) -> Blocks
-    requires net_value { (good_net net ≡ true) × (writable_numbers net rows.now ≡ true) }
-    requires rows_in_bounds { at + 9 * length (rows_of rows.now) ≤ length out.old }
-    ensures out_after { out.new ≡ sets out.old at (blocks_written net (rows_of rows.now)) }
-    ensures end_value { result.end ≡ at + length (blocks_written net (rows_of rows.now)) }
-    ensures internal_value { result.internal ≡ internal_blocks (rows_of rows.now) }
-    ensures external_value { result.external ≡ external_blocks (rows_of rows.now) }
+pub fn write_blocks<R: LentRow>(out: &mut [u8], at: usize, net: u32, rows: &[R]) -> Blocks
+    requires net_value { (good_net net ≡ true) × (writable_rows net (map R.as_row rows.now) ≡ true) }
+    requires rows_in_bounds { at + 9 * length rows.now ≤ length out.old }
+    ensures out_after { out.new ≡ sets out.old at (blocks_written net (map R.as_row rows.now)) }
+    ensures end_value { result.end ≡ at + length (blocks_written net (map R.as_row rows.now)) }
+    ensures internal_value { result.internal ≡ internal_blocks (map R.as_row rows.now) }
+    ensures external_value { result.external ≡ external_blocks (map R.as_row rows.now) }
 {
-    let split = split_of(rows);
-    let internal = write_side(out, at, net, &rows[..split]);
-    let middle = internal.end;
-    let external = write_side(out, middle, net, &rows[split..]);
+    let (internal, external) = rows.split_at(rows.partition_point(|row| row.third() < 256));
+    let internal = write_side(out, at, net, internal);
+    let external = write_side(out, internal.end, net, external);
     Blocks {
         end: external.end,
         internal: internal.count,

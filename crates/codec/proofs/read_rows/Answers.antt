@@ -7,6 +7,6 @@ pub returns-in-Update : goal.returns-in-Update
 unfolding meaning_reading
 returns-in-Update c = rw c.in-Update.is (rw c.in-Update.is at c.read_update.ensures)
 
-pub returns : goal.returns
+pub returns-in_default : goal.returns-in_default
 unfolding rowless zeros
-returns c = rowless_read _ _ _ c.in_default.not-Update
+returns-in_default c = rowless_read _ _ _ c.in_default.not-Update

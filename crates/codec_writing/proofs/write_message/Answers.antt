@@ -1,8 +1,10 @@
 use mathlib.Core.Path.{sym, ◌∙◌}
+use Rattle.std.proofs.Common.{refl, ◌/◌, length}
+use Rattle.update_writing.proofs.Lists.{rows_chunks}
 use Rattle.octets_checksum.proofs.Laws.{sealed_length}
 use Rattle.codec_writing.specs.Octets.{plain_octets, message_octets}
 use Rattle.codec_writing.specs.Room.{room_for}
-use Rattle.codec_writing.proofs.Laws.{update_asked}
+use Rattle.codec_writing.proofs.Laws.{update_asked, rows_asked}
 use Rattle.codec_writing.proofs.write_message.Goals as goal
 
 pub write_intervals-requires : goal.write_intervals-requires
@@ -38,7 +40,7 @@ unfolding room_for
 write_poll-requires c = rw c.in-Poll.is at c.requires.message_in_bounds
 
 pub write_update-requires : goal.write_update-requires
-write_update-requires c = let both = update_asked _ _ c.args.rows.now _ _ _ c.in-Update.net c.in-Update.is (c.requires.rows_value, c.requires.message_in_bounds) in record { net_value = both.0; in_bounds = both.1 }
+write_update-requires c = let both = update_asked _ _ c.args.rows.now _ _ _ c.in-Update.net c.in-Update.is (c.requires.rows_value, c.requires.message_in_bounds) in record { net_value = (both.0.0, rw (← c.as_chunks.ensures.front) at (rows_asked _ (length c.args.rows.now / 3) c.args.rows.now refl both.0.1)); in_bounds = both.1 }
 
 pub write_error-requires : goal.write_error-requires
 unfolding room_for
@@ -77,7 +79,7 @@ unfolding message_octets plain_octets
 returns-in-Poll c = rw c.in-Poll.is (record { value = c.write_poll.ensures.value ∙ sym (sealed_length _); buffer_after = c.write_poll.ensures.buffer_after })
 
 pub returns-in-Update : goal.returns-in-Update
-returns-in-Update c = rw c.in-Update.is (record { value = c.write_update.ensures.value; buffer_after = c.write_update.ensures.buffer_after })
+returns-in-Update c = rw (c.in-Update.is, ← rows_chunks (length c.args.rows.now / 3) c.args.rows.now refl, ← c.as_chunks.ensures.front) (record { value = c.write_update.ensures.value; buffer_after = c.write_update.ensures.buffer_after })
 
 pub returns-in-Error : goal.returns-in-Error
 unfolding message_octets plain_octets

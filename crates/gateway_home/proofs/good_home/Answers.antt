@@ -1,28 +1,13 @@
--- `gateway_home::good_home` meets its contract. The loop keeps: the rows left, and the first gateway, decide for all. Assumes nothing.
-use native.Mathlib.Omega.{arith}
-use mathlib.Core.Path.{sym, ◌∙◌}
-use lib.ListN.{length-drop}
-use Rattle.checks.proofs.Laws.{part_from_lem}
-use Rattle.gateway_home.proofs.Laws.{ragged, long, tested, bad_row, good_row, no_row}
+use Rattle.std.proofs.Common.{refl, sym, ◌∙◌, ◌≡◌, ◌/◌, ◌%◌, length, eqb-true}
+use Rattle.update_writing.proofs.Lists.{rows_chunks}
+use Rattle.gateway_home.proofs.Laws.{whole_home, ragged_home}
 use Rattle.gateway_home.proofs.good_home.Goals as goal
 
-pub returns-then-home-ne0 : goal.returns-then-home-ne0
-returns-then-home-ne0 c = ragged _ _ c.if-home-ne0.true
+pub returns-then-is_empty : goal.returns-then-is_empty
+returns-then-is_empty c =
+    let e : length c.args.home.now % 3 ≡ 0 = sym c.as_chunks.ensures.back_len ∙ eqb-true _ 0 (sym c.is_empty.ensures ∙ c.if-is_empty.true) in
+    rw (whole_home c.args.settings c.args.home.now e, ← rows_chunks (length c.args.home.now / 3) c.args.home.now refl, ← c.as_chunks.ensures.front) c.are_good_rows.ensures
 
-pub returns-then-home-gt384 : goal.returns-then-home-gt384
-returns-then-home-gt384 c = long _ _ c.if-home-ne0.false c.if-home-gt384.true
-
-pub loop-rest-init : goal.loop-rest-init
-loop-rest-init c = tested _ _ c.if-home-ne0.false c.if-home-gt384.false
-
-pub returns-then-not-is_home_row : goal.returns-then-not-is_home_row
-returns-then-not-is_home_row c = sym (c.loop-rest.invariant ∙ bad_row _ _ _ c.loop-rest-test.true (sym c.if-not-is_home_row.true ∙ c.is_home_row.ensures))
-
-pub loop-rest-smaller : goal.loop-rest-smaller
-loop-rest-smaller c = rw (part_from_lem 3 c.loop-rest.rest.now) (simp length-drop (omega arith))
-
-pub loop-rest-preserved : goal.loop-rest-preserved
-loop-rest-preserved c = rw (part_from_lem 3 c.loop-rest.rest.now) (c.loop-rest.invariant ∙ good_row _ _ _ c.loop-rest-test.true (sym c.if-not-is_home_row.false ∙ c.is_home_row.ensures))
-
-pub returns : goal.returns
-returns c = c.is_own_first.ensures ∙ sym (c.loop-rest.invariant ∙ no_row _ _ _ c.loop-rest-test.false)
+pub returns-else-is_empty : goal.returns-else-is_empty
+returns-else-is_empty c =
+    rw (c.if-is_empty.false, ragged_home c.args.settings c.args.home.now (rw (← c.as_chunks.ensures.back_len) (sym c.is_empty.ensures ∙ c.if-is_empty.false)))

@@ -7,5 +7,5 @@ use Rattle.gateway_stages.proofs.note_reach.Goals as goal
 pub returns-in-Hello : goal.returns-in-Hello
 returns-in-Hello c = left_by _ _ _ c.requires _ _ _ c.set_r.ensures c.note.ensures c.recount-next.ensures _ (ap One c.i_heard_you_message.ensures ∙ hello_says _ _ _ _ _ _ c.in-Hello.is)
 
-pub returns : goal.returns
-returns c = left_by _ _ _ c.requires _ _ _ c.set_r.ensures c.note.ensures c.recount-next.ensures _ (other_says _ _ c.args.m c.in_default.not-Hello)
+pub returns-in_default : goal.returns-in_default
+returns-in_default c = left_by _ _ _ c.requires _ _ _ c.set_r.ensures c.note.ensures c.recount-next.ensures _ (other_says _ _ c.args.m c.in_default.not-Hello)

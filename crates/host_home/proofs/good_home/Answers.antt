@@ -1,16 +1,12 @@
--- `host_home::good_home` meets its contract, test by test. Assumes nothing.
-use mathlib.Core.Path.{sym, ◌∙◌}
-use Rattle.host_home.proofs.Home.{not_whole, long, rows_bad, rows_good}
+use Rattle.std.proofs.Common.{refl, sym, ◌∙◌, ◌≡◌, ◌/◌, ◌%◌, length, eqb-true}
+use Rattle.host_home.proofs.Home.{home_good, home_ragged}
 use Rattle.host_home.proofs.good_home.Goals as goal
 
-pub returns-then-home-ne0 : goal.returns-then-home-ne0
-returns-then-home-ne0 c = not_whole _ _ c.if-home-ne0.true
+pub returns-then-is_empty : goal.returns-then-is_empty
+returns-then-is_empty c =
+    let e : length c.args.home.now % 12 ≡ 0 = sym c.as_chunks.ensures.back_len ∙ eqb-true _ 0 (sym c.is_empty.ensures ∙ c.if-is_empty.true) in
+    rw (← home_good c.args.settings (length c.args.home.now / 12) c.args.home.now refl e, ← c.as_chunks.ensures.front) c.are_good_rows.ensures
 
-pub returns-then-home-gt-MOST_OCTETS : goal.returns-then-home-gt-MOST_OCTETS
-returns-then-home-gt-MOST_OCTETS c = long _ _ c.if-home-ne0.false c.if-home-gt-MOST_OCTETS.true
-
-pub returns-then-not-are_home_rows : goal.returns-then-not-are_home_rows
-returns-then-not-are_home_rows c = rows_bad _ _ c.if-home-ne0.false c.if-home-gt-MOST_OCTETS.false (sym c.if-not-are_home_rows.true ∙ c.are_home_rows.ensures)
-
-pub returns : goal.returns
-returns c = c.is_own_first.ensures ∙ rows_good _ _ c.if-home-ne0.false c.if-home-gt-MOST_OCTETS.false (sym c.if-not-are_home_rows.false ∙ c.are_home_rows.ensures)
+pub returns-else-is_empty : goal.returns-else-is_empty
+returns-else-is_empty c =
+    rw (c.if-is_empty.false, home_ragged c.args.settings c.args.home.now (rw (← c.as_chunks.ensures.back_len) (sym c.is_empty.ensures ∙ c.if-is_empty.false)))

@@ -9,19 +9,16 @@ use mathlib.Core.Path.{refl, sym, ◌∙◌}
 use native.Mathlib.Omega.{arith}
 use Rattle.host_listing.proofs.are_slots_listable.Goals as goal
 
-pub loop-i-init : goal.loop-i-init
-loop-i-init c = (omega arith, refl)
-
 pub is_slot_listable-requires : goal.is_slot_listable-requires
 is_slot_listable-requires c = (c.requires, c.loop-i-test.true)
 
 pub returns-then-not-is_slot_listable : goal.returns-then-not-is_slot_listable
 unfolding entries left
-returns-then-not-is_slot_listable c = let e = eight c.args.block.now in sym (c.loop-i.invariant.1 ∙ listable_not (state_in c.args.block.now) (words_of c.args.table.now) c.loop-i.i (omega arith) (sym c.is_slot_listable.ensures ∙ c.if-not-is_slot_listable.true))
+returns-then-not-is_slot_listable c = let e = eight c.args.block.now in sym (c.loop-i.invariant ∙ listable_not (state_in c.args.block.now) (words_of c.args.table.now) c.loop-i.i (omega arith) (sym c.is_slot_listable.ensures ∙ c.if-not-is_slot_listable.true))
 
 pub loop-i-preserved : goal.loop-i-preserved
-loop-i-preserved c = let e = eight c.args.block.now in (omega arith, c.loop-i.invariant.1 ∙ listable_more (state_in c.args.block.now) (words_of c.args.table.now) c.loop-i.i (omega arith) (sym c.is_slot_listable.ensures ∙ c.if-not-is_slot_listable.false))
+loop-i-preserved c = let e = eight c.args.block.now in c.loop-i.invariant ∙ listable_more (state_in c.args.block.now) (words_of c.args.table.now) c.loop-i.i (omega arith) (sym c.is_slot_listable.ensures ∙ c.if-not-is_slot_listable.false)
 
 pub returns : goal.returns
 unfolding entries left
-returns c = let e = eight c.args.block.now in sym (c.loop-i.invariant.1 ∙ listable_end (state_in c.args.block.now) (words_of c.args.table.now) c.loop-i.i (omega arith))
+returns c = let e = eight c.args.block.now in sym (c.loop-i.invariant ∙ listable_end (state_in c.args.block.now) (words_of c.args.table.now) c.loop-i.i (omega arith))

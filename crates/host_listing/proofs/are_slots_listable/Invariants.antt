@@ -6,11 +6,7 @@ use Rattle.listing_lines.specs.Listing.{listable}
 use Rattle.host_state_block.specs.Block.{state_in}
 use Rattle.octets_words.specs.Words.{words_of}
 use mathlib.Core.Path.{◌≡◌}
-use Prim.Native.Nat.{◌-◌, ◌≤◌}
 use Rattle.host_listing.proofs.are_slots_listable.Given as goal
 
 abbrev pub invariant-loop-i : goal.invariant-loop-i
-invariant-loop-i l = (l.i ≤ 8) × (every listable (left (state_in l.block) (words_of l.table) 0) ≡ every listable (left (state_in l.block) (words_of l.table) l.i))
-
-abbrev pub decreases-loop-i : goal.decreases-loop-i
-decreases-loop-i l = 8 - l.i
+invariant-loop-i l = every listable (left (state_in l.block) (words_of l.table) 0) ≡ every listable (left (state_in l.block) (words_of l.table) l.i)

@@ -1,8 +1,7 @@
 use mathlib.Core.Path.{◌∙◌}
-use Prim.Native.Nat.{◌*◌}
-use Rattle.host_state_block.specs.Block.{slot_size}
-use Rattle.host_state_block.proofs.Read.{address_read}
+use Rattle.octets.proofs.Back.{quad_bytes}
+use Rattle.host_state_block.proofs.Read.{address_start}
 use Rattle.host_state_block.proofs.address_at.Goals as goal
 
 pub returns : goal.returns
-returns c = c.quad.ensures ∙ address_read c.args.slots.now (c.args.i * slot_size)
+returns c = c.from_be_bytes.ensures ∙ quad_bytes _ _ _ _ ∙ address_start c.args.block.now c.args.i c.slot_start-at.result c.requires.1 c.slot_start-at.ensures

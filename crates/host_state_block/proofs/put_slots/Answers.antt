@@ -1,5 +1,5 @@
 use native.Mathlib.Omega.{arith}
-use mathlib.Core.Path.{◌≡◌, refl, sym, ap, ◌∙◌}
+use mathlib.Core.Path.{◌≡◌, sym, ap, ◌∙◌}
 use Prim.Native.Nat.{ℕ}
 use lib.ListN.{length, get_or}
 use lib.Seq.{sets}
@@ -11,27 +11,15 @@ use Rattle.host_state_block.proofs.Written.{slot_kept, slots_next, slots_done}
 use borrow.Author.Rules.{rules}
 use Rattle.host_state_block.proofs.put_slots.Goals as goal
 
-pub loop-i-init : goal.loop-i-init
-loop-i-init c = (omega arith, refl, refl)
-
-pub bounds-st-i : goal.bounds-st-i
-bounds-st-i c = c.loop-i-test.true
-
-pub put_slot_at-requires : goal.put_slot_at-requires
-put_slot_at-requires c = omega (arith, c.requires, c.slot_start.ensures)
-
-pub loop-i-smaller : goal.loop-i-smaller
-loop-i-smaller c = omega (arith, c.loop-i-test.true)
-
 pub loop-i-preserved : goal.loop-i-preserved
 unfolding free_slot idle
 loop-i-preserved c =
     let l = c.loop-i in
     let eight : length c.args.st.slots ≡ 8 = search (rules, unmapped) in
     let w = c.put_slot_at.ensures ∙ ap (λ (n : ℕ). sets l.out n (slot_octets (get_or c.args.st.slots l.i free_slot))) c.slot_start.ensures in
-    (omega arith, slot_kept l.out _ _ _ c.put_slot_at.ensures ∙ l.invariant.1, l.invariant.2 ∙ slots_next l.out _ c.args.st.slots l.i free_slot (omega (arith, eight, c.loop-i-test.true)) w)
+    (slot_kept l.out _ _ _ c.put_slot_at.ensures ∙ l.invariant.0, l.invariant.1 ∙ slots_next l.out _ c.args.st.slots l.i free_slot (omega (arith, eight, c.loop-i-test.true)) w)
 
 pub returns : goal.returns
 returns c =
     let eight : length c.args.st.slots ≡ 8 = search (rules, unmapped) in
-    sym (c.loop-i.invariant.2 ∙ slots_done c.loop-i.out (slot_start c.loop-i.i) c.args.st.slots c.loop-i.i (omega (arith, eight, c.loop-i-test.false)))
+    sym (c.loop-i.invariant.1 ∙ slots_done c.loop-i.out (slot_start c.loop-i.i) c.args.st.slots c.loop-i.i (omega (arith, eight, c.loop-i-test.false)))

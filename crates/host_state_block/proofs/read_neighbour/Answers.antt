@@ -7,13 +7,13 @@ pub returns : goal.returns
 unfolding slot_in slot_of record_of numbers_at
 returns c = λ i.
     record {
-      s = c.pair.ensures i;
-      r = c.pair-2.ensures i;
-      period1 = c.pair-3.ensures i;
-      period2 = c.pair-4.ensures i;
-      t1 = c.pair-5.ensures i;
-      t2 = c.pair-6.ensures i;
-      t3 = c.pair-7.ensures i;
+      s = c.from_be_bytes.ensures i;
+      r = c.from_be_bytes-2.ensures i;
+      period1 = c.from_be_bytes-3.ensures i;
+      period2 = c.from_be_bytes-4.ensures i;
+      t1 = c.from_be_bytes-5.ensures i;
+      t2 = c.from_be_bytes-6.ensures i;
+      t3 = c.from_be_bytes-7.ensures i;
       phase = c.phase_at.ensures i;
       mode = c.mode_at.ensures i;
       register = get_or c.args.part.now 24 0;

@@ -1,18 +1,14 @@
-use native.Mathlib.Omega.{arith}
-use mathlib.Core.List.{[], ◌∷◌}
-use Rattle.gateway_state.specs.Slots.{slot_at}
-use Rattle.host_state_block.specs.Block.{slots_in, state_in}
+use Prim.Native.Nat.{ℕ, ◌<◌}
+use mathlib.Core.Path.{◌≡◌}
+use lib.ListN.{get_or}
+use Rattle.std.proofs.Common.{rules}
+use Rattle.gateway_state.specs.Slots.{free_slot, slot_at}
+use Rattle.host_state_block.specs.Block.{state_in}
+use Rattle.host_state_block.proofs.Read.{slots_are}
 use Rattle.host_state_block.proofs.read_state.Goals as goal
 
-pub slot_at-requires-8 : goal.slot_at-requires-8
-slot_at-requires-8 c = omega (arith, c.requires)
-
 pub returns : goal.returns
-unfolding slot_at slots_in state_in
-returns c = λ i.
-    record {
-      settings = c.settings_of-settings.ensures i;
-      slots =
-          c.slot_at.ensures i ∷ c.slot_at-2.ensures i ∷ c.slot_at-3.ensures i ∷ c.slot_at-4.ensures i
-          ∷ c.slot_at-5.ensures i ∷ c.slot_at-6.ensures i ∷ c.slot_at-7.ensures i ∷ c.slot_at-8.ensures i ∷ [];
-    }
+returns c =
+    let st = state_in c.args.block.now in
+    let each : (i : ℕ) → i < 8 → get_or c.from_fn.result i free_slot ≡ slot_at (state_in c.args.block.now) i = λ i h. let m = (c.from_fn.ensures.items.at i free_slot h).2.met in search (rules, m) in
+    λ k. record { settings = c.settings_of.ensures k; slots = slots_are c.args.block.now c.from_fn.result c.from_fn.ensures.items.long each k }

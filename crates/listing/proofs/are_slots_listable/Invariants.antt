@@ -3,11 +3,7 @@ use Rattle.checks.specs.Lists.{every}
 use Rattle.listing.proofs.Laws.{left}
 use Rattle.listing_lines.specs.Listing.{listable}
 use mathlib.Core.Path.{◌≡◌}
-use Prim.Native.Nat.{◌-◌, ◌≤◌}
 use Rattle.listing.proofs.are_slots_listable.Given as goal
 
 abbrev pub invariant-loop-i : goal.invariant-loop-i
-invariant-loop-i l = (l.i ≤ 8) × (every listable (left l.st l.table 0) ≡ every listable (left l.st l.table l.i))
-
-abbrev pub decreases-loop-i : goal.decreases-loop-i
-decreases-loop-i l = 8 - l.i
+invariant-loop-i l = every listable (left l.st l.table 0) ≡ every listable (left l.st l.table l.i)

@@ -1,25 +1,10 @@
 -- `listing_lines::put_row` meets its contract, line by line. Assumes nothing.
-use Rattle.listing_lines.proofs.Laws.{all_left, line_room, line_turn, last_line}
-use Rattle.listing_lines.specs.Lines.{distance_in, row_lines, row_text}
+use Rattle.checks.specs.Lists.{join}
 use Rattle.text.specs.Text.{text}
+use Rattle.text.proofs.Writing.{puts_nothing, puts_both}
+use Rattle.listing_lines.specs.Lines.{distance_in, row_lines, row_text}
 use Rattle.listing_lines.proofs.put_row.Goals as goal
 
-pub put_line_dotted-first-requires : goal.put_line_dotted-first-requires
-unfolding text row_lines row_text
-put_line_dotted-first-requires c = line_room (all_left (row_lines (record { net = c.args.net; gateway = c.args.gateway; third = c.args.third })) c.args.at c.args.out.now c.requires)
-
-pub put_line_dotted-second-requires : goal.put_line_dotted-second-requires
-unfolding text row_lines row_text
-put_line_dotted-second-requires c = line_room (line_turn (all_left (row_lines (record { net = c.args.net; gateway = c.args.gateway; third = c.args.third })) c.args.at c.args.out.now c.requires) c.put_line_dotted-first.ensures)
-
-pub put_line_decimal-distance-requires : goal.put_line_decimal-distance-requires
-unfolding text distance_in row_lines row_text
-put_line_decimal-distance-requires c = line_room (line_turn (line_turn (all_left (row_lines (record { net = c.args.net; gateway = c.args.gateway; third = c.args.third })) c.args.at c.args.out.now c.requires) c.put_line_dotted-first.ensures) c.put_line_dotted-second.ensures)
-
-pub put_side-requires : goal.put_side-requires
-unfolding text distance_in row_lines row_text
-put_side-requires c = line_room (line_turn (line_turn (line_turn (all_left (row_lines (record { net = c.args.net; gateway = c.args.gateway; third = c.args.third })) c.args.at c.args.out.now c.requires) c.put_line_dotted-first.ensures) c.put_line_dotted-second.ensures) c.put_line_decimal-distance.ensures)
-
 pub returns : goal.returns
-unfolding text distance_in row_lines row_text
-returns c = last_line (line_turn (line_turn (line_turn (all_left (row_lines (record { net = c.args.net; gateway = c.args.gateway; third = c.args.third })) c.args.at c.args.out.now c.requires) c.put_line_dotted-first.ensures) c.put_line_dotted-second.ensures) c.put_line_decimal-distance.ensures) c.put_side.ensures
+unfolding join text distance_in row_lines row_text
+returns c = puts_both c.put_line.ensures (puts_both c.put_line-2.ensures (puts_both c.put_line-3.ensures (puts_both (rw c.side_word.ensures at c.put_line-4.ensures) (puts_nothing _))))

@@ -1,12 +1,10 @@
 -- `listing_lines::put_rows` meets its contract. The loop keeps what is left to write. Assumes nothing.
-use Rattle.listing_lines.specs.Steps.{rows_text}
-use Rattle.octets.proofs.Storing.{Writing}
+use mathlib.Core.Path.{◌≡◌}
+use Rattle.std.specs.Slice.Iter.{chunks_exact_size, chunks_exact_rest}
 use Rattle.nets.specs.Rows.{rows_of}
-use lib.ListN.{length}
+use Rattle.text.proofs.Writing.{Left}
+use Rattle.listing_lines.specs.Steps.{rows_text}
 use Rattle.listing_lines.proofs.put_rows.Given as goal
 
-abbrev pub invariant-loop-rest : goal.invariant-loop-rest
-invariant-loop-rest l = Writing (rows_text (rows_of l.rows)) l.at l.initial.out (rows_text (rows_of l.rest)) l.end l.out
-
-abbrev pub decreases-loop-rest : goal.decreases-loop-rest
-decreases-loop-rest l = length l.rest
+abbrev pub invariant-loop-row : goal.invariant-loop-row
+invariant-loop-row l = (chunks_exact_size l.row-iterator ≡ 3) × Left (rows_text (rows_of l.rows)) l.initial.out (rows_text (rows_of (chunks_exact_rest l.row-iterator))) l.out

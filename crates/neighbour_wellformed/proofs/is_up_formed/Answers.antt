@@ -1,12 +1,7 @@
-use native.Mathlib.Omega.{arith}
-use Rattle.neighbour_wellformed.proofs.ByState.{up_refused, up_t2}
+use mathlib.Core.Path.{sym, ◌∙◌}
+use mathlib.Core.Bool.{true}
+use Rattle.neighbour_wellformed.proofs.ByState.{formed_in_up}
 use Rattle.neighbour_wellformed.proofs.is_up_formed.Goals as goal
 
-pub returns-then-n-lt1 : goal.returns-then-n-lt1
-returns-then-n-lt1 c = up_refused _ c.requires (λ l u. omega arith)
-
-pub returns-then-n-gt482 : goal.returns-then-n-gt482
-returns-then-n-gt482 c = up_refused _ c.requires (λ l u. omega arith)
-
-pub is_reached_formed-requires : goal.is_reached_formed-requires
-is_reached_formed-requires c = up_t2 _ c.requires c.if-n-lt1.false c.if-n-gt482.false
+pub returns-then-is_up : goal.returns-then-is_up
+returns-then-is_up c = c.is_reached_formed.ensures ∙ formed_in_up c.args.n true (sym c.is_up.ensures ∙ c.if-is_up.true)

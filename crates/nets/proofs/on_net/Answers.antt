@@ -1,17 +1,17 @@
-use Rattle.nets.proofs.Laws.{span_positive, off_classless, on_yes, on_no}
+use Rattle.std.proofs.Common.{◌≡◌, arith}
+use Rattle.nets.proofs.Laws.{on_a, on_b, on_c, on_none, width_fits}
 use Rattle.nets.proofs.on_net.Goals as goal
 
-pub returns-then-width-eq0 : goal.returns-then-width-eq0
-returns-then-width-eq0 c = off_classless _ _ 0 c.width_of-width.ensures _ c.if-width-eq0.true
+pub returns-in-1 : goal.returns-in-1
+returns-in-1 c = on_a c.args.net _ c.args.address c.width_of.ensures c.in-1.is
 
-pub nonzero_div-address : goal.nonzero_div-address
-nonzero_div-address c = rw c.host_span-span.ensures (span_positive _)
+pub returns-in-2 : goal.returns-in-2
+returns-in-2 c = on_b c.args.net _ c.args.address c.width_of.ensures c.in-2.is
 
-pub nonzero_div-net : goal.nonzero_div-net
-nonzero_div-net c = rw c.host_span-span.ensures (span_positive _)
+pub returns-in-3 : goal.returns-in-3
+returns-in-3 c = on_c c.args.net _ c.args.address c.width_of.ensures c.in-3.is
 
-pub returns-then-address-span : goal.returns-then-address-span
-returns-then-address-span c = on_yes _ _ _ c.width_of-width.ensures c.host_span-span.ensures c.if-width-eq0.false _ c.if-address-span.true
-
-pub returns : goal.returns
-returns c = on_no _ _ _ c.width_of-width.ensures c.host_span-span.ensures c.if-width-eq0.false _ c.if-address-span.false
+pub returns-in_default : goal.returns-in_default
+returns-in_default c =
+    let none : c.width_of.result ≡ 0 = omega (arith, width_fits c.args.net _ c.args.address c.width_of.ensures) in
+    on_none c.args.net _ c.args.address c.width_of.ensures none

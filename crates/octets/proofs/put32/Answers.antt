@@ -1,21 +1,9 @@
-use Prim.Native.Nat.{suc, ◌+◌}
-use mathlib.Core.Path.{◌≡◌}
-use lib.ListN.{length-set}
-use native.Mathlib.Numerals.{add-one}
+use mathlib.Core.List.{[]}
+use mathlib.Core.Path.{◌∙◌}
 use native.Mathlib.Omega.{arith}
+use Rattle.octets.specs.Numbers.{octets32}
+use Rattle.octets.proofs.Numbers.{sets_part}
 use Rattle.octets.proofs.put32.Goals as goal
 
-pub bounds-out-at-2 : goal.bounds-out-at-2
-bounds-out-at-2 c = simp length-set (omega arith)
-
-pub bounds-out-at-3 : goal.bounds-out-at-3
-bounds-out-at-3 c = simp length-set (omega arith)
-
-pub bounds-out-at-4 : goal.bounds-out-at-4
-bounds-out-at-4 c = simp length-set (omega arith)
-
 pub returns : goal.returns
-returns c =
-    let e : c.args.at + 2 ≡ suc (suc c.args.at) = omega arith in
-    let f : c.args.at + 3 ≡ suc (suc (suc c.args.at)) = omega arith in
-    rw (c.first_of.ensures, c.second_of.ensures, c.third_of.ensures, c.fourth_of.ensures, add-one, e, f)
+returns c = sets_part c.args.out.now (octets32 c.args.number []) _ c.args.at _ (c.copy_from_slice.ensures.after ∙ c.to_be_bytes.ensures) (omega arith) c.requires

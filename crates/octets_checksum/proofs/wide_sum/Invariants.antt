@@ -1,12 +1,13 @@
-use Prim.Native.Nat.{◌+◌, ◌<◌}
-use mathlib.Core.Path.{◌≡◌}
-use lib.ListN.{length}
+use Rattle.std.proofs.Common.{◌≡◌, ◌+◌}
+use Rattle.std.specs.Slice.Iter.{chunks_rest, chunks_size}
 use Rattle.octets_checksum.specs.Checksum.{folded}
 use Rattle.octets_checksum.specs.Wide.{wide_total}
 use Rattle.octets_checksum.proofs.wide_sum.Given as goal
 
-abbrev pub invariant-loop-rest : goal.invariant-loop-rest
-invariant-loop-rest l = (folded (l.sum + wide_total l.rest) ≡ folded (l.start + wide_total l.octets)) × (l.sum < 9223372071214514176)
-
-abbrev pub decreases-loop-rest : goal.decreases-loop-rest
-decreases-loop-rest l = length l.rest
+-- the sum folds with the blocks that are left as start does with all octets
+abbrev pub invariant-loop-block : goal.invariant-loop-block
+invariant-loop-block l =
+    (goal.iterator-loop-block).can_next l.block-iterator ×
+    (goal.iterator-loop-block).is_finite l.block-iterator ×
+    (chunks_size l.block-iterator ≡ 1048576) ×
+    (folded (l.sum + wide_total (chunks_rest l.block-iterator)) ≡ folded (l.start + wide_total l.octets))

@@ -1,22 +1,22 @@
--- `recording_bad_line::put_bad` meets its contract: the key, the number and the end of the line, one behind the other. Assumes nothing.
+-- `recording_bad_line::put_bad` meets its contract: the report is a line of text, at the front. Assumes nothing.
+use Rattle.std.proofs.Common.{rules}
 use native.Mathlib.Omega.{arith}
+use mathlib.Core.Path.{ap, ◌∙◌}
+use lib.ListN.{length}
 use Rattle.text.specs.Text.{text}
-use Rattle.text.proofs.Laws.{value_room, end_room, line_done}
+use Rattle.text.specs.Writer.{HasRoom}
+use Rattle.text.proofs.Writing.{laid}
 use Rattle.recording_bad_line.specs.BadLine.{bad_text}
-use Rattle.recording_bad_line.proofs.Laws.{report_fits, report_done}
+use Rattle.recording_bad_line.proofs.Laws.{bad_length}
 use Rattle.recording_bad_line.proofs.put_bad.Goals as goal
 
-pub put_long-end-requires : goal.put_long-end-requires
+pub put_line-requires : goal.put_line-requires
 unfolding text bad_text
-put_long-end-requires c = let a = c.args in value_room (text "bad=") _ 0 _ (report_fits a.number (omega arith) a.out.now c.requires) c.put-start.ensures
-
-pub put-requires : goal.put-requires
-unfolding text bad_text
-put-requires c = let a = c.args in omega (arith, end_room (text "bad=") _ 0 _ (report_fits a.number (omega arith) a.out.now c.requires) c.put-start.ensures c.put_long-end.ensures)
+put_line-requires c = omega (arith, bad_length c.args.number (omega arith), c.new-writer.ensures.begun, ap length c.new-writer.ensures.after, c.requires)
 
 pub returns : goal.returns
 unfolding text bad_text
 returns c =
-    let a = c.args in let fits = report_fits a.number (omega arith) a.out.now c.requires in
-    let both = report_done a.number (omega arith) a.out.now c.requires (line_done (text "bad=") _ 0 _ fits c.put-start.ensures c.put_long-end.ensures c.put.ensures) in
-    record { value = both.0; out_after = both.1 }
+    let room : HasRoom c.new-writer.result (bad_text c.args.number) = omega (arith, bad_length c.args.number (omega arith), c.new-writer.ensures.begun, ap length c.new-writer.ensures.after, c.requires) in
+    let both = laid c.new-writer.ensures.begun c.new-writer.ensures.after room c.put_line.ensures in
+    record { value = c.end.ensures ∙ both.0; out_after = search (rules, both.1) }

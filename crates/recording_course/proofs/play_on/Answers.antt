@@ -12,5 +12,5 @@ overflow_add-result c =
 
 pub returns : goal.returns
 returns c = let a = c.args in let t = c.turn-t in
-    let both = played_on a.c a.out.now a.line.now a.table.now a.piece.now _ c.rest_of-rest.ensures t.result t.ensures.value _ c.next_stage-stage.ensures _ _ _ t.ensures.line_after t.ensures.table_after t.ensures.out_after in
+    let both = played_on a.c a.out.now a.line.now a.table.now a.piece.now _ c.rest_of-rest.ensures t.result t.ensures.value _ c.next_stage.ensures _ _ _ t.ensures.line_after t.ensures.table_after t.ensures.out_after in
     record { value = both.0; line_after = both.1.0; table_after = both.1.1.0; out_after = both.1.1.1 }

@@ -1,17 +1,16 @@
--- `recording_message::put_address` meets its contract: the key, then the address, of 15 octets at most. Assumes nothing.
+-- `recording_message::put_address` meets its contract: a dotted quad has at most 15 octets. Assumes nothing.
 use native.Mathlib.Omega.{arith}
 use Rattle.text.proofs.Laws.{dotted_length}
-use Rattle.octets.proofs.Storing.{written_append}
+use Rattle.text.proofs.Writing.{puts_both}
 use Rattle.recording_message.specs.Message.{address_field}
 use Rattle.recording_message.proofs.put_address.Goals as goal
 
-pub put_dotted-requires : goal.put_dotted-requires
-put_dotted-requires c = omega (arith, c.requires, c.put-start.ensures.after, c.put-start.auto.out, dotted_length c.args.address)
+pub put-requires-2 : goal.put-requires-2
+put-requires-2 c = omega (arith, dotted_length c.args.address, c.requires, c.put.ensures.after, c.put.ensures.long)
 
 pub returns-clause-written : goal.returns-clause-written
 unfolding address_field
-returns-clause-written c = written_append _ _ c.put-start.ensures c.put_dotted.ensures
+returns-clause-written c = puts_both c.put.ensures c.put-2.ensures
 
 pub returns-clause-upper_bound : goal.returns-clause-upper_bound
-unfolding address_field
-returns-clause-upper_bound c = omega (arith, c.put-start.ensures.after, c.put_dotted.ensures.after, dotted_length c.args.address)
+returns-clause-upper_bound c = omega (arith, dotted_length c.args.address, c.put.ensures.after, c.put-2.ensures.after)

@@ -4,13 +4,9 @@ use Rattle.recording_message.specs.Message.{message_text}
 use borrow.Author.Rules.{rules}
 use Rattle.recording_message.proofs.put_message.Goals as goal
 
-pub put_reading-requires : goal.put_reading-requires
-put_reading-requires c = let f = count_few _ _ c.read-reading.ensures in search (rules, f)
+pub put_reading-requires-clause-rows_len : goal.put_reading-requires-clause-rows_len
+put_reading-requires-clause-rows_len c = let f = count_few _ _ c.read-reading.ensures in search (rules, f)
 
 pub returns-clause-written : goal.returns-clause-written
 unfolding message_text
 returns-clause-written c = rw (← c.read-reading.ensures) c.put_reading.ensures.written
-
-pub returns-clause-upper_bound : goal.returns-clause-upper_bound
-unfolding message_text
-returns-clause-upper_bound c = c.put_reading.ensures.upper_bound

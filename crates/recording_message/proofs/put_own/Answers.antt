@@ -46,4 +46,4 @@ unfolding own_fields
 returns-in-Error-clause-upper_bound c = omega (arith, c.put_error.ensures.upper_bound)
 
 pub returns-in_default-clause-written : goal.returns-in_default-clause-written
-returns-in_default-clause-written c = no_fields c.args.m _ _ (c.in_default.not-Request, c.in_default.not-Confirm, c.in_default.not-Poll, c.in_default.not-Update, c.in_default.not-Error)
+returns-in_default-clause-written c = no_fields c.args.m c.args.out.now (c.in_default.not-Request, c.in_default.not-Confirm, c.in_default.not-Poll, c.in_default.not-Update, c.in_default.not-Error)

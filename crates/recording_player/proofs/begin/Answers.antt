@@ -13,4 +13,4 @@ pub returns : goal.returns
 unfolding beginning zero_state fresh_of silent_of fresh_answer check if_ok good_settings
 returns c =
     let traced = c.args.traced in
-    ap (λ (o : Outcome). record { lines = 0; held = 0; broken = false; address = 0; ticks = 0; settings = no_settings; state = o.state; traced = traced; passed = 0 }) c.fresh-o.ensures
+    ap (λ (o : Outcome). record { lines = 0; held = 0; broken = false; address = 0; ticks = 0; settings = no_settings; state = o.state; traced = traced; passed = 0 }) c.fresh.ensures

@@ -3,14 +3,14 @@ use borrow.Author.Tests.{eq-eqb, ne_eqb}
 use Rattle.recording_trace.specs.Trace.{is_unchanged}
 use Rattle.recording_trace.proofs.is_unchanged.Goals as goal
 
-pub returns-then-phase_number : goal.returns-then-phase_number
+pub returns-then-from : goal.returns-then-from
 unfolding is_unchanged
-returns-then-phase_number c = rw (← c.phase_number.ensures, ← c.phase_number-2.ensures, ne_eqb _ _ c.if-phase_number.true)
+returns-then-from c = rw (← c.from.ensures, ← c.from-2.ensures, ne_eqb _ _ c.if-from.true)
 
-pub returns-then-before-after : goal.returns-then-before-after
+pub returns-then-found-left : goal.returns-then-found-left
 unfolding is_unchanged
-returns-then-before-after c = rw (← c.phase_number.ensures, ← c.phase_number-2.ensures, eq-eqb _ _ c.if-phase_number.false, ne_eqb _ _ c.if-before-after.true)
+returns-then-found-left c = rw (← c.from.ensures, ← c.from-2.ensures, eq-eqb _ _ c.if-from.false, ne_eqb _ _ c.if-found-left.true)
 
 pub returns : goal.returns
 unfolding is_unchanged
-returns c = rw (← c.phase_number.ensures, ← c.phase_number-2.ensures, eq-eqb _ _ c.if-phase_number.false, eq-eqb _ _ c.if-before-after.false)
+returns c = rw (← c.from.ensures, ← c.from-2.ensures, eq-eqb _ _ c.if-from.false, eq-eqb _ _ c.if-found-left.false)

@@ -9,9 +9,5 @@ pub returns-in-Receive-clause-written : goal.returns-in-Receive-clause-written
 unfolding text received_text
 returns-in-Receive-clause-written c = rw c.in-Receive.is c.put_message.ensures.written
 
-pub returns-in-Receive-clause-upper_bound : goal.returns-in-Receive-clause-upper_bound
-unfolding text received_text
-returns-in-Receive-clause-upper_bound c = omega (arith, c.put_message.ensures.upper_bound)
-
-pub returns-in_default-clause-written : goal.returns-in_default-clause-written
-returns-in_default-clause-written c = not_received c.args.deed _ _ _ _ c.in_default.not-Receive
+pub returns-in_default : goal.returns-in_default
+returns-in_default c = record { written = not_received c.args.deed c.args.net c.args.message.now c.args.out.now c.in_default.not-Receive; upper_bound = omega arith }

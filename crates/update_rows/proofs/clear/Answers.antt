@@ -1,6 +1,8 @@
--- `update_rows::clear` meets its contract: zeros from the front on. Assumes nothing.
-use Rattle.update_rows.proofs.Laws.{clear_all}
+-- `update_rows::clear` meets its contract: zeros. Assumes nothing.
+use Rattle.std.proofs.Common.{rules}
+use Rattle.update_rows.specs.Storing.{zeros}
 use Rattle.update_rows.proofs.clear.Goals as goal
 
 pub returns : goal.returns
-returns c = clear_all c.args.part.now _ c.clear_from.ensures
+unfolding zeros
+returns c = c.fill.ensures.after (λ y h. search rules)

@@ -8,8 +8,8 @@ use Prim.Native.Nat.{ℕ, ◌-◌}
 use Rattle.update_walk.proofs.host_width.Goals as goal
 
 pub overflow_sub-result : goal.overflow_sub-result
-overflow_sub-result c = omega (arith, c.width_of-width.ensures, width_small (first_octet c.args.net))
+overflow_sub-result c = omega (arith, c.width_of.ensures, width_small (first_octet c.args.net))
 
 pub returns : goal.returns
 unfolding host_width
-returns c = ap (λ (w : ℕ). 4 - w) c.width_of-width.ensures
+returns c = ap (λ (w : ℕ). 4 - w) c.width_of.ensures

@@ -1,39 +1,49 @@
--- `update_writing::write_blocks` meets its contract: writable rows are the internal ones and then the external ones. Assumes nothing.
--- what is known once it is found where the external rows begin
-use native.Mathlib.Omega.{arith}
-use mathlib.Core.Path.{sym, ◌∙◌}
-use Rattle.update_writing.proofs.Loops.{split_found, split_in, split_most, internal_length, internal_asked, external_asked, blocks_written_lem, internal_count, external_count}
-use Rattle.update_writing.proofs.Order.{split_asked}
+use Rattle.std.proofs.Common.{rules, arith, map}
+use Rattle.octets.proofs.Storing.{written_append}
+use Rattle.update_writing.specs.Blocks.{side_rows, side_octets, blocks_written, internal_blocks, external_blocks}
+use Rattle.update_writing.proofs.Order.{sides}
 use Rattle.update_writing.proofs.write_blocks.Goals as goal
 
-pub split_of-split-requires : goal.split_of-split-requires
-split_of-split-requires c = split_asked _ _ c.requires.net_value.1
+pub write_side-internal-requires-clause-rows_len_bound : goal.write_side-internal-requires-clause-rows_len_bound
+write_side-internal-requires-clause-rows_len_bound g c =
+    let s = sides g.R.LentRow.as_row c.args.net c.args.rows.now c.split_at.result.0.now c.split_at.result.1.now c.partition_point.result c.requires.net_value.0 c.requires.net_value.1 c.partition_point.ensures.bound c.partition_point.ensures.partitioned (λ a r f k. search rules) c.split_at.ensures.front c.split_at.ensures.back in
+    omega (arith, s.whole, s.most)
 
-pub slice_bounds-write_side-end : goal.slice_bounds-write_side-end
-slice_bounds-write_side-end c = sym (internal_length (split_found c.args.net c.args.rows.now c.args.at c.args.out.now c.split_of-split.result c.requires.net_value.0 c.requires.net_value.1 c.requires.rows_in_bounds c.split_of-split.ensures))
+pub write_side-internal-requires-clause-rows_in_bounds : goal.write_side-internal-requires-clause-rows_in_bounds
+write_side-internal-requires-clause-rows_in_bounds g c =
+    let s = sides g.R.LentRow.as_row c.args.net c.args.rows.now c.split_at.result.0.now c.split_at.result.1.now c.partition_point.result c.requires.net_value.0 c.requires.net_value.1 c.partition_point.ensures.bound c.partition_point.ensures.partitioned (λ a r f k. search rules) c.split_at.ensures.front c.split_at.ensures.back in
+    omega (arith, s.room, c.requires.rows_in_bounds)
 
-pub write_side-internal-requires : goal.write_side-internal-requires
-write_side-internal-requires c = let both = internal_asked (split_found c.args.net c.args.rows.now c.args.at c.args.out.now c.split_of-split.result c.requires.net_value.0 c.requires.net_value.1 c.requires.rows_in_bounds c.split_of-split.ensures) in record { rows_len_bound = both.0; rows_in_bounds = both.1 }
+pub write_side-external-requires-clause-rows_len_bound : goal.write_side-external-requires-clause-rows_len_bound
+write_side-external-requires-clause-rows_len_bound g c =
+    let s = sides g.R.LentRow.as_row c.args.net c.args.rows.now c.split_at.result.0.now c.split_at.result.1.now c.partition_point.result c.requires.net_value.0 c.requires.net_value.1 c.partition_point.ensures.bound c.partition_point.ensures.partitioned (λ a r f k. search rules) c.split_at.ensures.front c.split_at.ensures.back in
+    omega (arith, s.whole, s.most)
 
-pub offset_bounds-rows-split : goal.offset_bounds-rows-split
-offset_bounds-rows-split c = omega (arith, split_most (split_found c.args.net c.args.rows.now c.args.at c.args.out.now c.split_of-split.result c.requires.net_value.0 c.requires.net_value.1 c.requires.rows_in_bounds c.split_of-split.ensures))
+pub write_side-external-requires-clause-rows_in_bounds : goal.write_side-external-requires-clause-rows_in_bounds
+write_side-external-requires-clause-rows_in_bounds g c =
+    let s = sides g.R.LentRow.as_row c.args.net c.args.rows.now c.split_at.result.0.now c.split_at.result.1.now c.partition_point.result c.requires.net_value.0 c.requires.net_value.1 c.partition_point.ensures.bound c.partition_point.ensures.partitioned (λ a r f k. search rules) c.split_at.ensures.front c.split_at.ensures.back in
+    omega (arith, s.room, c.requires.rows_in_bounds, c.write_side-internal.ensures.written.after, c.write_side-internal.auto.out)
 
-pub slice_bounds-write_side-count : goal.slice_bounds-write_side-count
-slice_bounds-write_side-count c = split_in (split_found c.args.net c.args.rows.now c.args.at c.args.out.now c.split_of-split.result c.requires.net_value.0 c.requires.net_value.1 c.requires.rows_in_bounds c.split_of-split.ensures)
+pub returns-clause-out_after : goal.returns-clause-out_after
+unfolding blocks_written
+returns-clause-out_after g c =
+    let s = sides g.R.LentRow.as_row c.args.net c.args.rows.now c.split_at.result.0.now c.split_at.result.1.now c.partition_point.result c.requires.net_value.0 c.requires.net_value.1 c.partition_point.ensures.bound c.partition_point.ensures.partitioned (λ a r f k. search rules) c.split_at.ensures.front c.split_at.ensures.back in
+    (written_append (side_octets c.args.net (side_rows 0 (map g.R.LentRow.as_row c.args.rows.now))) (side_octets c.args.net (side_rows 1 (map g.R.LentRow.as_row c.args.rows.now))) (rw s.first at c.write_side-internal.ensures.written) (rw s.second at c.write_side-external.ensures.written)).list
 
-pub slice_bounds-write_side-start : goal.slice_bounds-write_side-start
-slice_bounds-write_side-start c = omega (arith, split_in (split_found c.args.net c.args.rows.now c.args.at c.args.out.now c.split_of-split.result c.requires.net_value.0 c.requires.net_value.1 c.requires.rows_in_bounds c.split_of-split.ensures))
+pub returns-clause-end_value : goal.returns-clause-end_value
+unfolding blocks_written
+returns-clause-end_value g c =
+    let s = sides g.R.LentRow.as_row c.args.net c.args.rows.now c.split_at.result.0.now c.split_at.result.1.now c.partition_point.result c.requires.net_value.0 c.requires.net_value.1 c.partition_point.ensures.bound c.partition_point.ensures.partitioned (λ a r f k. search rules) c.split_at.ensures.front c.split_at.ensures.back in
+    (written_append (side_octets c.args.net (side_rows 0 (map g.R.LentRow.as_row c.args.rows.now))) (side_octets c.args.net (side_rows 1 (map g.R.LentRow.as_row c.args.rows.now))) (rw s.first at c.write_side-internal.ensures.written) (rw s.second at c.write_side-external.ensures.written)).after
 
-pub write_side-external-requires : goal.write_side-external-requires
-write_side-external-requires c = let both = external_asked (split_found c.args.net c.args.rows.now c.args.at c.args.out.now c.split_of-split.result c.requires.net_value.0 c.requires.net_value.1 c.requires.rows_in_bounds c.split_of-split.ensures) c.write_side-internal.ensures.written in record { rows_len_bound = both.0; rows_in_bounds = both.1 }
+pub returns-clause-internal_value : goal.returns-clause-internal_value
+unfolding internal_blocks
+returns-clause-internal_value g c =
+    let s = sides g.R.LentRow.as_row c.args.net c.args.rows.now c.split_at.result.0.now c.split_at.result.1.now c.partition_point.result c.requires.net_value.0 c.requires.net_value.1 c.partition_point.ensures.bound c.partition_point.ensures.partitioned (λ a r f k. search rules) c.split_at.ensures.front c.split_at.ensures.back in
+    rw s.first at c.write_side-internal.ensures.count_value
 
-pub returns : goal.returns
-returns c =
-    let s = split_found c.args.net c.args.rows.now c.args.at c.args.out.now c.split_of-split.result c.requires.net_value.0 c.requires.net_value.1 c.requires.rows_in_bounds c.split_of-split.ensures in
-    let b = blocks_written_lem s c.write_side-internal.ensures.written c.write_side-external.ensures.written in
-    record {
-      out_after = b.list;
-      end_value = b.after;
-      internal_value = c.write_side-internal.ensures.count_value ∙ internal_count s;
-      external_value = c.write_side-external.ensures.count_value ∙ external_count s;
-    }
+pub returns-clause-external_value : goal.returns-clause-external_value
+unfolding external_blocks
+returns-clause-external_value g c =
+    let s = sides g.R.LentRow.as_row c.args.net c.args.rows.now c.split_at.result.0.now c.split_at.result.1.now c.partition_point.result c.requires.net_value.0 c.requires.net_value.1 c.partition_point.ensures.bound c.partition_point.ensures.partitioned (λ a r f k. search rules) c.split_at.ensures.front c.split_at.ensures.back in
+    rw s.second at c.write_side-external.ensures.count_value

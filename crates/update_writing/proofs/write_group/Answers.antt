@@ -1,30 +1,25 @@
--- `update_writing::write_group` meets its contract: the distance, the nets, and between them their number. Assumes nothing.
-use Prim.Native.Nat.{ℕ, ◌*◌}
-use native.Mathlib.Omega.{arith}
-use mathlib.Core.Path.{refl, sym, ap, ◌∙◌}
-use lib.ListN.{length-set}
-use Rattle.nets.specs.Rows.{rows_of}
-use Rattle.update_writing.proofs.Loops.{run_agree, run_most, run_size, run_written}
-use Rattle.update_writing.specs.Steps.{column, run_length}
+use Rattle.std.proofs.Common.{arith, length-set}
+use Rattle.update_writing.proofs.Loops.{nets_start, nets_room, nets_turn, nets_done}
 use Rattle.update_writing.proofs.write_group.Goals as goal
 
 pub bounds-out-at : goal.bounds-out-at
-bounds-out-at c = omega (arith, run_size c.args.rows.now c.requires.in_bounds.0 (3 * run_length (column 2) (rows_of c.args.rows.now)) refl, c.requires.rows_in_bounds)
-
-pub write_nets-nets-requires : goal.write_nets-nets-requires
-write_nets-nets-requires c = simp length-set (omega (arith, run_size c.args.rows.now c.requires.in_bounds.0 (3 * run_length (column 2) (rows_of c.args.rows.now)) refl, c.requires.rows_in_bounds))
-
-pub overflow_cast-out-2 : goal.overflow_cast-out-2
-overflow_cast-out-2 c = omega (arith, run_most c.args.rows.now c.requires.in_bounds.0 c.write_nets-nets.result.numbers (c.write_nets-nets.ensures.numbers_value ∙ ap (λ (k : ℕ). 3 * k) (sym (run_agree c.args.rows.now c.requires.in_bounds.0))), c.requires.in_bounds.1)
+bounds-out-at g c = let s = nets_start g.R.LentRow.as_row c.index-rows-0.result c.args.rows.now c.args.at c.args.out.now c.requires.in_bounds.0 c.requires.rows_in_bounds in omega (arith, s.0)
 
 pub bounds-out-at-2 : goal.bounds-out-at-2
-bounds-out-at-2 c = omega (arith, run_size c.args.rows.now c.requires.in_bounds.0 (3 * run_length (column 2) (rows_of c.args.rows.now)) refl, c.requires.rows_in_bounds, simp length-set at c.write_nets-nets.auto.out)
+bounds-out-at-2 g c =
+    let s = nets_start g.R.LentRow.as_row c.index-rows-0.result c.args.rows.now c.args.at c.args.out.now c.requires.in_bounds.0 c.requires.rows_in_bounds in
+    simp length-set (omega (arith, s.0))
 
-pub shape_of-out : goal.shape_of-out
-shape_of-out c = simp length-set (simp length-set at c.write_nets-nets.auto.out)
+pub loop-row-init : goal.loop-row-init
+loop-row-init g c =
+    let s = nets_start g.R.LentRow.as_row c.index-rows-0.result c.args.rows.now c.args.at c.args.out.now c.requires.in_bounds.0 c.requires.rows_in_bounds in
+    rw (← c.index-rows-0.is, ← c.third.ensures) at s.1
 
-pub returns-clause-written : goal.returns-clause-written
-returns-clause-written c = run_written c.args.rows.now c.requires.in_bounds.0 _ (c.write_nets-nets.ensures.numbers_value ∙ ap (λ (k : ℕ). 3 * k) (sym (run_agree c.args.rows.now c.requires.in_bounds.0))) _ _ _ _ c.write_nets-nets.ensures.written
+pub write_net-end-requires : goal.write_net-end-requires
+write_net-end-requires g c = rw (c.net.ensures, c.row-item.is) (nets_room g.R.LentRow.as_row c.row-item.result c.args.rows.now c.loop-row.invariant c.loop-row-test.true)
 
-pub returns-clause-numbers_value : goal.returns-clause-numbers_value
-returns-clause-numbers_value c = c.write_nets-nets.ensures.numbers_value ∙ ap (λ (k : ℕ). 3 * k) (sym (run_agree c.args.rows.now c.requires.in_bounds.0))
+pub loop-row-preserved : goal.loop-row-preserved
+loop-row-preserved g c = nets_turn g.R.LentRow.as_row c.row-item.result c.args.rows.now c.loop-row.invariant c.loop-row-test.true (rw (c.net.ensures, c.row-item.is) at c.write_net-end.ensures)
+
+pub returns : goal.returns
+returns g c = nets_done g.R.LentRow.as_row c.args.rows.now c.loop-row.invariant c.loop-row-test.false

@@ -1,12 +1,10 @@
--- `update_writing::write_side` meets its contract. The loop keeps what is left to write and to count, run by run. Assumes nothing.
-use lib.ListN.{length}
-use Rattle.update_writing.proofs.Loops.{Grouping}
+use Rattle.std.proofs.Common.{length}
 use Rattle.update_writing.specs.Blocks.{block_octets}
+use Rattle.update_writing.proofs.Loops.{Grouping}
 use Rattle.update_writing.proofs.write_side.Given as goal
 
-abbrev pub invariant-loop-rest : goal.invariant-loop-rest
-invariant-loop-rest l =
-    Grouping (λ row. row.gateway) (block_octets l.net) l.rows l.at l.initial.out l.rest l.end l.found l.out
+abbrev pub invariant-loop-block : goal.invariant-loop-block
+invariant-loop-block g l = Grouping g.R.LentRow.as_row (λ row. row.gateway) (block_octets l.net) l.rows l.at l.fn.out l.rest l.end l.count l.out
 
-abbrev pub decreases-loop-rest : goal.decreases-loop-rest
-decreases-loop-rest l = length l.rest
+abbrev pub decreases-loop-block : goal.decreases-loop-block
+decreases-loop-block g l = length l.rest

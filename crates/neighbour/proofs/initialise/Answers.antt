@@ -1,7 +1,0 @@
-use Rattle.neighbour.specs.Record.{initialised}
-use mathlib.Core.Path.{refl}
-use Rattle.neighbour.proofs.initialise.Goals as goal
-
-pub returns : goal.returns
-unfolding initialised
-returns c = refl

@@ -1,0 +1,10 @@
+use Rattle.std.proofs.Common.{◌+◌, length}
+use Rattle.update_writing.specs.Blocks.{group_octets}
+use Rattle.update_writing.proofs.Loops.{Grouping}
+use Rattle.update_writing.proofs.write_block.Given as goal
+
+abbrev pub invariant-loop-group : goal.invariant-loop-group
+invariant-loop-group g l = Grouping g.R.LentRow.as_row (λ row. row.third) group_octets l.rows (l.host + 1) l.initial.out l.rest l.end l.count l.out
+
+abbrev pub decreases-loop-group : goal.decreases-loop-group
+decreases-loop-group g l = length l.rest

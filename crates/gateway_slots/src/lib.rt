@@ -2,8 +2,10 @@
 #![tactic(auto)]
 
 ghost use Rattle.std.specs.Prelude.{◌≡◌};
+ghost use Rattle.gateway_state.specs.Slots.{newcomer, free_slot};
+ghost use Rattle.gateway_state.specs.Outcomes.{silent_of};
 ghost use Rattle.gateway_slots.specs.Calls.{empty_state, fresh_of, add_of, remove_of};
-ghost use Rattle.gateway_slots.specs.Steps.{answered};
+ghost use Rattle.gateway_slots.specs.Steps.{placed};
 
 use checks::Refusal;
 use gateway_state::{Outcome, State};
@@ -17,19 +19,16 @@ fn empty(settings: Settings) -> State
     State { settings, slots }
 }
 
-// A call that never replies: the state that it makes, or why it makes none.
+// A call that never replies, carried out: the state that it leaves.
 #[tactic(auto, unfolding(gateway_state::specs::Outcomes::silent_of, checks::specs::Checks::if_ok))]
-fn answered(st: State, made: Result<State, Refusal>) -> Outcome
-    ensures { result ≡ answered st made }
+fn carried_out(st: State) -> Outcome
+    ensures { result ≡ silent_of 0 st st }
 {
-    match made {
-        Ok(state) => Outcome {
-            answer: 0,
-            first: 0,
-            second: 0,
-            state,
-        },
-        Err(refusal) => gateway_state::refused(st, refusal),
+    Outcome {
+        answer: 0,
+        first: 0,
+        second: 0,
+        state: st,
     }
 }
 
@@ -47,13 +46,12 @@ pub fn fresh(settings: Settings) -> Outcome
         };
         return gateway_state::refused(empty(none), Refusal::BadArgument);
     }
-    let st = empty(settings);
-    answered(st, Ok(st))
+    carried_out(empty(settings))
 }
 
-// The state with another neighbour.
-fn with_neighbour(st: State, address: u32, asn: u16) -> Result<State, Refusal>
-    ensures { answered st result ≡ add_of st address asn }
+// Where another neighbour's slot goes. A place is handed on, not a state: a state is copied each time.
+fn place_for(st: State, address: u32, asn: u16) -> Result<usize, Refusal>
+    ensures { placed st (newcomer address asn) result ≡ add_of st address asn }
 {
     if !gateway_state::well_formed(st) {
         return Err(Refusal::IllFormedState);
@@ -67,18 +65,21 @@ fn with_neighbour(st: State, address: u32, asn: u16) -> Result<State, Refusal>
     let Some(free) = gateway_state::lowest_free(st) else {
         return Err(Refusal::NoFreeSlot);
     };
-    Ok(gateway_state::with_slot(st, free, gateway_state::new_slot(address, asn)))
+    Ok(free)
 }
 
 pub fn add(st: State, address: u32, asn: u16) -> Outcome
     ensures { result ≡ add_of st address asn }
 {
-    answered(st, with_neighbour(st, address, asn))
+    match place_for(st, address, asn) {
+        Ok(i) => carried_out(gateway_state::with_slot(st, i, gateway_state::new_slot(address, asn))),
+        Err(refusal) => gateway_state::refused(st, refusal),
+    }
 }
 
-// The state without the neighbour. Only an Idle one is removed, so that no row of the table outlives it.
-fn without_neighbour(st: State, address: u32) -> Result<State, Refusal>
-    ensures { answered st result ≡ remove_of st address }
+// Where the neighbour's slot is. Only an Idle one is removed, so that no row of the table outlives it.
+fn place_of(st: State, address: u32) -> Result<usize, Refusal>
+    ensures { placed st free_slot result ≡ remove_of st address }
 {
     if !gateway_state::well_formed(st) {
         return Err(Refusal::IllFormedState);
@@ -89,11 +90,14 @@ fn without_neighbour(st: State, address: u32) -> Result<State, Refusal>
     if !gateway_state::slot_at(st, i).neighbour.phase.is_idle() {
         return Err(Refusal::NotIdle);
     }
-    Ok(gateway_state::with_slot(st, i, gateway_state::free_slot()))
+    Ok(i)
 }
 
 pub fn remove(st: State, address: u32) -> Outcome
     ensures { result ≡ remove_of st address }
 {
-    answered(st, without_neighbour(st, address))
+    match place_of(st, address) {
+        Ok(i) => carried_out(gateway_state::with_slot(st, i, gateway_state::free_slot())),
+        Err(refusal) => gateway_state::refused(st, refusal),
+    }
 }

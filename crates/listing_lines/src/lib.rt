@@ -42,7 +42,7 @@ pub fn mode_word(mode: Mode) -> &'static [u8]
 
 // The word of a row's side.
 #[tactic(auto, unfolding(crate::specs::Lines::side_word, text::specs::Text::text))]
-pub fn side_word(third: u32) -> &'static [u8]
+pub fn side_word(third: u32) -> &'static [u8; 3]
     ensures { result.now ≡ side_word third }
 {
     if 256 <= third { b"ext" } else { b"int" }

@@ -1,12 +1,21 @@
 -- Laws of octets stored one part after the other. Assumes nothing.
-use Prim.Native.Nat.{ℕ, ◌+◌, ◌≤◌}
+use Prim.Native.Nat.{ℕ, suc, ◌+◌, ◌≤◌, ◌<◌}
+use native.Mathlib.Numerals.{add-one}
 use native.Mathlib.Omega.{arith}
 use mathlib.Core.Path.{◌≡◌, refl, sym, ap, ◌∙◌}
 use mathlib.Core.List.{List, [], ◌∷◌, ◌++◌}
-use lib.ListN.{length, set, length-append}
-use lib.Seq.{sets, length-sets}
+use lib.ListN.{length, drop, get_or, set, length-append}
+use lib.Seq.{drop-cons, sets, length-sets}
 use Rattle.octets.specs.Written.{Written}
 use Rattle.octets.proofs.Numbers.{sets_append}
+
+-- one more octet copied
+pub copy_turn : (out src : List ℕ) (at i : ℕ) → i < length src
+    → sets out (at + i) (drop i src) ≡ sets (set out (at + i) (get_or src i 0)) (at + (i + 1)) (drop (i + 1) src)
+copy_turn out src at i h =
+    let e : suc (at + i) ≡ at + (i + 1) = omega arith in
+    ap (sets out (at + i)) (drop-cons src i 0 h) ∙ ap (λ (k : ℕ). sets (set out (at + i) (get_or src i 0)) k (drop (suc i) src)) e
+    ∙ ap (λ (k : ℕ). sets (set out (at + i) (get_or src i 0)) (at + (i + 1)) (drop k src)) (sym (add-one i))
 
 -- a single octet
 pub written_one : (v at : ℕ) (old : List ℕ) → Written (v ∷ []) at old (set old at v) (at + 1)

@@ -71,7 +71,11 @@ pub fn put(out: &mut [u8], at: usize, octets: &[u8]) -> usize
     requires { at + length octets.now ≤ length out.old }
     ensures { Written octets.now at out.old out.new result }
 {
-    let end = at + octets.len();
-    out[at..end].copy_from_slice(octets);
+    // An octet a store: most words are short, and a copy of them is a call.
+    let mut end = at;
+    for &octet in octets {
+        out[end] = octet;
+        end += 1;
+    }
     end
 }

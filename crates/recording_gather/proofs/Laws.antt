@@ -4,9 +4,9 @@ use native.Mathlib.Numerals.{add-one}
 use native.Mathlib.Omega.{arith}
 use mathlib.Core.Path.{◌≡◌, refl, sym, ap, ◌∙◌}
 use mathlib.Core.Bool.{true, false}
-use mathlib.Core.List.{List}
-use lib.ListN.{length, drop, set, get_or, length-set, drop_of_length-le}
-use lib.Seq.{drop-cons}
+use mathlib.Core.List.{List, ◌++◌, append-nil}
+use lib.ListN.{length, take, drop, set, get_or, length-set, drop_of_length-le}
+use lib.Seq.{drop-cons, sets, sets-eq, length-take-le}
 use borrow.Author.Tests.{eq-eqb, ne_eqb}
 use Rattle.recording_gather.specs.declared.Gathered.{Gathered}
 use Rattle.recording_gather.specs.Gathering.{longer, gathered, line_after}
@@ -53,3 +53,20 @@ module _ {old : List ℕ} {held : ℕ} {input line : List ℕ} {size used : ℕ}
   used_up_lem h =
       let e : length input ≡ used = omega arith in
       (sym (g.answer ∙ rw (e, drop_of_length-le input h)), sym (g.buffer ∙ rw (drop_of_length-le input h)))
+
+-- ---- put together outside the lent buffer
+
+-- the front of a buffer that has room for the longest line, copied over another of that size
+module _ (line whole : List ℕ) (h : 4118 ≤ length line) (k : length whole ≡ 4118) where
+  pub front_fits : 0 + length (take 4118 line) ≤ length whole
+  front_fits = omega (arith, length-take-le 4118 line h)
+
+  front_copied : sets whole 0 (take 4118 line) ≡ take 4118 line
+  front_copied =
+      let n : length (take 4118 line) ≡ 4118 = length-take-le 4118 line h in
+      let e : length whole ≤ 0 + length (take 4118 line) = omega arith in
+      sets-eq (take 4118 line) whole 0 front_fits ∙ ap (λ (r : List ℕ). take 4118 line ++ r) (drop_of_length-le whole e) ∙ append-nil (take 4118 line)
+
+  pub joined : (held : ℕ) (input copied new : List ℕ) → copied ≡ sets whole 0 (take 4118 line) → new ≡ line_after held copied input
+      → new ≡ line_after held (take 4118 line) input
+  joined held input copied new e f = f ∙ ap (λ (l : List ℕ). line_after held l input) (e ∙ front_copied)

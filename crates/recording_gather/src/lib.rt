@@ -63,7 +63,7 @@ pub fn join_piece(whole: &mut [u8], line: &[u8], held: u16, input: &[u8]) -> Gat
     ensures value { result ≡ gathered 0 held input.now }
     ensures whole_after { whole.new ≡ line_after held (take 4118 line.now) input.now }
 {
-    whole.copy_from_slice(&line[..4118]);
+    octets::put(whole, 0, &line[..4118]);
     gather(whole, held, input)
 }
 

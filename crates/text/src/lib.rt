@@ -94,13 +94,13 @@ impl<'a> Writer<'a> {
         self.end = value.store(self.out, self.end);
     }
 
-    // Writes a line: a name with its sign, and a value.
+    // Writes a line: a name with its sign, and a value. A name of a length that is known is no call to copy.
     #[tactic(auto, unfolding(crate::specs::Text::line))]
-    pub fn put_line<T: Text>(&mut self, name: &[u8], value: T)
-        requires { HasRoom self.old (line name.now (T.octets value)) }
-        ensures { Puts (line name.now (T.octets value)) self.old self.new }
+    pub fn put_line<N: Text, T: Text>(&mut self, name: N, value: T)
+        requires { HasRoom self.old (line (N.octets name) (T.octets value)) }
+        ensures { Puts (line (N.octets name) (T.octets value)) self.old self.new }
     {
-        let start = octets::put(self.out, self.end, name);
+        let start = name.store(self.out, self.end);
         let end = value.store(self.out, start);
         self.end = octets::put(self.out, end, b"\n");
     }

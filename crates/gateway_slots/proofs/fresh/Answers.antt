@@ -8,4 +8,4 @@ unfolding zero_state
 returns-then-not-good_settings c = rw (c.refused.ensures, c.empty.ensures) (fresh_16 _ (sym c.good_settings.ensures ∙ c.if-not-good_settings.true))
 
 pub returns : goal.returns
-returns c = rw (c.answered.ensures, c.empty-st.ensures) (fresh_done _ (sym c.good_settings.ensures ∙ c.if-not-good_settings.false))
+returns c = rw (c.carried_out.ensures, c.empty-2.ensures) (fresh_done _ (sym c.good_settings.ensures ∙ c.if-not-good_settings.false))

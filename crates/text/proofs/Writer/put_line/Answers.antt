@@ -8,5 +8,5 @@ use Rattle.text.proofs.Writer.put_line.Goals as goal
 pub returns : goal.returns
 unfolding line
 returns g c =
-    let w = written_append _ _ c.put-start.ensures (written_append _ _ c.store-end.ensures c.put-self.ensures) in
+    let w = written_append _ _ c.store-start.ensures (written_append _ _ c.store-end.ensures c.put-self.ensures) in
     record { same_reference = refl; list = w.list; long = search rules; after = w.after }

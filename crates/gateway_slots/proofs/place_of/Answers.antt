@@ -1,6 +1,6 @@
 use mathlib.Core.Path.{sym, ◌∙◌}
 use Rattle.gateway_slots.proofs.CallLaws.{remove_1, remove_5, remove_18, remove_done}
-use Rattle.gateway_slots.proofs.without_neighbour.Goals as goal
+use Rattle.gateway_slots.proofs.place_of.Goals as goal
 
 pub returns-then-not-well_formed : goal.returns-then-not-well_formed
 returns-then-not-well_formed c = remove_1 c.args.st c.args.address (sym c.well_formed-2.ensures ∙ c.if-not-well_formed.true)
@@ -16,4 +16,4 @@ returns-then-not-is_idle c =
 pub returns : goal.returns
 returns c =
     let e = rw c.in-Some.ensures.0 at c.slot_at.ensures in
-    rw (c.with_slot.ensures, c.free_slot.ensures, c.in-Some.ensures.0) (remove_done c.args.st c.args.address (sym c.well_formed-2.ensures ∙ c.if-not-well_formed.false) (rw c.in-Some.ensures.0 at c.in-Some.ensures.1) (rw e at (sym c.is_idle.ensures ∙ c.if-not-is_idle.false)))
+    rw c.in-Some.ensures.0 (remove_done c.args.st c.args.address (sym c.well_formed-2.ensures ∙ c.if-not-well_formed.false) (rw c.in-Some.ensures.0 at c.in-Some.ensures.1) (rw e at (sym c.is_idle.ensures ∙ c.if-not-is_idle.false)))

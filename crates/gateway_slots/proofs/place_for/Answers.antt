@@ -1,7 +1,7 @@
 use mathlib.Core.Path.{sym, ◌∙◌}
 use Rattle.gateway_state.proofs.Finding.{finds_some, finds_none}
 use Rattle.gateway_slots.proofs.CallLaws.{add_1, add_16, add_present, add_17, add_done}
-use Rattle.gateway_slots.proofs.with_neighbour.Goals as goal
+use Rattle.gateway_slots.proofs.place_for.Goals as goal
 
 pub returns-then-not-well_formed : goal.returns-then-not-well_formed
 returns-then-not-well_formed c = add_1 c.args.st c.args.address c.args.asn (sym c.well_formed-2.ensures ∙ c.if-not-well_formed.true)
@@ -16,4 +16,4 @@ pub returns-in_default : goal.returns-in_default
 returns-in_default c = add_17 c.args.st c.args.address c.args.asn (sym c.well_formed-2.ensures ∙ c.if-not-well_formed.false) (sym c.good_peer.ensures ∙ c.if-not-good_peer.false) (finds_none _ _ c.slot_of.ensures (sym c.is_some.ensures ∙ c.if-is_some.false)) c.in_default.ensures
 
 pub returns : goal.returns
-returns c = rw (c.with_slot.ensures, c.new_slot.ensures, c.in-Some.ensures.0) (add_done c.args.st c.args.address c.args.asn (sym c.well_formed-2.ensures ∙ c.if-not-well_formed.false) (sym c.good_peer.ensures ∙ c.if-not-good_peer.false) (finds_none _ _ c.slot_of.ensures (sym c.is_some.ensures ∙ c.if-is_some.false)) (rw c.in-Some.ensures.0 at c.in-Some.ensures.1))
+returns c = rw c.in-Some.ensures.0 (add_done c.args.st c.args.address c.args.asn (sym c.well_formed-2.ensures ∙ c.if-not-well_formed.false) (sym c.good_peer.ensures ∙ c.if-not-good_peer.false) (finds_none _ _ c.slot_of.ensures (sym c.is_some.ensures ∙ c.if-is_some.false)) (rw c.in-Some.ensures.0 at c.in-Some.ensures.1))

@@ -96,7 +96,7 @@ impl<'a> Writer<'a> {
 
     // Writes a line: a name with its sign, and a value. A name of a length that is known is no call to copy.
     #[tactic(auto, unfolding(crate::specs::Text::line))]
-    pub fn put_line<N: Text, T: Text>(&mut self, name: N, value: T)
+    pub fn put_line<N: Text + Copy, T: Text>(&mut self, name: N, value: T)
         requires { HasRoom self.old (line (N.octets name) (T.octets value)) }
         ensures { Puts (line (N.octets name) (T.octets value)) self.old self.new }
     {

@@ -2,20 +2,22 @@
 use Prim.Native.Nat.{ℕ, ◌≤◌}
 use native.Mathlib.Omega.{arith}
 use borrow.Author.Tests.{leb-true}
-use mathlib.Core.Path.{◌≡◌, refl}
+use mathlib.Core.Path.{◌≡◌, refl, ap, ◌∙◌}
 use mathlib.Core.Bool.{Bool, true, false, cond}
 use mathlib.Core.List.{List}
 use lib.ListN.{length}
 use lib.Dec.{leb}
 use Rattle.std.specs.Prelude.{Ok, Err}
+use Rattle.checks.specs.Refusals.{answer_of}
 use Rattle.nets.specs.Rows.{flat}
 use Rattle.message.specs.declared.Message.{Message}
 use Rattle.message.specs.declared.Message.TheVariants.{Request, Confirm, Refuse, Cease, CeaseAck, Hello, IHeardYou, Poll, Update, Error}
-use Rattle.update_walk.specs.Body.{Walk, whole, broken, walked_blocks, read_within, UpdateRead, accepted, broken_at, too_many, update_of, walked_of, refusal_of}
+use Rattle.update_walk.specs.Body.{Walk, whole, broken, walked_blocks, read_within, UpdateRead, accepted, broken_at, too_many, update_of, walked_of, refusal_of, update_number}
 use Rattle.update_walk.specs.declared.BodyError.{BodyError}
 use Rattle.update_walk.specs.declared.BodyError.TheVariants.{Broken, TooMany}
 use Rattle.update_rows.specs.Storing.{padded, is_whole, walked_rows, Storable}
-use Rattle.codec.specs.Reading.{most_read, refusal, rowless, update_reading, meaning_reading}
+use Rattle.codec.specs.Reading.{most_read, refusal, rowless, update_reading, meaning_reading, reading_after, read_of, UpdateNumber}
+use Rattle.codec.specs.declared.Reading.{Reading}
 use Rattle.codec.proofs.Laws.{OtherKind}
 
 -- what the walk counted, and what an accepted Update is
@@ -65,6 +67,30 @@ update_refused m net o error e = go (update_of 128 net o) error e
     go (broken_at n) TooMany e = absurd (cc)
     go too_many (Broken m) e = absurd (cc)
     go too_many TooMany e = refl
+
+-- 14 and 15 are the walk's
+pub update_numbered : (m : Message) (found : UpdateRead) → answer_of (update_reading m found).meaning ≡ update_number found
+unfolding update_reading refusal update_number
+update_numbered m (accepted rs) = refl
+update_numbered m (broken_at offset) = refl
+update_numbered m too_many = refl
+
+-- what is answered where the walk refuses, and where it counts rows
+pub refused_numbered : (m : Message) (net : ℕ) (o : List ℕ) (r : Reading) → r ≡ update_reading m (update_of most_read net o)
+    → answer_of r.meaning ≡ update_number (update_of most_read net o)
+refused_numbered m net o r e = ap (λ (r : Reading). answer_of r.meaning) e ∙ update_numbered m (update_of most_read net o)
+
+pub accepted_numbered : {net : ℕ} {o : List ℕ} {count : ℕ} → Accepted net o count → 0 ≡ update_number (update_of most_read net o)
+unfolding update_number
+accepted_numbered a = rw a.is refl
+
+pub update_number_laws : UpdateNumber
+unfolding read_of reading_after meaning_reading
+update_number_laws =
+    record {
+      update = update_numbered;
+      read = λ net o a q s n e. rw e (update_numbered (Update a q s n) (update_of most_read net o));
+    }
 
 -- kinds without rows
 pub rowless_read : (net : ℕ) (o : List ℕ) (m : Message) → OtherKind m → rowless m ≡ meaning_reading net o m

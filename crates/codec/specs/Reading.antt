@@ -1,13 +1,14 @@
 -- Reading alone. 01: "Reading alone, given the common net, makes 6 to 8, 10 to 12, 14 and 15 as if in Up, without reply (14 for any Update if that net is bad)".
 use Rattle.std.specs.Result.{result_and}
-use Rattle.std.specs.Prelude.{ℕ, List, length, Result, Ok, Err}
+use Rattle.std.specs.Prelude.{ℕ, ◌≡◌, List, length, Result, Ok, Err}
+use Rattle.checks.specs.Refusals.{answer_of}
 use Rattle.checks.specs.declared.Refusal.{Refusal}
 use Rattle.checks.specs.declared.Refusal.TheVariants.{BrokenBlocks, TooManyRows}
 use Rattle.nets.specs.Rows.{flat}
 use Rattle.message.specs.declared.Message.{Message}
 use Rattle.message.specs.declared.Message.TheVariants.{Request, Confirm, Refuse, Cease, CeaseAck, Hello, IHeardYou, Poll, Update, Error}
 use Rattle.message_reading.specs.Reading.{header_of, decode_of}
-use Rattle.update_walk.specs.Body.{UpdateRead, accepted, broken_at, too_many, update_of}
+use Rattle.update_walk.specs.Body.{UpdateRead, accepted, broken_at, too_many, update_of, update_number}
 use Rattle.update_rows.specs.Storing.{zeros, padded}
 use Rattle.codec.specs.declared.Reading.{Reading}
 
@@ -56,3 +57,9 @@ reading_after net o (Err refused) = refusal refused
 
 unfoldable pub read_of : ℕ → List ℕ → Reading
 read_of net o = reading_after net o (meaning_read o)
+
+-- what reading an Update answers is the number of what the walk found, `walked_number`: 14, 15, and 0 where it is accepted
+pub record UpdateNumber : Type 0 where
+  pub update : (m : Message) (found : UpdateRead) → answer_of (update_reading m found).meaning ≡ update_number found
+  pub read : (net : ℕ) (o : List ℕ) (a q s n : ℕ) → meaning_read o ≡ Ok (Update a q s n)
+      → answer_of (read_of net o).meaning ≡ update_number (update_of most_read net o)

@@ -2,8 +2,9 @@
 #![tactic(auto)]
 
 ghost use Rattle.std.specs.Prelude.{◌≡◌};
+ghost use Rattle.checks.specs.Refusals.{answer_of};
 ghost use Rattle.octets.specs.Buffer.{over};
-ghost use Rattle.update_walk.specs.Body.{update_of};
+ghost use Rattle.update_walk.specs.Body.{update_of, update_number};
 ghost use Rattle.codec.specs.Reading.{most_read, refusal, update_reading, meaning_reading, meaning_read, read_of};
 ghost use Rattle.codec.specs.Writing.{rows_allowed, writable, write_of, write_octets};
 
@@ -65,7 +66,8 @@ fn refuse(refused: Refusal) -> Reading
 
 // Reads an Update's rows: the message m is that Update's own meaning.
 fn read_update(net: u32, m: Message, message: &[u8]) -> Reading
-    ensures { result ≡ update_reading m (update_of most_read net message.now) }
+    ensures value { result ≡ update_reading m (update_of most_read net message.now) }
+    ensures number { answer_of result.meaning ≡ update_number (update_of most_read net message.now) }
 {
     let count = match update_walk::walk(net, message, 128) {
         Ok(count) => count,

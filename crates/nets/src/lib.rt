@@ -1,7 +1,7 @@
 // Net classes: the width of a net, its host part, and whether an address lies on it.
 #![tactic(auto)]
 
-ghost use Rattle.std.specs.Prelude.{◌≡◌};
+ghost use Rattle.std.specs.Prelude.{◌≡◌, ◌/◌, eqb};
 ghost use Rattle.nets.specs.Classes.{net_width, host_span, width_of, good_net, on_net};
 
 // How many octets a net takes by its first octet: 1, 2 or 3, and 0 for one of no class.
@@ -52,14 +52,22 @@ pub fn good_net(net: u32) -> bool
     }
 }
 
+// Whether two addresses have the same net part, where it is of this width.
+fn is_same_part(net: u32, address: u32, width: usize) -> bool
+    ensures { result ≡ eqb (address / host_span width) (net / host_span width) }
+{
+    let span = host_span(width);
+    u64::from(address) / span == u64::from(net) / span
+}
+
 // Whether an address lies on a net. An arm for each width: a division by a span that is not known before is slow.
 pub fn on_net(net: u32, address: u32) -> bool
     ensures { result ≡ on_net net address }
 {
     match width_of(net) {
-        1 => address / 0x100_0000 == net / 0x100_0000,
-        2 => address / 0x1_0000 == net / 0x1_0000,
-        3 => address / 0x100 == net / 0x100,
+        1 => is_same_part(net, address, 1),
+        2 => is_same_part(net, address, 2),
+        3 => is_same_part(net, address, 3),
         _ => false,
     }
 }

@@ -1,17 +1,14 @@
 -- Laws of the sum of 32-bit words, and of folding it. Assumes nothing.
 use Prim.Native.Nat.{ℕ, zero, suc, ◌+◌, ◌-◌, ◌*◌, ◌/◌, ◌%◌, ◌≤◌, ◌<◌}
-use native.Mathlib.Nat.{zero-add, add-zero}
+use native.Mathlib.Nat.{zero-add}
 use native.Mathlib.Omega.{arith}
 use mathlib.Core.Path.{◌≡◌, refl, sym, ap, ◌∙◌}
 use mathlib.Core.Bool.{Bool, true, false, cond}
 use borrow.Author.Tests.{lt-ltb, ltb-true}
 use lib.Dec.{ltb}
-use mathlib.Core.List.{List, [], ◌∷◌, ◌++◌, append-nil}
-use lib.ListN.{length, take, drop, get_or, length-append, length-drop, length-set, drop_of_length-le}
+use mathlib.Core.List.{List, [], ◌∷◌, ◌++◌}
+use lib.ListN.{length, take, drop, get_or, length-drop, length-set, drop_of_length-le}
 use lib.Seq.{drop-drop, take-append_seam, drop-append_seam}
-use Rattle.std.proofs.Common.{inl, inr, min}
-use Rattle.std.proofs.lemmas.Bool.{cases_lt}
-use Rattle.std.proofs.lemmas.List.{nil_from_length}
 use Rattle.std.specs.Int.{w32, from_be_bytes}
 use Rattle.std.specs.Simd.{first_chunks}
 use Rattle.octets.proofs.Back.{quad_bytes}
@@ -100,13 +97,13 @@ wide_turn (a ∷ b ∷ []) h = absurd (omega arith)
 wide_turn (a ∷ b ∷ c ∷ []) h = absurd (omega arith)
 wide_turn (a ∷ b ∷ c ∷ d ∷ l) h = refl
 
--- word i of the whole ones
-chunk_at : (k i : ℕ) (l : List ℕ) → i < k → get_or (first_chunks 4 k l) i [] ≡ take 4 (drop (i * 4) l)
-chunk_at zero i l h = absurd (omega (arith, h))
-chunk_at (suc k) zero l h = refl
-chunk_at (suc k) (suc i) l h =
-    let e : 4 + i * 4 ≡ suc i * 4 = omega arith in
-    chunk_at k i (drop 4 l) (omega arith) ∙ ap (take 4) (drop-drop (i * 4) 4 l ∙ ap (λ (n : ℕ). drop n l) e)
+-- chunk i of the whole ones, each of n octets
+chunk_at : (n k i : ℕ) (l : List ℕ) → i < k → get_or (first_chunks n k l) i [] ≡ take n (drop (i * n) l)
+chunk_at n zero i l h = absurd (omega (arith, h))
+chunk_at n (suc k) zero l h = let e : 0 * n ≡ 0 = omega arith in rw e refl
+chunk_at n (suc k) (suc i) l h =
+    let e : n + i * n ≡ suc i * n = omega arith in
+    chunk_at n k i (drop n l) (omega arith) ∙ ap (take n) (drop-drop (i * n) n l ∙ ap (λ (m : ℕ). drop m l) e)
 
 front_word : (l : List ℕ) → from_be_bytes w32 (take 4 l) ≡ word32 l 0
 front_word [] = refl
@@ -119,7 +116,7 @@ pub word_taken : (l : List ℕ) (words : List (List ℕ)) (i v : ℕ) → words 
     → v + wide_total (drop ((i + 1) * 4) l) ≡ wide_total (drop (i * 4) l)
 word_taken l words i v e h f =
     let n : (i + 1) * 4 ≡ i * 4 + 4 = omega arith in
-    rw (f, e, chunk_at (length l / 4) i l h, front_word, n, ← (drop-drop 4 (i * 4) l)) (wide_turn (drop (i * 4) l) (rw length-drop (omega arith)))
+    rw (f, e, chunk_at 4 (length l / 4) i l h, front_word, n, ← (drop-drop 4 (i * 4) l)) (wide_turn (drop (i * 4) l) (rw length-drop (omega arith)))
 
 -- the last word, of three octets or fewer
 pub wide_tail : (l : List ℕ) → length l < 4 → word32 l 0 ≡ wide_total l
@@ -163,6 +160,20 @@ cut (suc k) l = let e : suc k * 4 ≡ suc (suc (suc (suc (k * 4)))) = omega arit
 
 pub wide_cut : (n : ℕ) (l : List ℕ) → n % 4 ≡ 0 → wide_total (take n l) + wide_total (drop n l) ≡ wide_total l
 wide_cut n l h = let e : n ≡ n / 4 * 4 = omega arith in rw e (cut (n / 4) l)
+
+-- a turn of eight words
+pub turn_taken : (l : List ℕ) (turns : List (List ℕ)) (i v : ℕ) → turns ≡ first_chunks 32 (length l / 32) l → i < length l / 32 → v ≡ wide_total (get_or turns i [])
+    → v + wide_total (drop ((i + 1) * 32) l) ≡ wide_total (drop (i * 32) l)
+turn_taken l turns i v e h f =
+    let n : (i + 1) * 32 ≡ i * 32 + 32 = omega arith in
+    rw (f, e, chunk_at 32 (length l / 32) i l h, n, ← (drop-drop 32 (i * 32) l)) (wide_cut 32 (drop (i * 32) l) refl)
+
+-- the octets behind the last turn
+pub rest_taken : (l rest : List ℕ) (i s v x : ℕ) → rest ≡ drop (length l / 32 * 32) l → i ≡ length l / 32 → v ≡ wide_total rest
+    → folded (s + wide_total (drop (i * 32) l)) ≡ x → folded (s + v) ≡ x
+rest_taken l rest i s v x e j f h =
+    let tail : v ≡ wide_total (drop (i * 32) l) = f ∙ ap wide_total (e ∙ ap (λ (n : ℕ). drop (n * 32) l) (sym j)) in
+    rw tail h
 
 -- the first two words, the field left out
 pub wide_first : (m : List ℕ) → wide_total (blanked m) ≡ word32 m 0 + word16 m 6 + wide_total (drop 8 m)
@@ -257,11 +268,6 @@ roomy_below s = kept_below _ s (ltb s _) refl (omega arith)
 pub fold_taken : (s w t u : ℕ) → w + t ≡ u → folded (s + w + t) ≡ folded (s + u)
 fold_taken s w t u e = let k : s + w + t ≡ s + u = omega arith in ap folded k
 
--- no octets left
-pub fold_end : (s x : ℕ) (rest : List ℕ) → rest ≡ [] → folded (s + wide_total rest) ≡ x → folded s ≡ x
-unfolding wide_total
-fold_end s x rest e h = ap folded (sym (add-zero s)) ∙ (rw e at h)
-
 -- ---- the whole
 
 pub first_fits : (m : List ℕ) → Octets m → word32 m 0 + word16 m 6 < 8589934592
@@ -298,18 +304,6 @@ checksum_behind k p l r e o =
     sym (wide_checksum (l ++ r) o)
     ∙ ap (λ (x : List ℕ). 65535 - folded (wide_total x)) (blank_front l r (omega arith))
     ∙ ap (λ (x : ℕ). 65535 - folded x) (wide_behind (blanked l) r n)
-
--- a block at the front, and the rest
-pub wide_block : (l block rest : List ℕ) → l ≡ block ++ rest → length block ≡ min 1048576 (length l) → wide_total block + wide_total rest ≡ wide_total l
-unfolding wide_total
-wide_block l block rest parts size =
-    let sum = ap length parts ∙ length-append block rest in
-    elim (cases_lt (length l) 1048576) [
-      | inl short ↦
-          let none : rest ≡ [] = nil_from_length rest (omega arith) in
-          rw (parts, none, append-nil) (add-zero (wide_total block))
-      | inr long ↦ let whole : length block % 4 ≡ 0 = omega arith in rw parts (sym (wide_behind block rest whole))
-    ]
 
 wide_room : (m : List ℕ) → Octets m → length m ≤ 2048 → wide_total (blanked m) < 9223372036854775808
 wide_room m o h =

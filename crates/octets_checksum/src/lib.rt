@@ -6,9 +6,6 @@ ghost use Rattle.octets.specs.Numbers.{word16, word32};
 ghost use Rattle.octets_checksum.specs.Checksum.{checksum_of, sealed, folded};
 ghost use Rattle.octets_checksum.specs.Wide.{wide_total, kept_sum};
 
-// How many octets are summed before a look at the sum: 64 bits have room for the words of many times as many.
-const BLOCK: usize = 1_048_576;
-
 // What lies above the lower 16 bits of a sum, added to them: the carries brought round.
 fn carries_round(sum: u64) -> u64
     ensures { result ≡ sum / 65536 + sum % 65536 }
@@ -36,11 +33,11 @@ fn with_room(sum: u64) -> u64
     fold(sum) as u64
 }
 
-// The plain sum of the 32-bit words of a block.
+// The plain sum of the 32-bit words of a block: the eight of a turn, or the fewer behind the last turn.
 fn block_sum(octets: &[u8]) -> u64
-    requires { length octets.now ≤ 1048576 }
+    requires { length octets.now ≤ 32 }
     ensures total { result ≡ wide_total octets.now }
-    ensures upper_bound { result < 9223372036854775808 }
+    ensures upper_bound { result < 38654705664 }
 {
     let (words, rest) = octets.as_chunks::<4>();
     let mut sum = 0;
@@ -50,16 +47,18 @@ fn block_sum(octets: &[u8]) -> u64
     sum + octets::word32_at(rest, 0) as u64
 }
 
-// A number that folds as start and the plain sum of the 32-bit words of octets do.
+// A number that folds as start and the plain sum of the 32-bit words of octets do: eight words a turn, and before each
+// turn the sum is looked at.
 fn wide_sum(octets: &[u8], start: u64) -> u64
     requires { start < 8589934592 }
     ensures { folded result ≡ folded (start + wide_total octets.now) }
 {
+    let (turns, rest) = octets.as_chunks::<32>();
     let mut sum = start;
-    for block in octets.chunks(BLOCK) {
-        sum = with_room(sum) + block_sum(block);
+    for turn in turns {
+        sum = with_room(sum) + block_sum(turn);
     }
-    sum
+    sum + block_sum(rest)
 }
 
 // The sum of a message's first two words, the field in the second taken as 0.

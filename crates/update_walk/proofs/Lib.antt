@@ -6,3 +6,4 @@ pub mod Good
 pub mod Accepted
 pub mod Flat
 pub mod Cases
+pub mod Numbers

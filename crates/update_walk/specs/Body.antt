@@ -1,6 +1,7 @@
 -- The gateway blocks of an Update: what their octets say, for any list of octets.
-use Rattle.std.specs.Prelude.{ℕ, zero, suc, ◌+◌, ◌-◌, ◌*◌, cond, ◌&&◌, List, [], ◌∷◌, ◌++◌, map, ltb, leb, eqb, length, take, drop, get_or, Result, Ok, Err}
+use Rattle.std.specs.Prelude.{ℕ, zero, suc, ◌+◌, ◌-◌, ◌*◌, ◌≡◌, cond, ◌&&◌, List, [], ◌∷◌, ◌++◌, map, ltb, leb, eqb, length, take, drop, get_or, Result, Ok, Err}
 use Rattle.checks.specs.Lists.{join}
+use Rattle.checks.specs.Refusals.{number_of}
 use Rattle.checks.specs.declared.Refusal.{Refusal}
 use Rattle.checks.specs.declared.Refusal.TheVariants.{BrokenBlocks, TooManyRows}
 use Rattle.nets.specs.Classes.{net_width, width_of, host_span, good_net}
@@ -179,6 +180,10 @@ abbrev pub walked_number : Result ℕ BodyError → ℕ
 walked_number (Ok count) = 0
 walked_number (Err (Broken offset)) = 14
 walked_number (Err TooMany) = 15
+
+-- the number of the refusal is that number (proofs/Numbers)
+pub record RefusalNumber : Type 0 where
+  pub number : (error : BodyError) → number_of (refusal_of error) ≡ walked_number (Err error)
 
 unfoldable pub update_number : UpdateRead → ℕ
 update_number update = walked_number (walked_of update)

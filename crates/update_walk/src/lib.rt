@@ -3,7 +3,7 @@
 
 ghost use Rattle.std.specs.Prelude.{◌≡◌, ℕ, List, ◌^◌, ◌≤◌, ◌<◌, length, IfOk};
 ghost use Rattle.nets.specs.Rows.{Row};
-ghost use Rattle.update_walk.specs.Body.{big_endian, Got, many, net_row, group_rows, host_width, block_rows, both_sides, update_of, walked_of, refusal_of};
+ghost use Rattle.update_walk.specs.Body.{big_endian, Got, many, net_row, group_rows, host_width, block_rows, both_sides, update_of, walked_of, refusal_of, walked_number};
 ghost use Rattle.update_walk.specs.Walked.{Skipped, Within, group_nets, past_group};
 
 use checks::Refusal;
@@ -203,5 +203,15 @@ pub fn walk(net: u32, message: &[u8], room: usize) -> Result<usize, BodyError>
         Ok(past) if !past.rest.is_empty() => Err(BodyError::Broken(end - past.rest.len())),
         Ok(past) if past.rows <= room => Ok(past.rows),
         Ok(_) => Err(BodyError::TooMany),
+    }
+}
+
+// 01's number for what the walk found: 0, 14 or 15.
+pub fn update_number(walked: Result<usize, BodyError>) -> u8
+    ensures { result ≡ walked_number walked }
+{
+    match walked {
+        Ok(_) => 0,
+        Err(error) => u8::from(Refusal::from(error)),
     }
 }

@@ -5,7 +5,7 @@ use Rattle.codec.proofs.read_rows.Goals as goal
 
 pub returns-in-Update : goal.returns-in-Update
 unfolding meaning_reading
-returns-in-Update c = rw c.in-Update.is (rw c.in-Update.is at c.read_update.ensures)
+returns-in-Update c = rw c.in-Update.is (rw c.in-Update.is at c.read_update.ensures.value)
 
 pub returns-in_default : goal.returns-in_default
 unfolding rowless zeros

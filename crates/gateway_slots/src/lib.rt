@@ -29,7 +29,7 @@ fn answered(st: State, made: Result<State, Refusal>) -> Outcome
             second: 0,
             state,
         },
-        Err(refusal) => gateway_state::refused(st, refusal),
+        Err(refusal) => gateway_state::refused(st, u8::from(refusal)),
     }
 }
 
@@ -45,7 +45,7 @@ pub fn fresh(settings: Settings) -> Outcome
             net: 0,
             quiet: 0,
         };
-        return gateway_state::refused(empty(none), Refusal::BadArgument);
+        return gateway_state::refused(empty(none), u8::from(Refusal::BadArgument));
     }
     let st = empty(settings);
     answered(st, Ok(st))

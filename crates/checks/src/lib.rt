@@ -2,7 +2,7 @@
 #![tactic(auto)]
 
 ghost use Rattle.std.specs.Prelude.{◌≡◌};
-ghost use Rattle.checks.specs.Refusals.{number_of};
+ghost use Rattle.checks.specs.Refusals.{number_of, answer_of};
 
 use std::error::Error;
 use std::fmt;
@@ -96,3 +96,13 @@ impl fmt::Display for Refusal {
 }
 
 impl Error for Refusal {}
+
+// The number that a call answers: 0 where it is carried out. What it is carried out with is lent, as it may be large.
+pub fn answer_of<T>(told: &Result<T, Refusal>) -> u8
+    ensures { result ≡ answer_of told.now }
+{
+    match told {
+        Ok(_) => 0,
+        Err(refusal) => u8::from(*refusal),
+    }
+}

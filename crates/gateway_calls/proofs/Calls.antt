@@ -4,12 +4,13 @@ use mathlib.Core.Path.{◌≡◌, refl, sym, ◌∙◌, ap}
 use mathlib.Core.Bool.{true}
 use mathlib.Core.List.{List, []}
 use lib.ListN.{length}
-use Rattle.std.specs.Prelude.{Err}
-use Rattle.checks.specs.Refusals.{number_of}
+use Rattle.std.specs.Prelude.{Result, Ok}
+use Rattle.checks.specs.Refusals.{answer_of}
 use Rattle.checks.specs.declared.Refusal.{Refusal}
-use Rattle.checks.proofs.Laws.{number_some, if_ok_new, if_ok_old}
+use Rattle.checks.proofs.Laws.{if_ok_new, if_ok_old}
 use Rattle.octets.specs.Buffer.{over}
 use Rattle.nets.specs.Rows.{rows_of}
+use Rattle.message.specs.declared.Message.{Message}
 use Rattle.update_walk.specs.Body.{walked_blocks}
 use Rattle.update_rows.specs.Storing.{walked_rows}
 use Rattle.neighbour.specs.declared.Phase.TheVariants.{Up}
@@ -45,7 +46,7 @@ use Rattle.gateway_rules.proofs.Sends.{named_sends, stepped_sends, receive_sends
 use Rattle.gateway_home.proofs.Laws.{home_writable, none_writable}
 use Rattle.gateway_stages.specs.Stages.{read_from, keeping}
 use Rattle.gateway_stages.proofs.Reaching.{keeps}
-use Rattle.gateway_stages.proofs.Laws.{read_refused}
+use Rattle.gateway_stages.proofs.Laws.{read_number}
 use Rattle.gateway_carry.specs.declared.Lengths.{Lengths}
 use Rattle.gateway_carry.specs.Asked.{sendable, lengths_of, takes, change_of, ruling_of}
 use Rattle.gateway_carry.proofs.Carrying.{carried}
@@ -190,9 +191,9 @@ module _ (st : State) (table buffer home : List ℕ) (a : ℕ) (o : List ℕ) (k
               ),
             )
 
-      pub read_is : (refusal : Refusal) → read_from slot.asn o ≡ Err refusal
-          → (number_of refusal ≡ 0 → ⊥) × (message_number 128 st.settings slot.asn slot.neighbour o ≡ number_of refusal)
-      read_is refusal e = (number_some refusal, read_refused 128 st.settings slot.asn slot.neighbour o refusal e)
+      pub read_is : (r : Result Message Refusal) (number : ℕ) → r ≡ read_from slot.asn o → ((x : Message) → r ≡ Ok x → ⊥) → number ≡ answer_of r
+          → (number ≡ 0 → ⊥) × (message_number 128 st.settings slot.asn slot.neighbour o ≡ number)
+      read_is r number = read_number 128 st.settings slot.asn slot.neighbour o r number
 
       -- a Hello or an I-H-U in Up
       module _ (after : After) (is : keeping after ≡ receive_ruling 128 st.settings slot.asn slot.neighbour o) where

@@ -90,7 +90,7 @@ fn happen(mut st: State, table: &mut [u32], reply: &mut [u8], address: u32, even
 {
     let i = match slot_for_event(&st, table.len(), reply.len(), address, event) {
         Ok(i) => i,
-        Err(refusal) => return gateway_state::refused(st, refusal),
+        Err(refusal) => return gateway_state::refused(st, u8::from(refusal)),
     };
     let slot = gateway_carry::book(event, st.slots[i]);
     let n = slot.neighbour;
@@ -155,17 +155,16 @@ pub fn receive(
 {
     let i = match slot_for_message(&st, table.len(), reply.len(), home, address) {
         Ok(i) => i,
-        Err(refusal) => return gateway_state::refused(st, refusal),
+        Err(refusal) => return gateway_state::refused(st, u8::from(refusal)),
     };
     let settings = st.settings;
     let slot = st.slots[i];
     let n = slot.neighbour;
-    let m = match gateway_stages::read(slot.asn, message) {
-        Ok(m) => m,
-        Err(refusal) => {
-            let named = gateway_stages::reply_to(settings, n, message, refusal);
-            return gateway_carry::refuse(st, u8::from(refusal), reply, named, home);
-        }
+    let meaning = gateway_stages::read(slot.asn, message);
+    let Ok(m) = meaning else {
+        let number = checks::answer_of(&meaning);
+        let named = gateway_stages::reply_to(settings, n, message, number);
+        return gateway_carry::refuse(st, number, reply, named, home);
     };
     if gateway_stages::tells_reach(n, m) {
         let after = gateway_stages::note_reach(settings, n, m);

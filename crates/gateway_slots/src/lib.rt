@@ -44,7 +44,7 @@ pub fn fresh(settings: Settings) -> Outcome
             net: 0,
             quiet: 0,
         };
-        return gateway_state::refused(empty(none), Refusal::BadArgument);
+        return gateway_state::refused(empty(none), u8::from(Refusal::BadArgument));
     }
     carried_out(empty(settings))
 }
@@ -73,7 +73,7 @@ pub fn add(st: State, address: u32, asn: u16) -> Outcome
 {
     match place_for(st, address, asn) {
         Ok(i) => carried_out(gateway_state::with_slot(st, i, gateway_state::new_slot(address, asn))),
-        Err(refusal) => gateway_state::refused(st, refusal),
+        Err(refusal) => gateway_state::refused(st, u8::from(refusal)),
     }
 }
 
@@ -98,6 +98,6 @@ pub fn remove(st: State, address: u32) -> Outcome
 {
     match place_of(st, address) {
         Ok(i) => carried_out(gateway_state::with_slot(st, i, gateway_state::free_slot())),
-        Err(refusal) => gateway_state::refused(st, refusal),
+        Err(refusal) => gateway_state::refused(st, u8::from(refusal)),
     }
 }

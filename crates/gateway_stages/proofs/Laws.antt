@@ -8,7 +8,7 @@ use lib.Dec.{eqb}
 use lib.ListN.{length}
 use Rattle.std.specs.Result.{result_and}
 use Rattle.std.specs.Prelude.{Result, Ok, Err}
-use Rattle.checks.specs.Refusals.{number_of, checked}
+use Rattle.checks.specs.Refusals.{number_of, answer_of, checked}
 use Rattle.checks.specs.declared.Refusal.{Refusal}
 use Rattle.checks.specs.declared.Refusal.TheVariants.{OtherAs}
 use Rattle.checks.specs.Checks.{check, if_ok}
@@ -77,6 +77,14 @@ read_refused room g asn n o refusal e = go (header_of o) refl (eqb (asn_at o) as
     go (Err told) f b k d i e =
         let same : told ≡ refusal = cc in
         number_header room g n o asn (λ z. number_some told (rw f at z)) ∙ rw f (ap number_of same)
+
+-- what a reading that is no message answers
+pub read_number : (room : ℕ) (g : Settings) (asn : ℕ) (n : Neighbour) (o : List ℕ) (r : Result Message Refusal) (number : ℕ)
+    → r ≡ read_from asn o → ((m : Message) → r ≡ Ok m → ⊥) → number ≡ answer_of r
+    → (number ≡ 0 → ⊥) × (message_number room g asn n o ≡ number)
+read_number room g asn n o (Ok m) number e k a = absurd (k m refl)
+read_number room g asn n o (Err refusal) number e k a =
+    (λ z. number_some refusal (sym a ∙ z), read_refused room g asn n o refusal (sym e) ∙ sym a)
 
 -- ---- an Update's blocks
 

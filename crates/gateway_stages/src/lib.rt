@@ -89,19 +89,17 @@ fn refuse_to(settings: Settings, n: Neighbour, message: &[u8]) -> Reply
     Reply::Nothing
 }
 
-// The reply that a refusal draws.
+// The reply that 01 names beside the number.
 #[tactic(auto, unfolding(gateway_rules::specs::Number::named_reply))]
-pub fn reply_to(settings: Settings, n: Neighbour, message: &[u8], refusal: Refusal) -> Reply
-    ensures { result ≡ named_reply settings n message.now (number_of refusal) }
+pub fn reply_to(settings: Settings, n: Neighbour, message: &[u8], number: u8) -> Reply
+    ensures { result ≡ named_reply settings n message.now number }
 {
-    match refusal {
-        Refusal::OtherAs => refuse_to(settings, n, message),
-        Refusal::UnknownKind | Refusal::BadStatus | Refusal::BadLength => {
-            error_to(settings, n, message, 1)
-        }
-        Refusal::BrokenBlocks => error_to(settings, n, message, 2),
-        Refusal::TooManyRows => error_to(settings, n, message, 0),
-        Refusal::TooQuick => error_to(settings, n, message, 4),
+    match number {
+        9 => refuse_to(settings, n, message),
+        10..=12 => error_to(settings, n, message, 1),
+        14 => error_to(settings, n, message, 2),
+        15 => error_to(settings, n, message, 0),
+        21 => error_to(settings, n, message, 4),
         _ => Reply::Nothing,
     }
 }
@@ -111,9 +109,10 @@ pub fn reply_to(settings: Settings, n: Neighbour, message: &[u8], refusal: Refus
 fn refuse(settings: Settings, n: Neighbour, message: &[u8], refusal: Refusal) -> Verdict
     ensures { result ≡ verdict_of (refuses n (number_of refusal) (named_reply settings n message.now (number_of refusal))) }
 {
+    let number = u8::from(refusal);
     Verdict {
-        answer: u8::from(refusal),
-        reply: reply_to(settings, n, message, refusal),
+        answer: number,
+        reply: reply_to(settings, n, message, number),
         neighbour: n,
         effect: Effect::Keep,
     }

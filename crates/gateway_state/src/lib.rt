@@ -2,7 +2,6 @@
 #![tactic(auto)]
 
 ghost use Rattle.std.specs.Prelude.{◌≡◌, true, List, ℕ, ◌≤◌, ◌<◌, drop};
-ghost use Rattle.checks.specs.Refusals.{number_of};
 ghost use Rattle.neighbour.specs.Record.{is_up};
 ghost use Rattle.neighbour_wellformed.specs.Formed.{well_formed};
 ghost use Rattle.checks.specs.Lists.{distinct};
@@ -13,7 +12,6 @@ ghost use Rattle.gateway_state.specs.Places as Places;
 ghost use Rattle.gateway_state.specs.Formed.{good_settings, good_peer, rows_formed, free_formed, used_formed, slot_formed, state_formed};
 ghost use Rattle.gateway_state.specs.Outcomes.{refused_of};
 
-use checks::Refusal;
 use neighbour::{Neighbour, Phase, Settings};
 use neighbour_seconds::Seconds;
 
@@ -290,13 +288,13 @@ pub fn well_formed(st: State) -> bool
     is_well_formed(&st)
 }
 
-// A refusal without a reply.
+// A refusal without a reply. Its number may be one that no `Refusal` has: the driver answers one of its own.
 #[tactic(auto, unfolding(crate::specs::Outcomes::refused_of))]
-pub fn refused(st: State, refusal: Refusal) -> Outcome
-    ensures { result ≡ refused_of st (number_of refusal) }
+pub fn refused(st: State, answer: u8) -> Outcome
+    ensures { result ≡ refused_of st answer }
 {
     Outcome {
-        answer: u8::from(refusal),
+        answer,
         first: 0,
         second: 0,
         state: st,

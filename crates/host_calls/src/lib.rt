@@ -257,12 +257,11 @@ pub fn receive(
     let settings = host_state_block::settings_of(block);
     let slot = host_state_block::slot_at(block, i);
     let n = slot.neighbour;
-    let m = match gateway_stages::read(slot.asn, message) {
-        Ok(m) => m,
-        Err(refusal) => {
-            let named = gateway_stages::reply_to(settings, n, message, refusal);
-            return refuse(u8::from(refusal), reply, named, home);
-        }
+    let meaning = gateway_stages::read(slot.asn, message);
+    let Ok(m) = meaning else {
+        let number = checks::answer_of(&meaning);
+        let named = gateway_stages::reply_to(settings, n, message, number);
+        return refuse(number, reply, named, home);
     };
     if gateway_stages::tells_reach(n, m) {
         let after = gateway_stages::note_reach(settings, n, m);

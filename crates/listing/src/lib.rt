@@ -128,7 +128,7 @@ pub fn listing(st: State, table: &[u32], buffer: &mut [u8]) -> Outcome
     ensures buffer_after { buffer.new ≡ listing_buffer st table.now buffer.old }
 {
     if let Err(refusal) = check(st, table, buffer.len()) {
-        return gateway_state::refused(st, refusal);
+        return gateway_state::refused(st, u8::from(refusal));
     }
     let length = put_listing(buffer, st, table);
     Outcome {

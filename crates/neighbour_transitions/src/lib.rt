@@ -4,7 +4,7 @@
 #![tactic(auto)]
 
 ghost use Rattle.std.specs.Prelude.{◌≡◌};
-ghost use Rattle.neighbour_machine.specs.Table.{overfull, followed, unanswered, answers, says, then_hello, does_a, does_b, ceases, repeats_cease, acquires, stray, on_request, on_confirm, on_refuse, on_cease, on_cease_ack, on_hello, on_i_heard_you, answers_poll, on_poll, on_start, on_stop};
+ghost use Rattle.neighbour_machine.specs.Table.{overfull, followed, unanswered, answers, says, hello_if, then_hello, does_a, does_b, ceases, repeats_cease, acquires, stray, on_request, on_confirm, on_refuse, on_cease, on_cease_ack, on_hello, on_i_heard_you, answers_poll, on_poll, on_start, on_stop};
 ghost use Rattle.neighbour_machine.specs.Step.{on_message};
 
 use message::Message;
@@ -72,13 +72,20 @@ pub fn say(x: After, m: Message) -> After
 
 // A Hello after what is said already, in active mode.
 #[tactic(auto, unfolding(neighbour_machine::specs::Table::hello_if))]
-pub fn then_hello(settings: Settings, x: After) -> After
-    ensures { result ≡ then_hello settings x }
+pub fn hello_if(mode: Mode, settings: Settings, x: After) -> After
+    ensures { result ≡ hello_if mode settings x }
 {
-    match x.neighbour.mode {
+    match mode {
         Mode::Active => say(x, neighbour_messages::hello_message(settings, x.neighbour)),
         Mode::Unset | Mode::Passive => x,
     }
+}
+
+// The same, by the mode of the record.
+pub fn then_hello(settings: Settings, x: After) -> After
+    ensures { result ≡ then_hello settings x }
+{
+    hello_if(x.neighbour.mode, settings, x)
 }
 
 // 01's A: Confirm, and Hello if active.

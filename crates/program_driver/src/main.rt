@@ -32,10 +32,7 @@ fn kept(st: State) -> Outcome {
 }
 
 fn unmade(st: State) -> Outcome {
-    Outcome {
-        answer: NO_CALL,
-        ..kept(st)
-    }
+    gateway_state::refused(st, NO_CALL)
 }
 
 // The state whose block the host hands in.
@@ -50,7 +47,7 @@ fn hand_state(st: State, block: &[u8]) -> Outcome {
 fn read_alone(st: State, buffer: &mut [u8], net: u32, message: &[u8]) -> Outcome {
     let reading = codec::read(net, message);
     match reading.meaning {
-        Err(refusal) => gateway_state::refused(st, refusal),
+        Err(refusal) => gateway_state::refused(st, u8::from(refusal)),
         Ok(m) => {
             if buffer.len() < 1560 {
                 return unmade(st);
@@ -69,7 +66,7 @@ fn read_alone(st: State, buffer: &mut [u8], net: u32, message: &[u8]) -> Outcome
 
 fn write_alone(st: State, buffer: &mut [u8], octets: &[u8], rows: &[u32]) -> Outcome {
     match codec::write(buffer, host_meaning::read_meaning(octets), rows) {
-        Err(refusal) => gateway_state::refused(st, refusal),
+        Err(refusal) => gateway_state::refused(st, u8::from(refusal)),
         Ok(length) => Outcome {
             answer: 0,
             first: length,

@@ -10,7 +10,7 @@ use Rattle.gateway_calls.proofs.happen.Goals as goal
 
 pub returns-in-Err : goal.returns-in-Err
 returns-in-Err c =
-    let h = event_refused c.args.event c.args.st c.args.table.now c.args.reply.now _ _ (c.in-Err.ensures _ _ refl refl) (number_used _) _ c.refused.ensures in
+    let h = event_refused c.args.event c.args.st c.args.table.now c.args.reply.now _ _ (c.in-Err.ensures _ _ refl refl) (number_used _) _ (rw c.from.ensures at c.refused.ensures) in
     record { value = h.outcome; table_after = h.rows; reply_after = h.octets }
 
 pub book-slot-requires : goal.book-slot-requires

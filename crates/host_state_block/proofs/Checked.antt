@@ -1,12 +1,15 @@
 -- Laws of check 1 of a block, a slot at a time. Assumes nothing.
-use Prim.Native.Nat.{ℕ, zero, suc, ◌+◌, ◌*◌, ◌-◌, ◌≤◌, ◌<◌}
+use Prim.Native.Nat.{ℕ, zero, suc, ◌*◌, ◌/◌, ◌-◌, ◌≤◌, ◌<◌}
 use native.Mathlib.Omega.{arith}
 use mathlib.Core.Path.{◌≡◌, refl, sym, ap, ◌∙◌}
 use mathlib.Core.Bool.{Bool, true, false, ◌&&◌}
-use mathlib.Core.List.{List}
+use mathlib.Core.List.{List, [], ◌∷◌}
 use lib.ListN.{length, take, drop, length-drop}
+use lib.Seq.{take_all}
+use Rattle.std.specs.Prelude.{Option, Some, None, unwrap_or, MatchOption}
+use Rattle.std.specs.List.{list_all, AllWithin, HoldsAt}
+use Rattle.std.specs.Simd.{first_chunks}
 use Rattle.checks.specs.Lists.{every, distinct}
-use Rattle.checks.proofs.Laws.{part_from_lem}
 use Rattle.neighbour.specs.declared.Settings.{Settings}
 use Rattle.gateway_state.specs.Slots.{addresses, apart}
 use Rattle.gateway_state.specs.Formed.{good_settings, slot_formed, state_formed}
@@ -15,56 +18,36 @@ use Rattle.host_state_block.specs.Formed.{all_in_range, block_in_range, block_fo
 use Rattle.host_state_block.specs.Steps.{part_formed, parts_formed}
 use Rattle.host_state_block.proofs.Slots.{parts_are}
 
--- ---- one slot more
+-- ---- the slots as parts, the first of them found formed already
 
-part_ill : (g : Settings) (left : ℕ) (rest : List ℕ) → 0 < left → part_formed g (take slot_size rest) ≡ false → parts_formed g left rest ≡ false
+pub parts_list : (g : Settings) (n : ℕ) (l : List ℕ) → parts_formed g n l ≡ list_all (part_formed g) (first_chunks slot_size n l)
 unfolding parts_formed
-part_ill g zero rest h e = absurd (omega (arith, h))
-part_ill g (suc n) rest h e = rw e
+parts_list g zero l = refl
+parts_list g (suc n) l = ap (λ (b : Bool). part_formed g (take slot_size l) && b) (parts_list g n (drop slot_size l))
 
-part_formed_lem : (g : Settings) (left : ℕ) (rest : List ℕ) → 0 < left → part_formed g (take slot_size rest) ≡ true
-    → parts_formed g left rest ≡ parts_formed g (left - 1) (drop slot_size rest)
-unfolding parts_formed
-part_formed_lem g zero rest h e = absurd (omega (arith, h))
-part_formed_lem g (suc n) rest h e =
-    let k : n ≡ suc n - 1 = omega arith in
-    rw e (ap (λ (m : ℕ). parts_formed g m (drop slot_size rest)) k)
+-- the rest decides
+module _ {A : Type 0} (test : A → Bool) where
+  abbrev pub Passed : A → Type 0
+  Passed x = test x ≡ true
 
-parts_end : (g : Settings) (left : ℕ) (rest : List ℕ) → left ≤ 0 → parts_formed g left rest ≡ true
-unfolding parts_formed
-parts_end g zero rest h = refl
-parts_end g (suc n) rest h = absurd (omega (arith, h))
+  rest_decides : (xs : List A) (n : ℕ) → AllWithin Passed xs 0 n → n ≤ length xs → list_all test xs ≡ list_all test (drop n xs)
+  rest_decides xs zero p h = refl
+  rest_decides [] (suc n) p h = absurd (omega arith)
+  rest_decides (x ∷ xs) (suc n) p h =
+      rw (p 0 x (omega arith) (omega arith)) (rest_decides xs n (λ k d l m. p (suc k) d (omega arith) (omega arith)) (omega arith))
 
--- ---- over the octets of the slots, some of them passed
+  pub first_found : (xs : List A) (found : Option ℕ) → MatchOption found (AllWithin Passed xs 0 (length xs)) (λ i. (i < length xs) × HoldsAt (λ _. Unit {0}) xs i × AllWithin Passed xs 0 i)
+      → (unwrap_or found (length xs) ≤ length xs) × (list_all test xs ≡ list_all test (drop (unwrap_or found (length xs)) xs))
+  first_found xs None p = (omega arith, rest_decides xs (length xs) p (omega arith))
+  first_found xs (Some i) p = (omega (arith, p.0), rest_decides xs i p.2 (omega (arith, p.0)))
 
-pub record Walked (g : Settings) (slots : List ℕ) (rest : List ℕ) (i : ℕ) : Type 0 where
-  pub size : length rest ≡ (8 - i) * slot_size
-  -- those that were passed are formed
-  pub same : parts_formed g 8 slots ≡ parts_formed g (8 - i) rest
-
-pub walk_start : (g : Settings) (slots : List ℕ) → length slots ≡ 8 * slot_size → Walked g slots slots 0
-walk_start g slots e = record { size = e; same = refl }
-
-module _ {g : Settings} {slots rest : List ℕ} {i : ℕ} (w : Walked g slots rest i) where
-  module _ (h : i < 8) where
-    pub walk_room : slot_size ≤ length rest
-    walk_room = omega (arith, w.size, h)
-
-    module _ (part later : List ℕ) (p : part ≡ take slot_size rest) (l : later ≡ drop slot_size rest) where
-      pub walk_ill : part_formed g part ≡ false → parts_formed g 8 slots ≡ false
-      walk_ill e = w.same ∙ part_ill g (8 - i) rest (omega (arith, h)) (rw p at e)
-
-      pub walk_next : part_formed g part ≡ true → Walked g slots later (i + 1)
-      walk_next e =
-          let k : 8 - i - 1 ≡ 8 - (i + 1) = omega arith in
-          rw l
-          (record {
-            size = length-drop slot_size rest ∙ omega (arith, w.size, h);
-            same = w.same ∙ part_formed_lem g (8 - i) rest (omega (arith, h)) (rw p at e) ∙ ap (λ (n : ℕ). parts_formed g n (drop slot_size rest)) k;
-          })
-
-  pub walk_end : 8 ≤ i → parts_formed g 8 slots ≡ true
-  walk_end h = w.same ∙ parts_end g (8 - i) rest (omega (arith, h))
+pub slots_checked : (g : Settings) (slots : List ℕ) (parts : List (List ℕ)) (from : ℕ)
+    → length slots ≡ 8 * slot_size → parts ≡ first_chunks slot_size (length slots / slot_size) slots → list_all (part_formed g) parts ≡ list_all (part_formed g) (drop from parts)
+    → list_all (part_formed g) (take (length parts - from) (drop from parts)) ≡ parts_formed g 8 slots
+slots_checked g slots parts from e p d =
+    let n : length slots / slot_size ≡ 8 = omega (arith, e) in
+    ap (list_all (part_formed g)) (take_all (length parts - from) (drop from parts) (omega (arith, length-drop from parts)))
+    ∙ sym d ∙ ap (list_all (part_formed g)) p ∙ ap (λ (k : ℕ). list_all (part_formed g) (first_chunks slot_size k slots)) n ∙ sym (parts_list g 8 slots)
 
 -- ---- the whole block
 

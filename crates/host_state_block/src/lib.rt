@@ -2,6 +2,7 @@
 #![tactic(auto)]
 
 ghost use Rattle.std.specs.Prelude.{◌≡◌, true, ◌+◌, ◌*◌, ◌-◌, ◌≤◌, ◌<◌, length, drop};
+ghost use Rattle.std.specs.List.{list_all};
 ghost use Rattle.std.proofs.lemmas.List.Edits.{sets};
 ghost use Rattle.octets.specs.Buffer.{over};
 ghost use Rattle.gateway_state.specs.Slots as Slots;
@@ -142,24 +143,21 @@ pub fn read_state(block: &[u8]) -> State
 
 // Whether a slot's state and mode stand for one.
 #[tactic(auto, unfolding(crate::specs::Formed::in_range, crate::specs::Layout::numbers_at))]
-fn is_in_range(part: &[u8]) -> bool
-    requires { length part.now ≡ slot_size }
+fn is_in_range(part: &[u8; SLOT]) -> bool
     ensures { result ≡ in_range part.now }
 {
     part[22] <= 4 && part[23] <= 2
 }
 
 #[tactic(auto, unfolding(crate::specs::Steps::part_formed))]
-fn is_slot_formed(settings: Settings, part: &[u8]) -> bool
-    requires { length part.now ≡ slot_size }
+fn is_slot_formed(settings: Settings, part: &[u8; SLOT]) -> bool
     ensures { result ≡ part_formed settings part.now }
 {
     is_in_range(part) && gateway_state::is_slot_formed(settings, read_slot(part))
 }
 
 // A short way for a slot in Up, which most are: true where it is formed. Of another slot false says nothing.
-fn is_up_formed(settings: Settings, part: &[u8]) -> bool
-    requires { length part.now ≡ slot_size }
+fn is_up_formed(settings: Settings, part: &[u8; SLOT]) -> bool
     ensures { result ≡ true → part_formed settings part.now ≡ true }
 {
     is_in_range(part)
@@ -173,28 +171,32 @@ fn is_up_formed(settings: Settings, part: &[u8]) -> bool
         )
 }
 
-// The short way first: most slots are in Up.
-fn is_part_formed(settings: Settings, part: &[u8]) -> bool
-    requires { length part.now ≡ slot_size }
-    ensures { result ≡ part_formed settings part.now }
+// The index of the first slot that the short way does not find formed, or how many they are.
+fn first_to_check(settings: Settings, parts: &[[u8; SLOT]]) -> usize
+    ensures upper_bound { result ≤ length parts.now }
+    ensures parts_value { list_all (part_formed settings) parts.now ≡ list_all (part_formed settings) (drop result parts.now) }
 {
-    is_up_formed(settings, part) || is_slot_formed(settings, part)
+    parts
+        .iter()
+        .position(|part| !is_up_formed(settings, part))
+        .unwrap_or(parts.len())
 }
 
-// Of the eight slots' octets.
+// Whether each of these slots is formed, by the long way.
+fn are_formed(settings: Settings, parts: &[[u8; SLOT]]) -> bool
+    ensures { result ≡ list_all (part_formed settings) parts.now }
+{
+    parts.iter().all(|part| is_slot_formed(settings, part))
+}
+
+// Of the eight slots' octets. Two loops: one keeps all fields of a slot at hand for the long way, which few slots need.
 fn are_slots_formed(settings: Settings, slots: &[u8]) -> bool
     requires { length slots.now ≡ 8 * slot_size }
     ensures { result ≡ parts_formed settings 8 slots.now }
 {
-    let mut rest = slots;
-    for _ in 0..gateway_state::SLOTS {
-        let (part, later) = rest.split_at(SLOT);
-        if !is_part_formed(settings, part) {
-            return false;
-        }
-        rest = later;
-    }
-    true
+    let (parts, _) = slots.as_chunks::<SLOT>();
+    let from = first_to_check(settings, parts);
+    are_formed(settings, &parts[from..])
 }
 
 // The address of slot i, at its front.

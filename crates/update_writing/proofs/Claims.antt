@@ -147,7 +147,7 @@ distance_runs_lem side (r ∷ s ∷ ss) e =
     let f = and_right (eqb (side_of r) side) (eqb (side_of s) side && every (λ row. eqb (side_of row) side) ss) e in
     let p = eqb-true (side_of r) side (and_left (eqb (side_of r) side) (eqb (side_of s) side && every (λ row. eqb (side_of row) side) ss) e) in
     let q = eqb-true (side_of s) side (and_left (eqb (side_of s) side) (every (λ row. eqb (side_of row) side) ss) f) in
-    let front = (runs_front (λ row. row.third % 256) s ss).2 in
+    let front = runs_front (λ row. row.third % 256) s ss in
     ap (joined (λ row. row.third) r) (distance_runs_lem side (s ∷ ss) f) ∙ ap (joined (λ row. row.third) r) front ∙ rw (third_test r.third s.third side p q) refl
     ∙ ap (joined (λ row. row.third % 256) r) (sym front)
 

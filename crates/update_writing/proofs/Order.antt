@@ -1,21 +1,21 @@
--- Laws of rows in order: the test of it, and where the external ones begin. Assumes nothing.
-use Rattle.std.proofs.Common.{rules, is_le, nat_cmp, ℕ, zero, suc, ◌+◌, ◌≤◌, ◌<◌, ◌≡◌, refl, sym, ap, Bool, true, false, ltb, leb, ◌&&◌, List, [], ◌∷◌, ◌++◌, length, map, get_or, take, drop, arith, take_at, drop_at, length-append, length-drop, length-take-le, ◌*◌}
-use borrow.Author.Tests.{le-leb, lt-ltb, ltb-true, ltb-false, leb-true, ne_eqb}
+-- Laws of rows in order: where the external ones begin. Assumes nothing.
+use Rattle.std.proofs.Common.{ℕ, zero, suc, ◌+◌, ◌-◌, ◌≤◌, ◌<◌, ◌≡◌, refl, sym, ap, Bool, true, false, ltb, leb, ◌&&◌, List, [], ◌∷◌, ◌++◌, length, map, get_or, take, drop, arith, take_at, drop_at, length-append, length-drop, length-take-le, ◌*◌}
+use borrow.Author.Tests.{lt-ltb, ltb-true, ltb-false, leb-true, ne_eqb}
 use Rattle.std.proofs.lemmas.List.{take-map, drop-map}
 use Rattle.std.proofs.lemmas.List.{length-map}
 use Rattle.std.proofs.lemmas.List.Sorted.{IsPartitionPoint-from_clause}
 use Rattle.std.specs.Fn.{Called, ComputesKey}
 use denote.Param.Members.{Mut}
 use denote.Ref.{Bor}
-use Rattle.std.specs.List.{IsAllAdjacentAnswer, AllAdjacentBelow}
 use Rattle.std.specs.List.Sorted.{IsPartitionedBy, IsPartitionPoint}
-use Rattle.checks.proofs.Laws.{and_left, and_right, and_both}
+use Rattle.checks.proofs.Laws.{and_left, and_right}
 use Rattle.nets.specs.Rows.{Row}
 use Rattle.nets.specs.Classes.{good_net}
 use Rattle.checks.specs.Lists.{every}
 use Rattle.update_writing.specs.Blocks.{side_of, side_rows, side_octets, blocks_written}
 use Rattle.update_writing.specs.Writable.{ordered, writable_row, writable_rows}
 use Rattle.update_writing.proofs.Claims.{rows_most, writable_sides, short}
+use Rattle.update_writing.proofs.Runs.{sides_within}
 
 -- the two parts of a list
 parts : (s t u : List Row) (n : ℕ) → s ++ t ≡ u → length s ≡ n → (take n u ≡ s) × (drop n u ≡ t)
@@ -24,39 +24,6 @@ parts s t u n e f = rw (← e, ← f) (take_at s t (length s) refl, drop_at s t 
 module _ {A : Type 0} (row : A → Row) where
   abbrev pub side : A → ℕ
   side a = side_of (row a)
-
-  abbrev pub rises : A → A → Bool
-  rises a b = is_le (nat_cmp (side a) (side b))
-
-  rises_leb : (a b : A) → rises a b ≡ leb (side a) (side b)
-  rises_leb a b = search rules
-
-  -- is_in_order
-  in_order : (a : A) (xs : List A) → AllAdjacentBelow (λ x y. rises x y ≡ true) (a ∷ xs) (length (a ∷ xs)) → ordered (side a) (map row xs) ≡ true
-  unfolding ordered
-  in_order a [] p = refl
-  in_order a (b ∷ xs) p =
-      let e : (k : ℕ) → suc k + 1 ≡ suc (k + 1) = λ k. omega arith in
-      rw (← rises_leb a b) (and_both (rises a b) (ordered (side b) (map row xs)) (p 0 a (omega arith)) (in_order b xs (λ k d h. rw (e k) at (p (suc k) d (omega arith)))))
-
-  and_false : (b : Bool) → (b && false) ≡ false
-  and_false true = refl
-  and_false false = refl
-
-  out_of_order : (a : A) (xs : List A) (k : ℕ) (d : A) → k + 1 < length (a ∷ xs) → rises (get_or (a ∷ xs) k d) (get_or (a ∷ xs) (k + 1) d) ≡ false → ordered (side a) (map row xs) ≡ false
-  unfolding ordered
-  out_of_order a [] k d h p = absurd (omega arith)
-  out_of_order a (b ∷ xs) zero d h p = rw (← rises_leb a b, p)
-  out_of_order a (b ∷ xs) (suc k) d h p =
-      let e : suc k + 1 ≡ suc (k + 1) = omega arith in
-      rw (out_of_order b xs k d (omega arith) (rw e at p)) (and_false (leb (side a) (side b)))
-
-  pub order_tested : (r : Bool) (xs : List A) → IsAllAdjacentAnswer (λ x y b. b ≡ rises x y) xs r → r ≡ ordered 0 (map row xs)
-  unfolding ordered
-  order_tested true [] p = refl
-  order_tested false [] p = absurd (omega (arith, p.1))
-  order_tested true (a ∷ xs) p = rw (le-leb 0 (side a) (omega arith), in_order a xs (λ k d h. sym (p k d h)))
-  order_tested false (a ∷ xs) p = rw (le-leb 0 (side a) (omega arith), out_of_order a xs p.0 a p.1 (sym (p.2 a)))
 
   -- where the external rows begin
   abbrev pub internal : A → Bool
@@ -92,6 +59,27 @@ module _ {A : Type 0} (row : A → Row) where
       let e : side a ≡ 0 = omega arith in
       rw e (ap suc (internal_number n xs (omega arith) (λ k d l m. p.0 (suc k) d (omega arith) (omega arith), λ k d l m. p.1 (suc k) d (omega arith) (omega arith))))
 
+  -- internal_rows: none; all, where the last is internal; those that the search finds
+  pub internal_none : (xs : List A) → length xs ≤ 0 → 0 ≡ length (side_rows 0 (map row xs))
+  unfolding side_rows
+  internal_none [] h = refl
+  internal_none (a ∷ xs) h = absurd (omega arith)
+
+  pub internal_all : (xs : List A) (last : A) → ordered 0 (map row xs) ≡ true → 0 < length xs → ((d : A) → last ≡ get_or xs (length xs - 1) d) → (row last).third < 256
+      → length xs ≡ length (side_rows 0 (map row xs))
+  internal_all xs last o h e p =
+      let q : (d : A) → internal (get_or xs (length xs - 1) d) ≡ true = λ d. rw (e d) at (lt-ltb (row last).third 256 p) in
+      sym (internal_number (length xs) xs (omega arith) (λ k d l m. partitioned 0 xs o k (length xs - 1) d (omega arith) (omega arith) (q d), λ k d l m. absurd (omega arith)))
+
+  pub internal_found : {F : Type 0} {g : Mut F (Bor A × Unit {0}) Bool} {f : F} (xs : List A) (n : ℕ) → ordered 0 (map row xs) ≡ true → n ≤ length xs
+      → ((q : A → Bool) → ComputesKey g q f → IsPartitionedBy q xs → IsPartitionPoint (λ y. q y ≡ true) (λ y. q y ≡ false) xs n)
+      → ((a : Bor A × Unit {0}) (r : Bool) (f' : F) → Called g f a r f' → (r ≡ internal a.0.now) × (f' ≡ f)) → n ≡ length (side_rows 0 (map row xs))
+  internal_found xs n o h clause calls = sym (internal_number n xs h (IsPartitionPoint-from_clause internal xs n clause (partitioned 0 xs o) calls))
+
+  pub rows_ordered : (net : ℕ) (xs : List A) → writable_rows net (map row xs) ≡ true → ordered 0 (map row xs) ≡ true
+  unfolding writable_rows
+  rows_ordered net xs w = and_right (leb (length (map row xs)) 128 && every (writable_row net) (map row xs)) (ordered 0 (map row xs)) w
+
   -- write_blocks: the rows of the two sides
   pub record Sides (net : ℕ) (xs front back : List A) : Type 0 where
     pub first : map row front ≡ side_rows 0 (map row xs)
@@ -100,16 +88,13 @@ module _ {A : Type 0} (row : A → Row) where
     pub most : length xs ≤ 128
     pub room : length (side_octets net (map row front)) + length (side_octets net (map row back)) ≤ 9 * length xs
 
-  pub sides : {F : Type 0} {g : Mut F (Bor A × Unit {0}) Bool} {f : F} (net : ℕ) (xs front back : List A) (n : ℕ) → good_net net ≡ true → writable_rows net (map row xs) ≡ true → n ≤ length xs
-      → ((q : A → Bool) → ComputesKey g q f → IsPartitionedBy q xs → IsPartitionPoint (λ y. q y ≡ true) (λ y. q y ≡ false) xs n)
-      → ((a : Bor A × Unit {0}) (r : Bool) (f' : F) → Called g f a r f' → (r ≡ internal a.0.now) × (f' ≡ f))
+  pub sides : (net : ℕ) (xs front back : List A) (n : ℕ) → good_net net ≡ true → writable_rows net (map row xs) ≡ true → n ≡ length (side_rows 0 (map row xs))
       → front ≡ take n xs → back ≡ drop n xs → Sides net xs front back
-  unfolding writable_rows blocks_written
-  sides {g = g} {f} net xs front back n good w h clause calls x y =
+  unfolding blocks_written
+  sides net xs front back n good w e x y =
       let rows = map row xs in
-      let o : ordered 0 rows ≡ true = and_right (leb (length rows) 128 && every (writable_row net) rows) (ordered 0 rows) w in
-      let p = IsPartitionPoint-from_clause internal xs n clause (partitioned 0 xs o) calls in
-      let q = parts (side_rows 0 rows) (side_rows 1 rows) rows n (writable_sides net rows w) (internal_number n xs h p) in
+      let h : n ≤ length xs = omega (arith, e, sides_within rows, length-map xs row) in
+      let q = parts (side_rows 0 rows) (side_rows 1 rows) rows n (writable_sides net rows w) (sym e) in
       let a : map row front ≡ side_rows 0 rows = rw (x, ← take-map row n xs) q.0 in
       let b : map row back ≡ side_rows 1 rows = rw (y, ← drop-map row n xs) q.1 in
       record {

@@ -7,7 +7,7 @@ use mathlib.Core.Path.{◌≡◌, refl, sym, ap, ◌∙◌}
 use mathlib.Core.List.{List, [], ◌∷◌, ◌++◌}
 use borrow.Author.Tests.{eqb-true, eq-eqb, ne_eqb, leb-true}
 use lib.Dec.{eqb, leb}
-use lib.ListN.{length, length-append}
+use lib.ListN.{length, take, drop, length-append}
 use Rattle.std.proofs.Common.{map}
 use Rattle.std.proofs.lemmas.List.{map-append}
 use Rattle.std.specs.List.{IsChunkByPrefix}
@@ -16,21 +16,48 @@ use Rattle.checks.specs.Lists.{every}
 use Rattle.nets.specs.Rows.{Row}
 use Rattle.update_writing.specs.Blocks.{side_of, side_rows, joined, runs, each}
 use Rattle.update_writing.specs.Writable.{ordered}
+use Rattle.update_writing.specs.Steps.{agreeing, run_length}
 
 module _ (key : Row → ℕ) where
-  -- the row at the front begins the first run
-  pub runs_front : (r : Row) (rs : List Row) → (run : List Row) × (later : List (List Row)) × (runs key (r ∷ rs) ≡ (r ∷ run) ∷ later)
-  unfolding runs joined
-  runs_front r rs = go (runs key rs)
+  -- the first run, and the runs of the rows after it
+  pub runs_front : (r : Row) (rs : List Row) → runs key (r ∷ rs) ≡ (r ∷ take (agreeing key (key r) rs) rs) ∷ runs key (drop (agreeing key (key r) rs) rs)
+  unfolding runs joined agreeing
+  runs_front r [] = refl
+  runs_front r (s ∷ ss) = ap (joined key r) (runs_front s ss) ∙ go (eqb (key r) (key s)) refl (runs_front s ss)
     where
-      go : (gs : List (List Row)) → (run : List Row) × (later : List (List Row)) × (joined key r gs ≡ (r ∷ run) ∷ later)
-      go [] = ([], [], refl)
-      go ([] ∷ later) = ([], later, refl)
-      go ((s ∷ run) ∷ later) = test (eqb (key r) (key s))
-        where
-          test : (b : Bool) → (front : List Row) × (rest : List (List Row)) × (cond b ((r ∷ s ∷ run) ∷ later) ((r ∷ []) ∷ (s ∷ run) ∷ later) ≡ (r ∷ front) ∷ rest)
-          test true = (s ∷ run, later, refl)
-          test false = ([], (s ∷ run) ∷ later, refl)
+      go : (b : Bool) → eqb (key r) (key s) ≡ b
+          → joined key s (runs key ss) ≡ (s ∷ take (agreeing key (key s) ss) ss) ∷ runs key (drop (agreeing key (key s) ss) ss)
+          → cond (eqb (key r) (key s))
+          ((r ∷ s ∷ take (agreeing key (key s) ss) ss) ∷ runs key (drop (agreeing key (key s) ss) ss))
+          ((r ∷ []) ∷ (s ∷ take (agreeing key (key s) ss) ss) ∷ runs key (drop (agreeing key (key s) ss) ss))
+          ≡ (r ∷ take (cond (eqb (key r) (key s)) (suc (agreeing key (key r) ss)) 0) (s ∷ ss))
+          ∷ runs key (drop (cond (eqb (key r) (key s)) (suc (agreeing key (key r) ss)) 0) (s ∷ ss))
+      go true e ih = rw e (ap (λ (k : ℕ). (r ∷ s ∷ take (agreeing key k ss) ss) ∷ runs key (drop (agreeing key k ss) ss)) (sym (eqb-true (key r) (key s) e)))
+      go false e ih = rw e (ap (λ (l : List (List Row)). (r ∷ []) ∷ l) (sym ih))
+
+  pub runs_turn : (rows : List Row) → 0 < length rows → runs key rows ≡ take (run_length key rows) rows ∷ runs key (drop (run_length key rows) rows)
+  unfolding run_length
+  runs_turn [] h = absurd (omega arith)
+  runs_turn (r ∷ rs) h = runs_front r rs
+
+  pub agreeing_within : (number : ℕ) (rows : List Row) → agreeing key number rows ≤ length rows
+  unfolding agreeing
+  agreeing_within number [] = omega arith
+  agreeing_within number (r ∷ rs) = go (eqb number (key r)) (agreeing_within number rs)
+    where
+      go : (b : Bool) → agreeing key number rs ≤ length rs → cond b (suc (agreeing key number rs)) 0 ≤ suc (length rs)
+      go true h = omega arith
+      go false h = omega arith
+
+  pub run_within : (rows : List Row) → run_length key rows ≤ length rows
+  unfolding run_length
+  run_within [] = omega arith
+  run_within (r ∷ rs) = omega (arith, agreeing_within (key r) rs)
+
+  pub run_some : (rows : List Row) → 0 < length rows → 0 < run_length key rows
+  unfolding run_length
+  run_some [] h = absurd (omega arith)
+  run_some (r ∷ rs) h = omega arith
 
   -- a row with the key of the next one joins its run
   run_longer : (r s : Row) (run rest : List Row) → key r ≡ key s → runs key (s ∷ (run ++ rest)) ≡ (s ∷ run) ∷ runs key rest
@@ -42,7 +69,7 @@ module _ (key : Row → ℕ) where
   run_alone : (r s : Row) (rest : List Row) → eqb (key r) (key s) ≡ false → runs key (r ∷ s ∷ rest) ≡ (r ∷ []) ∷ runs key (s ∷ rest)
   unfolding runs joined
   run_alone r s rest e =
-      let h = (runs_front s rest).2 in
+      let h = runs_front s rest in
       ap (joined key r) h ∙ rw e (ap (λ (l : List (List Row)). (r ∷ []) ∷ l) (sym h))
 
   -- rows that agree each with the next, and the last of them not with the row behind them, are the first run

@@ -1,3 +1,4 @@
 pub mod Blocks
 pub mod Writable
 pub mod Claims
+pub mod Steps

@@ -1,15 +1,16 @@
 // Writing the gateway blocks of an Update from rows.
 #![tactic(auto)]
 
-ghost use Rattle.std.specs.Prelude.{◌≡◌, true, ◌+◌, ◌*◌, ◌≤◌, ◌<◌, length, map, get_or};
+ghost use Rattle.std.specs.Prelude.{◌≡◌, true, ◌+◌, ◌*◌, ◌≤◌, ◌<◌, length, map, get_or, take};
 ghost use Rattle.std.proofs.lemmas.List.Edits.{sets};
 ghost use Rattle.checks.specs.Lists.{every};
 ghost use Rattle.octets.specs.Numbers.{word32};
 ghost use Rattle.octets.specs.Written.{Written};
 ghost use Rattle.nets.specs.Classes.{good_net};
 ghost use Rattle.nets.specs.Rows.{Row};
-ghost use Rattle.update_writing.specs.Blocks.{net_octets, host_octets, group_octets, block_octets, side_octets, gateway_runs, blocks_written, internal_blocks, external_blocks};
+ghost use Rattle.update_writing.specs.Blocks.{net_octets, host_octets, nets_octets, group_octets, block_octets, side_rows, side_octets, gateway_runs, blocks_written, internal_blocks, external_blocks};
 ghost use Rattle.update_writing.specs.Writable.{most_written, good_row, ordered, writable_rows, writable_numbers};
+ghost use Rattle.update_writing.specs.Steps.{agreeing, run_length};
 
 // How many rows the writer takes.
 const MOST_ROWS: usize = 128;
@@ -71,6 +72,13 @@ pub struct Blocks {
     pub external: u8,
 }
 
+// Where a group, or its nets, end in the buffer, and how many rows they take.
+#[derive(Clone, Copy)]
+struct Group {
+    end: usize,
+    rows: usize,
+}
+
 // Where the blocks of one side end in the buffer, and how many they are.
 #[derive(Clone, Copy)]
 struct Side {
@@ -92,18 +100,24 @@ pub fn are_good_rows<R: LentRow>(common: u32, most: u32, rows: &[R]) -> bool
     rows.iter().all(|row| is_good_row(common, most, row))
 }
 
-// Whether no internal row comes after an external one.
-fn is_in_order<R: LentRow>(rows: &[R]) -> bool
-    ensures { result ≡ ordered 0 (map R.as_row rows.now) }
-{
-    rows.is_sorted_by_key(|row| row.third() / 256)
-}
-
-// Whether the writer takes these rows.
+// Whether the writer takes these rows: none that the reader could not give, and no internal row after an external one.
 fn are_writable<R: LentRow>(net: u32, rows: &[R]) -> bool
     ensures { result ≡ writable_rows net (map R.as_row rows.now) }
 {
-    rows.len() <= MOST_ROWS && are_good_rows(net, 511, rows) && is_in_order(rows)
+    if MOST_ROWS < rows.len() {
+        return false;
+    }
+    let mut side = 0;
+    for row in rows {
+        if !is_good_row(net, 511, row) {
+            return false;
+        }
+        if row.third() / 256 < side {
+            return false;
+        }
+        side = row.third() / 256;
+    }
+    true
 }
 
 // Whether the writer takes these rows, three numbers a row.
@@ -114,47 +128,91 @@ pub fn writable(net: u32, rows: &[u32]) -> bool
     rest.is_empty() && are_writable(net, rows)
 }
 
-// Writes the net part of a net. An arm for each width: a copy of a number of octets not known before is a call.
+// Writes the net part of a net: an octet a store, since a copy of so few octets is a call.
 fn write_net(out: &mut [u8], at: usize, net: u32) -> usize
     requires { at + length (net_octets net) ≤ length out.old }
     ensures { Written (net_octets net) at out.old out.new result }
 {
     let [first, second, third, _] = net.to_be_bytes();
     match nets::width_of(net) {
-        1 => octets::put(out, at, &[first]),
-        2 => octets::put(out, at, &[first, second]),
-        3 => octets::put(out, at, &[first, second, third]),
+        1 => {
+            out[at] = first;
+            at + 1
+        }
+        2 => {
+            out[at] = first;
+            out[at + 1] = second;
+            at + 2
+        }
+        3 => {
+            out[at] = first;
+            out[at + 1] = second;
+            out[at + 2] = third;
+            at + 3
+        }
         _ => at,
     }
 }
 
-// Writes the host part of a gateway.
+// Writes the host part of a gateway, the same way.
 fn write_host(out: &mut [u8], at: usize, net: u32, gateway: u32) -> usize
     requires { at + length (host_octets net gateway) ≤ length out.old }
     ensures { Written (host_octets net gateway) at out.old out.new result }
 {
-    let [first, second, third, fourth] = gateway.to_be_bytes();
+    let [_, second, third, fourth] = gateway.to_be_bytes();
     match nets::width_of(net) {
-        1 => octets::put(out, at, &[second, third, fourth]),
-        2 => octets::put(out, at, &[third, fourth]),
-        3 => octets::put(out, at, &[fourth]),
-        _ => octets::put(out, at, &[first, second, third, fourth]),
+        1 => {
+            out[at] = second;
+            out[at + 1] = third;
+            out[at + 2] = fourth;
+            at + 3
+        }
+        2 => {
+            out[at] = third;
+            out[at + 1] = fourth;
+            at + 2
+        }
+        3 => {
+            out[at] = fourth;
+            at + 1
+        }
+        _ => {
+            octets::put32(out, at, gateway);
+            at + 4
+        }
     }
 }
 
-// Writes rows of one gateway and one distance: distance, number of nets, nets.
-fn write_group<R: LentRow>(out: &mut [u8], at: usize, rows: &[R]) -> usize
-    requires in_bounds { (0 < length rows.now) × (length rows.now ≤ most_written) }
-    requires rows_in_bounds { at + length (group_octets (map R.as_row rows.now)) ≤ length out.old }
-    ensures { Written (group_octets (map R.as_row rows.now)) at out.old out.new result }
+// Writes the nets of the rows at the front whose third number is this one, and counts the rows on the way.
+fn write_nets<R: LentRow>(out: &mut [u8], at: usize, third: u32, rows: &[R]) -> Group
+    requires { at + length (nets_octets (take (agreeing (λ row. row.third) third (map R.as_row rows.now)) (map R.as_row rows.now))) ≤ length out.old }
+    ensures written { Written (nets_octets (take (agreeing (λ row. row.third) third (map R.as_row rows.now)) (map R.as_row rows.now))) at out.old out.new result.end }
+    ensures rows_value { result.rows ≡ agreeing (λ row. row.third) third (map R.as_row rows.now) }
 {
-    out[at] = (rows[0].third() % 256) as u8;
-    out[at + 1] = rows.len() as u8;
-    let mut end = at + 2;
+    let mut end = at;
+    let mut count = 0;
     for row in rows {
+        if row.third() != third {
+            return Group { end, rows: count };
+        }
         end = write_net(out, end, row.net());
+        count += 1;
     }
-    end
+    Group { end, rows: count }
+}
+
+// Writes the first run of one distance: distance, number of nets, nets. The number is known, and stored, last.
+fn write_group<R: LentRow>(out: &mut [u8], at: usize, rows: &[R]) -> Group
+    requires in_bounds { (0 < length rows.now) × (length rows.now ≤ most_written) }
+    requires rows_in_bounds { at + length (group_octets (take (run_length (λ row. row.third) (map R.as_row rows.now)) (map R.as_row rows.now))) ≤ length out.old }
+    ensures written { Written (group_octets (take (run_length (λ row. row.third) (map R.as_row rows.now)) (map R.as_row rows.now))) at out.old out.new result.end }
+    ensures rows_value { result.rows ≡ run_length (λ row. row.third) (map R.as_row rows.now) }
+{
+    let third = rows[0].third();
+    out[at] = (third % 256) as u8;
+    let group = write_nets(out, at + 2, third, rows);
+    out[at + 1] = group.rows as u8;
+    group
 }
 
 // Writes rows of one gateway: host, number of distances, and the groups.
@@ -167,14 +225,11 @@ fn write_block<R: LentRow>(out: &mut [u8], at: usize, net: u32, rows: &[R]) -> u
     let mut end = host + 1;
     let mut count = 0;
     let mut rest = rows;
-    // A run at a time: no `for` over `chunk_by` is proved in generic code (antt does not admit its `iterator-loop-group`).
-    while let Some(group) = rest
-        .chunk_by(|row, next| row.third() == next.third())
-        .next()
-    {
-        end = write_group(out, end, group);
+    while !rest.is_empty() {
+        let group = write_group(out, end, rest);
+        end = group.end;
         count += 1;
-        rest = &rest[group.len()..];
+        rest = &rest[group.rows..];
     }
     out[host] = count;
     end
@@ -190,6 +245,7 @@ fn write_side<R: LentRow>(out: &mut [u8], at: usize, net: u32, rows: &[R]) -> Si
     let mut end = at;
     let mut count = 0;
     let mut rest = rows;
+    // A run at a time: no `for` over `chunk_by` is proved in generic code (antt does not admit its `iterator-loop-block`).
     while let Some(block) = rest
         .chunk_by(|row, next| row.gateway() == next.gateway())
         .next()
@@ -201,6 +257,20 @@ fn write_side<R: LentRow>(out: &mut [u8], at: usize, net: u32, rows: &[R]) -> Si
     Side { end, count }
 }
 
+// How many of rows in order are internal: all, where the last one is, since internal rows stand first.
+fn internal_rows<R: LentRow>(rows: &[R]) -> usize
+    requires { ordered 0 (map R.as_row rows.now) ≡ true }
+    ensures { result ≡ length (side_rows 0 (map R.as_row rows.now)) }
+{
+    let Some(last) = rows.last() else {
+        return 0;
+    };
+    if last.third() < 256 {
+        return rows.len();
+    }
+    rows.partition_point(|row| row.third() < 256)
+}
+
 // Writes the gateway blocks of writable rows from index `at` on, internal blocks first.
 pub fn write_blocks<R: LentRow>(out: &mut [u8], at: usize, net: u32, rows: &[R]) -> Blocks
     requires net_value { (good_net net ≡ true) × (writable_rows net (map R.as_row rows.now) ≡ true) }
@@ -210,7 +280,7 @@ pub fn write_blocks<R: LentRow>(out: &mut [u8], at: usize, net: u32, rows: &[R])
     ensures internal_value { result.internal ≡ internal_blocks (map R.as_row rows.now) }
     ensures external_value { result.external ≡ external_blocks (map R.as_row rows.now) }
 {
-    let (internal, external) = rows.split_at(rows.partition_point(|row| row.third() < 256));
+    let (internal, external) = rows.split_at(internal_rows(rows));
     let internal = write_side(out, at, net, internal);
     let external = write_side(out, internal.end, net, external);
     Blocks {

@@ -1,14 +1,8 @@
-use mathlib.Core.Path.{sym, ◌∙◌}
-use Rattle.host_state_block.proofs.Checked.{walk_ill, walk_next, walk_end}
+use mathlib.Core.Path.{◌∙◌}
+use Rattle.host_state_block.proofs.Checked.{slots_checked}
 use Rattle.host_state_block.proofs.are_slots_formed.Goals as goal
 
-pub returns-then-not-is_part_formed : goal.returns-then-not-is_part_formed
-returns-then-not-is_part_formed c =
-    sym (walk_ill c.loop.invariant c.loop-test.true _ _ c.split_at.ensures.front c.split_at.ensures.back (sym c.is_part_formed.ensures ∙ c.if-not-is_part_formed.true))
-
-pub loop-preserved : goal.loop-preserved
-loop-preserved c =
-    walk_next c.loop.invariant c.loop-test.true _ _ c.split_at.ensures.front c.split_at.ensures.back (sym c.is_part_formed.ensures ∙ c.if-not-is_part_formed.false)
-
 pub returns : goal.returns
-returns c = sym (walk_end c.loop.invariant c.loop-test.false)
+returns c =
+    c.are_formed.ensures
+    ∙ slots_checked c.args.settings c.args.slots.now c.as_chunks.result.0.now c.first_to_check-from.result c.requires c.as_chunks.ensures.front c.first_to_check-from.ensures.parts_value

@@ -1,25 +1,31 @@
-use Rattle.std.proofs.Common.{arith, length-set}
-use Rattle.update_writing.proofs.Loops.{nets_start, nets_room, nets_turn, nets_done}
+use Rattle.std.proofs.Common.{arith, length-set, sym, ◌∙◌}
+use Rattle.update_writing.proofs.Loops.{run_agrees, group_size, group_most, group_written}
 use Rattle.update_writing.proofs.write_group.Goals as goal
 
 pub bounds-out-at : goal.bounds-out-at
-bounds-out-at g c = let s = nets_start g.R.LentRow.as_row c.index-rows-0.result c.args.rows.now c.args.at c.args.out.now c.requires.in_bounds.0 c.requires.rows_in_bounds in omega (arith, s.0)
+bounds-out-at g c = omega (arith, group_size g.R.LentRow.as_row c.index-rows-0.result c.args.rows.now c.requires.in_bounds.0, c.requires.rows_in_bounds)
+
+pub write_nets-group-requires : goal.write_nets-group-requires
+write_nets-group-requires g c =
+    rw (c.third-third.ensures, c.index-rows-0.is)
+    (simp length-set (omega (arith, group_size g.R.LentRow.as_row c.index-rows-0.result c.args.rows.now c.requires.in_bounds.0, c.requires.rows_in_bounds)))
+
+pub overflow_cast-out-2 : goal.overflow_cast-out-2
+overflow_cast-out-2 g c =
+    let n = rw (c.third-third.ensures, c.index-rows-0.is) at c.write_nets-group.ensures.rows_value in
+    omega (arith, n, run_agrees g.R.LentRow.as_row c.index-rows-0.result c.args.rows.now c.requires.in_bounds.0, group_most g.R.LentRow.as_row c.index-rows-0.result c.args.rows.now c.requires.in_bounds.0, c.requires.in_bounds.1)
 
 pub bounds-out-at-2 : goal.bounds-out-at-2
 bounds-out-at-2 g c =
-    let s = nets_start g.R.LentRow.as_row c.index-rows-0.result c.args.rows.now c.args.at c.args.out.now c.requires.in_bounds.0 c.requires.rows_in_bounds in
-    simp length-set (omega (arith, s.0))
+    omega (arith, group_size g.R.LentRow.as_row c.index-rows-0.result c.args.rows.now c.requires.in_bounds.0, c.requires.rows_in_bounds, simp length-set at c.write_nets-group.auto.out)
 
-pub loop-row-init : goal.loop-row-init
-loop-row-init g c =
-    let s = nets_start g.R.LentRow.as_row c.index-rows-0.result c.args.rows.now c.args.at c.args.out.now c.requires.in_bounds.0 c.requires.rows_in_bounds in
-    rw (← c.index-rows-0.is, ← c.third.ensures) at s.1
+pub returns-clause-written : goal.returns-clause-written
+returns-clause-written g c =
+    let w = rw (c.third-third.ensures, c.index-rows-0.is) at c.write_nets-group.ensures.written in
+    let n = rw (c.third-third.ensures, c.index-rows-0.is) at c.write_nets-group.ensures.rows_value in
+    group_written g.R.LentRow.as_row c.index-rows-0.result c.args.rows.now c.requires.in_bounds.0 c.args.at c.args.out.now c.write_nets-group.new.out c.write_nets-group.result.end c.write_nets-group.result.rows w n
 
-pub write_net-end-requires : goal.write_net-end-requires
-write_net-end-requires g c = rw (c.net.ensures, c.row-item.is) (nets_room g.R.LentRow.as_row c.row-item.result c.args.rows.now c.loop-row.invariant c.loop-row-test.true)
-
-pub loop-row-preserved : goal.loop-row-preserved
-loop-row-preserved g c = nets_turn g.R.LentRow.as_row c.row-item.result c.args.rows.now c.loop-row.invariant c.loop-row-test.true (rw (c.net.ensures, c.row-item.is) at c.write_net-end.ensures)
-
-pub returns : goal.returns
-returns g c = nets_done g.R.LentRow.as_row c.args.rows.now c.loop-row.invariant c.loop-row-test.false
+pub returns-clause-rows_value : goal.returns-clause-rows_value
+returns-clause-rows_value g c =
+    let n = rw (c.third-third.ensures, c.index-rows-0.is) at c.write_nets-group.ensures.rows_value in
+    n ∙ sym (run_agrees g.R.LentRow.as_row c.index-rows-0.result c.args.rows.now c.requires.in_bounds.0)

@@ -1,28 +1,39 @@
 -- `update_writing::write_net` meets its contract: the leading octets, by the width. Assumes nothing.
 use native.Mathlib.Omega.{arith}
 use mathlib.Core.Path.{◌≡◌, refl}
+use lib.ListN.{length-set}
+use Rattle.octets.proofs.Storing.{written_one}
 use Rattle.nets.specs.Classes.{first_octet}
 use Rattle.update_writing.proofs.Claims.{net_octets_lem, width_fits}
-use Rattle.update_writing.proofs.Stores.{net_three, net_two, net_one, net_none}
+use Rattle.update_writing.proofs.Stores.{net_three, net_two, net_one, net_none, stored_two, stored_three}
 use Rattle.update_writing.proofs.write_net.Goals as goal
 
-pub put-requires : goal.put-requires
-put-requires c = omega (arith, net_octets_lem c.args.net, c.width_of.ensures, c.requires, c.in-1.is)
-
-pub put-requires-in-2 : goal.put-requires-in-2
-put-requires-in-2 c = omega (arith, net_octets_lem c.args.net, c.width_of.ensures, c.requires, c.in-2.is)
-
-pub put-requires-in-3 : goal.put-requires-in-3
-put-requires-in-3 c = omega (arith, net_octets_lem c.args.net, c.width_of.ensures, c.requires, c.in-3.is)
+pub bounds-out-at : goal.bounds-out-at
+bounds-out-at c = omega (arith, net_octets_lem c.args.net, c.width_of.ensures, c.requires, c.in-1.is)
 
 pub returns-in-1 : goal.returns-in-1
-returns-in-1 c = rw (net_one _ _ c.width_of.ensures c.in-1.is) (rw c.to_be_bytes.ensures at c.put.ensures)
+returns-in-1 c = rw (net_one _ _ c.width_of.ensures c.in-1.is, c.to_be_bytes.ensures) (written_one _ _ _)
+
+pub bounds-out-at-in-2 : goal.bounds-out-at-in-2
+bounds-out-at-in-2 c = omega (arith, net_octets_lem c.args.net, c.width_of.ensures, c.requires, c.in-2.is)
+
+pub bounds-out-at-in-2-2 : goal.bounds-out-at-in-2-2
+bounds-out-at-in-2-2 c = simp length-set (omega (arith, net_octets_lem c.args.net, c.width_of.ensures, c.requires, c.in-2.is))
 
 pub returns-in-2 : goal.returns-in-2
-returns-in-2 c = rw (net_two _ _ c.width_of.ensures c.in-2.is) (rw c.to_be_bytes.ensures at c.put-in-2.ensures)
+returns-in-2 c = rw (net_two _ _ c.width_of.ensures c.in-2.is, c.to_be_bytes.ensures) (stored_two _ _ _ _)
+
+pub bounds-out-at-in-3 : goal.bounds-out-at-in-3
+bounds-out-at-in-3 c = omega (arith, net_octets_lem c.args.net, c.width_of.ensures, c.requires, c.in-3.is)
+
+pub bounds-out-at-in-3-2 : goal.bounds-out-at-in-3-2
+bounds-out-at-in-3-2 c = simp length-set (omega (arith, net_octets_lem c.args.net, c.width_of.ensures, c.requires, c.in-3.is))
+
+pub bounds-out-at-in-3-3 : goal.bounds-out-at-in-3-3
+bounds-out-at-in-3-3 c = simp length-set (omega (arith, net_octets_lem c.args.net, c.width_of.ensures, c.requires, c.in-3.is))
 
 pub returns-in-3 : goal.returns-in-3
-returns-in-3 c = rw (net_three _ _ c.width_of.ensures c.in-3.is) (rw c.to_be_bytes.ensures at c.put-in-3.ensures)
+returns-in-3 c = rw (net_three _ _ c.width_of.ensures c.in-3.is, c.to_be_bytes.ensures) (stored_three _ _ _ _ _)
 
 pub returns-in_default : goal.returns-in_default
 returns-in_default c =

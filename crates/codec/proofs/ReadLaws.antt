@@ -2,20 +2,24 @@
 use Prim.Native.Nat.{ℕ, ◌≤◌}
 use native.Mathlib.Omega.{arith}
 use borrow.Author.Tests.{leb-true}
-use mathlib.Core.Path.{◌≡◌, refl}
+use mathlib.Core.Path.{◌≡◌, refl, sym, ◌∙◌}
 use mathlib.Core.Bool.{Bool, true, false, cond}
 use mathlib.Core.List.{List}
 use lib.ListN.{length}
 use lib.Dec.{leb}
-use Rattle.std.specs.Prelude.{Ok, Err}
+use Rattle.std.specs.Prelude.{Result, Ok, Err}
+use Rattle.checks.specs.declared.Refusal.{Refusal}
 use Rattle.nets.specs.Rows.{flat}
 use Rattle.message.specs.declared.Message.{Message}
 use Rattle.message.specs.declared.Message.TheVariants.{Request, Confirm, Refuse, Cease, CeaseAck, Hello, IHeardYou, Poll, Update, Error}
+use Rattle.message_reading.specs.Reading.{header_answer, decode_of}
+use Rattle.message_reading.proofs.Laws.{header_ok}
 use Rattle.update_walk.specs.Body.{Walk, whole, broken, walked_blocks, read_within, UpdateRead, accepted, broken_at, too_many, update_of, walked_of, refusal_of}
 use Rattle.update_walk.specs.declared.BodyError.{BodyError}
 use Rattle.update_walk.specs.declared.BodyError.TheVariants.{Broken, TooMany}
 use Rattle.update_rows.specs.Storing.{padded, is_whole, walked_rows, Storable}
-use Rattle.codec.specs.Reading.{most_read, refusal, rowless, update_reading, meaning_reading}
+use Rattle.codec.specs.Reading.{most_read, refusal, rowless, update_reading, meaning_reading, meaning_read, reading_after, read_of}
+use Rattle.codec.specs.declared.Reading.{Reading}
 use Rattle.codec.proofs.Laws.{OtherKind}
 
 -- what the walk counted, and what an accepted Update is
@@ -79,3 +83,9 @@ rowless_read net o (IHeardYou a q s) k = refl
 rowless_read net o (Poll a q s n) k = refl
 rowless_read net o (Update a q s n) k = absurd (k a q s n refl)
 rowless_read net o (Error a q s r x y z) k = refl
+
+-- a message that passed the header stage and the kind stage reads as what it says
+pub read_kind_good : (net : ℕ) (o : List ℕ) (h : ℕ) → h ≡ header_answer o → h ≡ 0 → (d : Result Message Refusal) → d ≡ decode_of o
+    → (m : Message) (r : Reading) → d ≡ Ok m → r ≡ meaning_reading net o m → r ≡ read_of net o
+unfolding read_of reading_after meaning_read
+read_kind_good net o h e z d f m r g q = rw (header_ok o (sym e ∙ z), ← f, g) q

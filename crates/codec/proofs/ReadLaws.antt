@@ -2,12 +2,12 @@
 use Prim.Native.Nat.{ℕ, ◌≤◌}
 use native.Mathlib.Omega.{arith}
 use borrow.Author.Tests.{leb-true}
-use mathlib.Core.Path.{◌≡◌, refl, ap, ◌∙◌}
+use mathlib.Core.Path.{◌≡◌, refl, ap, ◌∙◌, sym}
 use mathlib.Core.Bool.{Bool, true, false, cond}
 use mathlib.Core.List.{List}
 use lib.ListN.{length}
 use lib.Dec.{leb}
-use Rattle.std.specs.Prelude.{Ok, Err}
+use Rattle.std.specs.Prelude.{Ok, Err, Result}
 use Rattle.checks.specs.Refusals.{answer_of}
 use Rattle.nets.specs.Rows.{flat}
 use Rattle.message.specs.declared.Message.{Message}
@@ -16,7 +16,10 @@ use Rattle.update_walk.specs.Body.{Walk, whole, broken, walked_blocks, read_with
 use Rattle.update_walk.specs.declared.BodyError.{BodyError}
 use Rattle.update_walk.specs.declared.BodyError.TheVariants.{Broken, TooMany}
 use Rattle.update_rows.specs.Storing.{padded, is_whole, walked_rows, Storable}
-use Rattle.codec.specs.Reading.{most_read, refusal, rowless, update_reading, meaning_reading, reading_after, read_of, UpdateNumber}
+use Rattle.codec.specs.Reading.{most_read, refusal, rowless, update_reading, meaning_reading, reading_after, read_of, UpdateNumber, meaning_read}
+use Rattle.checks.specs.declared.Refusal.{Refusal}
+use Rattle.message_reading.specs.Reading.{header_answer, decode_of}
+use Rattle.message_reading.proofs.Laws.{header_ok}
 use Rattle.codec.specs.declared.Reading.{Reading}
 use Rattle.codec.proofs.Laws.{OtherKind}
 
@@ -105,3 +108,9 @@ rowless_read net o (IHeardYou a q s) k = refl
 rowless_read net o (Poll a q s n) k = refl
 rowless_read net o (Update a q s n) k = absurd (k a q s n refl)
 rowless_read net o (Error a q s r x y z) k = refl
+
+-- a message that passed the header stage and the kind stage reads as what it says
+pub read_kind_good : (net : ℕ) (o : List ℕ) (h : ℕ) → h ≡ header_answer o → h ≡ 0 → (d : Result Message Refusal) → d ≡ decode_of o
+    → (m : Message) (r : Reading) → d ≡ Ok m → r ≡ meaning_reading net o m → r ≡ read_of net o
+unfolding read_of reading_after meaning_read
+read_kind_good net o h e z d f m r g q = rw (header_ok o (sym e ∙ z), ← f, g) q

@@ -1,8 +1,8 @@
 -- Laws of the reading stages. Assumes nothing.
-use Prim.Native.Nat.{ℕ, ◌≤◌}
-use borrow.Author.Tests.{leb-true, eqb-true, le-leb, eq-eqb}
+use Prim.Native.Nat.{ℕ, ◌≤◌, ◌<◌}
+use borrow.Author.Tests.{leb-true, eqb-true, le-leb, lt-leb, eq-eqb, ne_eqb}
 use mathlib.Core.Path.{◌≡◌, refl, sym, ◌∙◌}
-use mathlib.Core.Bool.{◌&&◌}
+use mathlib.Core.Bool.{◌&&◌, and-false}
 use mathlib.Core.List.{List}
 use lib.ListN.{length, get_or}
 use lib.Dec.{leb, eqb}
@@ -17,6 +17,27 @@ use Rattle.message_reading.specs.Reading.{size_allowed, version_is2, checksum_ho
 pub header_checks : (o : List ℕ) → header_answer o ≡ check (size_allowed o) 6 (check (version_is2 o) 7 (check (checksum_holds o) 8 0))
 unfolding header_answer header_of
 header_checks o = simp checked_answer
+
+-- the header stage, check by check
+module _ (o : List ℕ) where
+  pub header_short : length o < 10 → 6 ≡ header_answer o
+  unfolding header_answer header_of
+  header_short h = rw (lt-leb 10 (length o) h)
+
+  pub header_long : 2048 < length o → 6 ≡ header_answer o
+  unfolding header_answer header_of
+  header_long h = rw (lt-leb (length o) 2048 h, and-false)
+
+  module _ (low : 10 ≤ length o) (high : length o ≤ 2048) where
+    pub header_version : (v : ℕ) → v ≡ get_or o 0 0 → (v ≡ 2 → ⊥) → 7 ≡ header_answer o
+    unfolding header_answer header_of
+    header_version v e n = rw (le-leb 10 (length o) low, le-leb (length o) 2048 high, ← e, ne_eqb v 2 n)
+
+    module _ (v : ℕ) (e : v ≡ get_or o 0 0) (t : v ≡ 2) (w s : ℕ) (we : w ≡ word16 o 4) (se : s ≡ checksum_of o) where
+      pub header_checksum : (w ≡ s → ⊥) → 8 ≡ header_answer o
+      unfolding header_answer header_of
+      header_checksum n =
+          rw (le-leb 10 (length o) low, le-leb (length o) 2048 high, ← e, eq-eqb v 2 t, ← we, ← se, ne_eqb w s n)
 
 -- what the header stage found where it passed
 pub record HeaderGood (o : List ℕ) : Type 0 where

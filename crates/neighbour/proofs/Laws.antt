@@ -5,12 +5,20 @@ use mathlib.Core.Path.{◌≡◌}
 use mathlib.Core.Bool.{false}
 use Rattle.std.proofs.lemmas.Bool.Decides.{nat_tests}
 use Rattle.neighbour.specs.declared.Phase.{Phase}
-use Rattle.neighbour.specs.declared.Phase.TheVariants.{Down, Up}
+use Rattle.neighbour.specs.declared.Phase.TheVariants.{Idle, Acquisition, Down, Up, Cease}
 use Rattle.neighbour.specs.Record.{under}
 use Rattle.neighbour.specs.Rules.{larger, unacceptable}
 
 -- the cell under a phase that is known
 module _ {A : Type 0} (p : Phase) (a b c d e : A) where
+  pub at_idle : p ≡ Idle → under p a b c d e ≡ a
+  unfolding under
+  at_idle h = rw h
+
+  pub at_acquisition : p ≡ Acquisition → under p a b c d e ≡ b
+  unfolding under
+  at_acquisition h = rw h
+
   pub at_down : p ≡ Down → under p a b c d e ≡ c
   unfolding under
   at_down h = rw h
@@ -18,6 +26,10 @@ module _ {A : Type 0} (p : Phase) (a b c d e : A) where
   pub at_up : p ≡ Up → under p a b c d e ≡ d
   unfolding under
   at_up h = rw h
+
+  pub at_cease : p ≡ Cease → under p a b c d e ≡ e
+  unfolding under
+  at_cease h = rw h
 
 pub larger_fits : (a b most : ℕ) → a ≤ most → b ≤ most → larger a b ≤ most
 larger_fits a b most p q = grind (arith, nat_tests)

@@ -4,3 +4,4 @@ pub mod Claims
 pub mod Loops
 pub mod Stores
 pub mod Order
+pub mod Alike

@@ -1,7 +1,7 @@
 // Writing the gateway blocks of an Update from rows.
 #![tactic(auto)]
 
-ghost use Rattle.std.specs.Prelude.{◌≡◌, true, ◌+◌, ◌*◌, ◌≤◌, ◌<◌, length, map, get_or, take};
+ghost use Rattle.std.specs.Prelude.{◌≡◌, ℕ, true, ◌+◌, ◌*◌, ◌≤◌, ◌<◌, length, map, get_or, take, drop};
 ghost use Rattle.std.proofs.lemmas.List.Edits.{sets};
 ghost use Rattle.checks.specs.Lists.{every};
 ghost use Rattle.octets.specs.Numbers.{word32};
@@ -93,11 +93,42 @@ fn is_good_row<R: LentRow>(common: u32, most: u32, row: &R) -> bool
     nets::good_net(row.net()) && nets::on_net(common, row.gateway()) && row.third() <= most
 }
 
-// Whether each of these rows is such.
+// A row's gateway and third number in one.
+fn beside<R: LentRow>(row: &R) -> u64
+    ensures { (result ≡ (R.as_row row.now).gateway * 4294967296 + (R.as_row row.now).third) × ((R.as_row row.now).third < 4294967296) }
+{
+    u64::from(row.gateway()) * 0x1_0000_0000 + u64::from(row.third())
+}
+
+// Whether the next row has this one's gateway and third number, and a net of a class: then it is good where this one is.
+fn is_as_good<R: LentRow>(row: &R, next: &R) -> bool
+    ensures { result ≡ true → (common most : ℕ) → good_row common most (R.as_row row.now) ≡ true → good_row common most (R.as_row next.now) ≡ true }
+{
+    beside(row) == beside(next) && nets::good_net(next.net())
+}
+
+// How many rows at the front are such. Nothing else has to be tested of them, and most rows of a list are such.
+fn as_good<R: LentRow>(row: &R, rows: &[R]) -> usize
+    ensures upper_bound { result ≤ length rows.now }
+    ensures rows_value { (common most : ℕ) → good_row common most (R.as_row row.now) ≡ true → every (good_row common most) (map R.as_row rows.now) ≡ every (good_row common most) (map R.as_row (drop result rows.now)) }
+{
+    rows.iter()
+        .position(|next| !is_as_good(row, next))
+        .unwrap_or(rows.len())
+}
+
+// Whether each of these rows is good.
 pub fn are_good_rows<R: LentRow>(common: u32, most: u32, rows: &[R]) -> bool
     ensures { result ≡ every (good_row common most) (map R.as_row rows.now) }
 {
-    rows.iter().all(|row| is_good_row(common, most, row))
+    let mut rest = rows;
+    while let Some((row, later)) = rest.split_first() {
+        if !is_good_row(common, most, row) {
+            return false;
+        }
+        rest = &later[as_good(row, later)..];
+    }
+    true
 }
 
 // Whether the writer takes these rows: none that the reader could not give, and no internal row after an external one.

@@ -72,7 +72,11 @@ pub fn add(st: State, address: u32, asn: u16) -> Outcome
     ensures { result ≡ add_of st address asn }
 {
     match place_for(st, address, asn) {
-        Ok(i) => carried_out(gateway_state::with_slot(st, i, gateway_state::new_slot(address, asn))),
+        Ok(i) => carried_out(gateway_state::with_slot(
+            st,
+            i,
+            gateway_state::new_slot(address, asn),
+        )),
         Err(refusal) => gateway_state::refused(st, u8::from(refusal)),
     }
 }

@@ -1,7 +1,7 @@
 // The gateway's state: its settings and eight slots, check 1, and the look-up of a neighbour.
 #![tactic(auto)]
 
-ghost use Rattle.std.specs.Prelude.{◌≡◌, true, List, ℕ, ◌≤◌, ◌<◌, drop};
+ghost use Rattle.std.specs.Prelude.{◌≡◌, true, List, ℕ, ◌≤◌, ◌<◌, length, drop};
 ghost use Rattle.neighbour.specs.Record.{is_up};
 ghost use Rattle.neighbour_wellformed.specs.Formed.{well_formed};
 ghost use Rattle.checks.specs.Lists.{distinct};
@@ -229,9 +229,9 @@ pub fn is_up_slot_formed(
         && seconds.are_formed()
 }
 
-// The short way first: most slots are in Up.
-fn is_formed(settings: Settings, slot: &Slot) -> bool
-    ensures { result ≡ slot_formed settings slot.now }
+// A short way for a slot in Up, which most are: true where it is formed. Of another slot false says nothing.
+fn is_up_formed(settings: Settings, slot: &Slot) -> bool
+    ensures { result ≡ true → slot_formed settings slot.now ≡ true }
 {
     is_up_slot_formed(
         settings,
@@ -240,13 +240,33 @@ fn is_formed(settings: Settings, slot: &Slot) -> bool
         slot.neighbour,
         slot.rows,
         slot.seconds,
-    ) || is_slot_formed(settings, *slot)
+    )
 }
 
+// The index of the first slot that the short way does not find formed, or how many they are.
+fn first_to_check(settings: Settings, slots: &[Slot]) -> usize
+    ensures upper_bound { result ≤ length slots.now }
+    ensures slots_value { list_all (slot_formed settings) slots.now ≡ list_all (slot_formed settings) (drop result slots.now) }
+{
+    slots
+        .iter()
+        .position(|slot| !is_up_formed(settings, slot))
+        .unwrap_or(slots.len())
+}
+
+// Whether each of these slots is formed, by the long way.
 fn are_formed(settings: Settings, slots: &[Slot]) -> bool
     ensures { result ≡ list_all (slot_formed settings) slots.now }
 {
-    slots.iter().all(|slot| is_formed(settings, slot))
+    slots.iter().all(|slot| is_slot_formed(settings, *slot))
+}
+
+// Two loops: behind the first slot that is not in Up the short way would be tried in vain.
+fn are_slots_formed(settings: Settings, slots: &[Slot]) -> bool
+    ensures { result ≡ list_all (slot_formed settings) slots.now }
+{
+    let from = first_to_check(settings, slots);
+    are_formed(settings, &slots[from..])
 }
 
 // Whether none of the others is the same neighbour's.
@@ -278,7 +298,7 @@ pub fn is_well_formed(st: &State) -> bool
     ensures { result ≡ state_formed st.now }
 {
     good_settings(st.settings)
-        && are_formed(st.settings, &st.slots)
+        && are_slots_formed(st.settings, &st.slots)
         && are_distinct(&addresses_of(st))
 }
 

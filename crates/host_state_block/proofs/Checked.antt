@@ -6,8 +6,7 @@ use mathlib.Core.Bool.{Bool, true, false, ◌&&◌}
 use mathlib.Core.List.{List, [], ◌∷◌}
 use lib.ListN.{length, take, drop, length-drop}
 use lib.Seq.{take_all}
-use Rattle.std.specs.Prelude.{Option, Some, None, unwrap_or, MatchOption}
-use Rattle.std.specs.List.{list_all, AllWithin, HoldsAt}
+use Rattle.std.specs.List.{list_all}
 use Rattle.std.specs.Simd.{first_chunks}
 use Rattle.checks.specs.Lists.{every, distinct}
 use Rattle.neighbour.specs.declared.Settings.{Settings}
@@ -24,22 +23,6 @@ pub parts_list : (g : Settings) (n : ℕ) (l : List ℕ) → parts_formed g n l 
 unfolding parts_formed
 parts_list g zero l = refl
 parts_list g (suc n) l = ap (λ (b : Bool). part_formed g (take slot_size l) && b) (parts_list g n (drop slot_size l))
-
--- the rest decides
-module _ {A : Type 0} (test : A → Bool) where
-  abbrev pub Passed : A → Type 0
-  Passed x = test x ≡ true
-
-  rest_decides : (xs : List A) (n : ℕ) → AllWithin Passed xs 0 n → n ≤ length xs → list_all test xs ≡ list_all test (drop n xs)
-  rest_decides xs zero p h = refl
-  rest_decides [] (suc n) p h = absurd (omega arith)
-  rest_decides (x ∷ xs) (suc n) p h =
-      rw (p 0 x (omega arith) (omega arith)) (rest_decides xs n (λ k d l m. p (suc k) d (omega arith) (omega arith)) (omega arith))
-
-  pub first_found : (xs : List A) (found : Option ℕ) → MatchOption found (AllWithin Passed xs 0 (length xs)) (λ i. (i < length xs) × HoldsAt (λ _. Unit {0}) xs i × AllWithin Passed xs 0 i)
-      → (unwrap_or found (length xs) ≤ length xs) × (list_all test xs ≡ list_all test (drop (unwrap_or found (length xs)) xs))
-  first_found xs None p = (omega arith, rest_decides xs (length xs) p (omega arith))
-  first_found xs (Some i) p = (omega (arith, p.0), rest_decides xs i p.2 (omega (arith, p.0)))
 
 pub slots_checked : (g : Settings) (slots : List ℕ) (parts : List (List ℕ)) (from : ℕ)
     → length slots ≡ 8 * slot_size → parts ≡ first_chunks slot_size (length slots / slot_size) slots → list_all (part_formed g) parts ≡ list_all (part_formed g) (drop from parts)

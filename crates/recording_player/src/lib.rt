@@ -381,6 +381,34 @@ pub fn begin(traced: bool) -> Player
     }
 }
 
+// What a piece of the recording gives where no tick is due: a line, if it ends one. In a function of its own: a function
+// pays for its locals when it is entered, so a turn that makes a tick would pay for the line's.
+fn take_piece(p: Player, line: &mut [u8], table: &mut [u32], input: &[u8], out: &mut [u8]) -> Told
+    requires { (p.broken ≡ false) × (p.ticks ≤ 0) × (4118 ≤ length line.old) }
+    ensures value { result ≡ told_of (turn_step (roomy out.old) p line.old table.old input.now) }
+    ensures line_after { line.new ≡ held_of p line.old input.now }
+    ensures table_after { table.new ≡ (turn_step (roomy out.old) p line.old table.old input.now).table }
+    ensures out_after { out.new ≡ over (turn_step (roomy out.old) p line.old table.old input.now).text out.old }
+{
+    let mut whole = [0u8; 4118];
+    let g = recording_gather::join_piece(&mut whole, line, p.held, input);
+    if !g.ended {
+        recording_gather::gather(line, p.held, input);
+        let next = Player { held: g.held, ..p };
+        return Told {
+            used: g.used,
+            ..silent(next, 0)
+        };
+    }
+    take_line(
+        p,
+        recording_gather::held_line(&whole, g.held),
+        g.used,
+        table,
+        out,
+    )
+}
+
 // One turn: a tick if any is due, else the line that the piece of the recording ends, if it does. Where the host has
 // not lent what it needs, it is refused, and the host comes back with all as it was.
 pub fn turn(p: Player, line: &mut [u8], table: &mut [u32], input: &[u8], out: &mut [u8]) -> Told
@@ -401,23 +429,7 @@ pub fn turn(p: Player, line: &mut [u8], table: &mut [u32], input: &[u8], out: &m
     if line.len() < 4118 {
         return silent(p, u8::from(Refusal::ShortBuffer));
     }
-    let mut whole = [0u8; 4118];
-    let g = recording_gather::join_piece(&mut whole, line, p.held, input);
-    if !g.ended {
-        recording_gather::gather(line, p.held, input);
-        let next = Player { held: g.held, ..p };
-        return Told {
-            used: g.used,
-            ..silent(next, 0)
-        };
-    }
-    take_line(
-        p,
-        recording_gather::held_line(&whole, g.held),
-        g.used,
-        table,
-        out,
-    )
+    take_piece(p, line, table, input, out)
 }
 
 // The recording is over: a line that did not end is bad, and so is a missing one of the first four.

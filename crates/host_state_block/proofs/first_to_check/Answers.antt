@@ -1,7 +1,7 @@
 use Rattle.std.proofs.Common.{rules, tests}
 use Rattle.std.proofs.lemmas.Iterator.{YieldsList-from_slice, IsFirst-from_position}
 use Rattle.host_state_block.specs.Steps.{part_formed}
-use Rattle.host_state_block.proofs.Checked.{Passed, first_found}
+use Rattle.gateway_state.proofs.Checked.{Passed, first_found}
 use Rattle.host_state_block.proofs.first_to_check.Goals as goal
 
 pub returns : goal.returns

@@ -2,7 +2,7 @@
 // bounded.
 #![tactic(auto)]
 
-ghost use Rattle.std.specs.Prelude.{◌≡◌, true, List, ℕ, ◌<◌, leb, length, Option, Some};
+ghost use Rattle.std.specs.Prelude.{◌≡◌, true, false, List, ℕ, ◌≤◌, ◌<◌, leb, length, Option, Some};
 ghost use Rattle.checks.specs.Refusals.{answer_of};
 ghost use Rattle.octets.specs.Buffer.{over};
 ghost use Rattle.recording_lines.specs.Meant.{said};

@@ -8,6 +8,7 @@ ghost use Rattle.codec.specs.Writing.{write_of, write_octets};
 ghost use Rattle.host_codec.specs.Codec.{reading_result, reading_buffer, same_octets, writing_result, writing_buffer};
 
 use checks::Refusal;
+use codec::Reading;
 use message::Message;
 
 // Reads a message alone, given the common net: its meaning goes into the buffer, and an Update's rows behind it.
@@ -18,15 +19,18 @@ pub fn read(buffer: &mut [u8], net: u32, message: &[u8]) -> u64
     if buffer.len() < 1560 {
         return host_result::alone(3);
     }
-    // The rows are looked at where they stand: taken out of the reading they would be copied, of a refused message too.
-    let reading = codec::read(net, message);
-    match reading.meaning {
+    let Reading {
+        meaning,
+        count,
+        rows,
+    } = codec::read(net, message);
+    match meaning {
         Err(refusal) => host_result::alone(u8::from(refusal)),
         Ok(m) => {
             octets::store(buffer, &host_meaning::meaning_octets(m));
-            let numbers = reading.count as usize * 3;
-            octets_words::write_words(&mut buffer[24..], &reading.rows[..numbers]);
-            host_result::pack(0, 24, reading.count * 12)
+            let numbers = count as usize * 3;
+            octets_words::write_words(&mut buffer[24..], &rows[..numbers]);
+            host_result::pack(0, 24, count * 12)
         }
     }
 }
